@@ -1,0 +1,79 @@
+-- `identifiers::client_id::trim_end` meets its contract.
+-- Assumes nothing.
+use mathlib.Core.Logic.{⊎-elim}
+use mathlib.Core.Path.{_≡_, sym, ap, _∙_}
+use Prim.Native.Nat.{_≤_, _-_}
+use native.Mathlib.Nat.{sub-zero}
+use native.Mathlib.Omega.{arith}
+use lib.Seq.{take-length}
+use lib.ListN.{length, take}
+use borrow.Author.Needs.{needs}
+use Rattle.identifiers.specs.Owned.{trimEnd}
+use Rattle.identifiers.specs.OwnedLaws.{end-none, end-stop, end-more}
+use Rattle.identifiers.proofs.client_id.trim_end.Statement.{statement}
+use Rattle.identifiers.proofs.client_id.trim_end.Tie as tie
+
+abbrev Inv-loop : tie.InvT-loop
+Inv-loop s end₀ end = (end ≤ length s) × (trimEnd s ≡ trimEnd (take end s))
+
+abbrev μ-loop : tie.MeasureT-loop
+μ-loop s end₀ end = end
+
+loop-holds : tie.Need-loop-holds Inv-loop μ-loop
+loop-holds c = (search needs, ap trimEnd (sym (take-length _)))
+
+sub-is-blank : tie.Need-sub-is-blank Inv-loop μ-loop
+sub-is-blank c = search needs
+
+shared-slice-read-is-blank : tie.Need-shared-slice-read-is-blank Inv-loop μ-loop
+shared-slice-read-is-blank c = search needs
+
+is-blank-requires : tie.Need-is-blank-requires Inv-loop μ-loop
+is-blank-requires c κs = search needs
+
+sub-end : tie.Need-sub-end Inv-loop μ-loop
+sub-end c = search needs
+
+loop-less : tie.Need-loop-less Inv-loop μ-loop
+loop-less c = search needs
+
+loop-again : tie.Need-loop-again Inv-loop μ-loop
+loop-again c =
+    let l = c .before .before .before .before .loop in
+    (search needs, l .inv .1 ∙ end-more _ (l .end) (l .end - 1) (omega arith) (omega arith) (sym (c .before .is-blank .ensures) ∙ c .if1 .taken))
+
+sub-result : tie.Need-sub-result Inv-loop μ-loop
+sub-result c = search needs
+
+part-result-start : tie.Need-part-result-start Inv-loop μ-loop
+part-result-start c = search needs
+
+part-result-end : tie.Need-part-result-end Inv-loop μ-loop
+part-result-end c = search needs
+
+returns : tie.Need-returns Inv-loop μ-loop
+returns c =
+    let l = c .before .before .loop in
+    let s = c .before .before .before .before .args .s .now in
+    rw sub-zero
+    (sym
+    (l .inv .1
+    ∙ ⊎-elim (λ w. end-stop s (l .end) (l .end - 1) (omega arith) (omega arith) (sym (w .2 .ensures) ∙ w .3 .left)) (λ w. end-none s (l .end) (omega arith)) (c .before .loop-test .came)))
+
+pub trim-end-spec : {M : Type 1} → statement M
+trim-end-spec =
+    tie.close
+    (tie.spec
+    Inv-loop
+    μ-loop
+    loop-holds
+    sub-is-blank
+    shared-slice-read-is-blank
+    is-blank-requires
+    sub-end
+    loop-less
+    loop-again
+    sub-result
+    part-result-start
+    part-result-end
+    returns)

@@ -1,0 +1,72 @@
+-- `identifiers::write_named` meets its contract.
+-- Assumes nothing.
+use mathlib.Core.Path.{sym, ap, _∙_}
+use mathlib.Core.List.{[], _∷_}
+use native.Mathlib.Omega.{arith}
+use borrow.Author.Needs.{needs}
+use Rattle.text.specs.NumberLaws.{length-decimal}
+use Rattle.text.specs.Put.{done}
+use Rattle.text.specs.PutLaws.{put-next, answer-fits, answer-short, left-fits, left-short}
+use Rattle.identifiers.specs.OwnedLaws.{length-named}
+use Rattle.identifiers.proofs.write_named.Statement.{statement}
+use Rattle.identifiers.proofs.write_named.Tie as tie
+
+number-width-requires : tie.Need-number-width-requires
+number-width-requires c κs = search needs
+
+returns : tie.Need-returns
+returns c =
+    let a = c .before .before .before .before .args in
+    let e = length-named (a .name .now) (a .counter) in
+    (sym (answer-short _ _ (omega arith)), sym (left-short _ _ (omega arith)))
+
+sub-if2 : tie.Need-sub-if2
+sub-if2 c = search needs
+
+returns-2 : tie.Need-returns-2
+returns-2 c =
+    let a = c .before .before .before .before .before .args in
+    let e = length-named (a .name .now) (a .counter) in
+    (sym (answer-short _ _ (omega arith)), sym (left-short _ _ (omega arith)))
+
+write-text-requires : tie.Need-write-text-requires
+write-text-requires c κs = search needs
+
+write-byte-requires : tie.Need-write-byte-requires
+write-byte-requires c κs = search needs
+
+write-number-requires : tie.Need-write-number-requires
+write-number-requires c κs = omega (arith, length-decimal (c .before .before .before .before .before .before .before .before .before .before .before .before .before .before .args .counter))
+
+same-length : tie.Need-same-length
+same-length c = search needs
+
+returns-3 : tie.Need-returns-3
+returns-3 c =
+    let a = c .before .before .before .before .before .before .before .before .before .before .before .before .before .before .before .before .before .args in
+    let s1 = c .before .before .before .before .before .before .before .before .before .before .write-text in
+    let s2 = c .before .before .before .before .before .before .write-byte in
+    let s3 = c .before .before .write-number in
+    let e = length-named (a .name .now) (a .counter) in
+    let d = length-decimal (a .counter) in (
+      ap done (omega arith) ∙ sym (answer-fits _ _ (omega arith)),
+      sym
+          (left-fits _ _ (omega arith)
+          ∙ put-next (a .out .now) 0 (a .name .now) _ (s1 .last .0) (s1 .result) (omega arith) (s1 .ensures .0) (s1 .ensures .1)
+          ∙ put-next (s1 .last .0) (s1 .result) (45 ∷ []) _ (s2 .last .0) (s2 .result) (omega arith) (s2 .ensures .0) (s2 .ensures .1)
+          ∙ sym (s3 .ensures .1)),
+    )
+
+pub write-named-spec : {M : Type 1} → statement M
+write-named-spec =
+    tie.close
+    (tie.spec
+    number-width-requires
+    returns
+    sub-if2
+    returns-2
+    write-text-requires
+    write-byte-requires
+    write-number-requires
+    same-length
+    returns-3)

@@ -1,0 +1,185 @@
+// The checks of identifiers. Each answers a refusal number: 0, 2, 5, 6, 7 or 8.
+use text::Numeral;
+use text::refusal::BAD_CHAR;
+use text::refusal::BAD_LENGTH;
+use text::refusal::BAD_NUMBER;
+use text::refusal::BAD_PREFIX;
+use text::refusal::NOT_ASCII;
+ghost use mathlib.Core.Path.{_≡_};
+ghost use Prim.Native.Nat.{max, _-_};
+ghost use Rattle.identifiers.specs.Check.{charsOf, within, indexOf, namedOf, lengthOf, prefixLengthOf, namedIndexOf, plain, indexed, checkOf, client, clientType, connection, port, channel};
+
+// What each byte is: `0` an identifier byte, `1` another ASCII byte, `2` no ASCII.
+const CLASS: [u8; 256] = *b"\
+    11111111111111111111111111111111\
+    11101111111010010000000000110101\
+    10000000000000000000000000001010\
+    10000000000000000000000000011111\
+    22222222222222222222222222222222\
+    22222222222222222222222222222222\
+    22222222222222222222222222222222\
+    22222222222222222222222222222222";
+
+// Whether the text has only identifier bytes. One pass answers both questions, ASCII and bytes; the table is laid out once, before it.
+pub fn validate_identifier_chars(id: &[u8]) -> u8
+    ensures { λ r. ⌜ r ≡ charsOf (now (id .entry)) ⌝ }
+{
+    let class = CLASS;
+    let mut top: u8 = 0;
+    let mut i = 0;
+    while i < id.len() {
+        let b = id[i] as usize;
+        top = text::part::larger(top, class[b]);
+        i += 1;
+    }
+    if b'1' < top {
+        return NOT_ASCII;
+    }
+    if b'0' < top {
+        return BAD_CHAR;
+    }
+    0
+}
+
+// Whether a number of bytes lies between two limits.
+fn length_within(n: u64, least: u64, most: u64) -> u8
+    ensures { λ r. ⌜ r ≡ within least most n ⌝ }
+{
+    if n < least {
+        return BAD_LENGTH;
+    }
+    if most < n {
+        return BAD_LENGTH;
+    }
+    0
+}
+
+// Whether the text is an index: a number text that does not begin with `0` unless it is `0` itself.
+fn check_index(index: &[u8]) -> u8
+    ensures { λ r. ⌜ r ≡ indexOf (now (index .entry)) ⌝ }
+{
+    if 1 < index.len() {
+        if index[0] == b'0' {
+            return BAD_PREFIX;
+        }
+    }
+    let Numeral::Value(_) = text::read_number(index) else {
+        return BAD_NUMBER;
+    };
+    0
+}
+
+// Whether the text is the name, `-` and an index.
+fn check_named(id: &[u8], name: &[u8]) -> u8
+    ensures { λ r. ⌜ r ≡ namedOf (now (name .entry)) (now (id .entry)) ⌝ }
+{
+    if !text::part::same_at(id, 0, name) {
+        return BAD_PREFIX;
+    }
+    let at = name.len();
+    if id.len() <= at {
+        return BAD_PREFIX;
+    }
+    if id[at] != b'-' {
+        return BAD_PREFIX;
+    }
+    let start = at + 1;
+    check_index(&id[start..])
+}
+
+// The larger of two limits.
+fn larger(a: u64, b: u64) -> u64
+    ensures { λ r. ⌜ r ≡ max a b ⌝ }
+{
+    if a < b { b } else { a }
+}
+
+// The difference, or 0 where it would be less.
+fn less(a: u64, b: u64) -> u64
+    ensures { λ r. ⌜ r ≡ a - b ⌝ }
+{
+    if a < b { 0 } else { a - b }
+}
+
+// Whether the text has at least `min` bytes, and at least one, and at most `max`.
+pub fn validate_identifier_length(id: &[u8], min: u64, max: u64) -> u8
+    ensures { λ r. ⌜ r ≡ lengthOf (now (id .entry)) min max ⌝ }
+{
+    if !text::part::all_ascii(id) {
+        return NOT_ASCII;
+    }
+    length_within(id.len() as u64, larger(min, 1), max)
+}
+
+// Whether the text can stand in front of `-` and every index, in an identifier of at least and at most so many bytes.
+pub fn validate_prefix_length(prefix: &[u8], min: u64, max: u64) -> u8
+    ensures { λ r. ⌜ r ≡ prefixLengthOf (now (prefix .entry)) min max ⌝ }
+{
+    validate_identifier_length(prefix, less(min, 2), less(max, 21))
+}
+
+// Whether the text is `{name}-{index}`.
+pub fn validate_named_u64_index(id: &[u8], name: &[u8]) -> u8
+    ensures { λ r. ⌜ r ≡ namedIndexOf (now (id .entry)) (now (name .entry)) ⌝ }
+{
+    if !text::part::all_ascii(id) {
+        return NOT_ASCII;
+    }
+    if !text::part::all_ascii(name) {
+        return NOT_ASCII;
+    }
+    check_named(id, name)
+}
+
+// Bytes and length, which every identifier is asked for.
+fn check_plain(id: &[u8], least: u64, most: u64) -> u8
+    ensures { λ r. ⌜ r ≡ checkOf (record { least = least; most = most; form = plain }) (now (id .entry)) ⌝ }
+{
+    let chars = validate_identifier_chars(id);
+    if chars != 0 {
+        return chars;
+    }
+    length_within(id.len() as u64, least, most)
+}
+
+// The same, then the name and an index.
+fn check_indexed(id: &[u8], least: u64, most: u64, name: &[u8]) -> u8
+    ensures { λ r. ⌜ r ≡ checkOf (record { least = least; most = most; form = indexed (now (name .entry)) }) (now (id .entry)) ⌝ }
+{
+    let fault = check_plain(id, least, most);
+    if fault != 0 {
+        return fault;
+    }
+    check_named(id, name)
+}
+
+// The identifiers: least and most bytes, and the name before an index.
+pub fn validate_client_type(id: &[u8]) -> u8
+    ensures { λ r. ⌜ r ≡ checkOf clientType (now (id .entry)) ⌝ }
+{
+    check_plain(id, 7, 43)
+}
+
+pub fn validate_client_identifier(id: &[u8]) -> u8
+    ensures { λ r. ⌜ r ≡ checkOf client (now (id .entry)) ⌝ }
+{
+    check_plain(id, 9, 64)
+}
+
+pub fn validate_connection_identifier(id: &[u8]) -> u8
+    ensures { λ r. ⌜ r ≡ checkOf connection (now (id .entry)) ⌝ }
+{
+    check_indexed(id, 10, 64, b"connection")
+}
+
+pub fn validate_port_identifier(id: &[u8]) -> u8
+    ensures { λ r. ⌜ r ≡ checkOf port (now (id .entry)) ⌝ }
+{
+    check_plain(id, 2, 128)
+}
+
+pub fn validate_channel_identifier(id: &[u8]) -> u8
+    ensures { λ r. ⌜ r ≡ checkOf channel (now (id .entry)) ⌝ }
+{
+    check_indexed(id, 8, 64, b"channel")
+}

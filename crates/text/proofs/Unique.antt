@@ -1,0 +1,45 @@
+-- The contract of each public function, as the source has it, leaves one outcome: the result, and the content of the buffer that is lent.
+-- Assumes nothing.
+use mathlib.Core.Path.{sym, _∙_}
+use denote.Ref.{now}
+use Rattle.text.specs.Outcome.{One, OneWith}
+use Rattle.text.proofs.read_number.Reads as read-number
+use Rattle.text.proofs.number_width.Reads as number-width
+use Rattle.text.proofs.write_number.Reads as write-number
+use Rattle.text.proofs.part.larger.Reads as larger
+use Rattle.text.proofs.part.all_ascii.Reads as all-ascii
+use Rattle.text.proofs.part.same_at.Reads as same-at
+use Rattle.text.proofs.part.equal.Reads as equal
+use Rattle.text.proofs.put.write_byte.Reads as write-byte
+use Rattle.text.proofs.put.write_text.Reads as write-text
+use Rattle.text.proofs.put.give.Reads as give
+
+pub one-read-number : One read-number.Post
+one-read-number κs a r₁ r₂ s₁ s₂ p q = p ∙ sym q
+
+pub one-number-width : One number-width.Post
+one-number-width κs a r₁ r₂ s₁ s₂ p q = p ∙ sym q
+
+pub one-write-number : OneWith write-number.Post (λ κs s. now (s .0))
+one-write-number κs a r₁ r₂ s₁ s₂ p q = (p .0 ∙ sym (q .0), p .1 ∙ sym (q .1))
+
+pub one-larger : One larger.Post
+one-larger κs a r₁ r₂ s₁ s₂ p q = p ∙ sym q
+
+pub one-all-ascii : One all-ascii.Post
+one-all-ascii κs a r₁ r₂ s₁ s₂ p q = p ∙ sym q
+
+pub one-same-at : One same-at.Post
+one-same-at κs a r₁ r₂ s₁ s₂ p q = p ∙ sym q
+
+pub one-equal : One equal.Post
+one-equal κs a r₁ r₂ s₁ s₂ p q = p ∙ sym q
+
+pub one-write-byte : OneWith write-byte.Post (λ κs s. now (s .0))
+one-write-byte κs a r₁ r₂ s₁ s₂ p q = (p .0 ∙ sym (q .0), p .1 ∙ sym (q .1))
+
+pub one-write-text : OneWith write-text.Post (λ κs s. now (s .0))
+one-write-text κs a r₁ r₂ s₁ s₂ p q = (p .0 ∙ sym (q .0), p .1 ∙ sym (q .1))
+
+pub one-give : OneWith give.Post (λ κs s. now (s .0))
+one-give κs a r₁ r₂ s₁ s₂ p q = (p .0 ∙ sym (q .0), p .1 ∙ sym (q .1))

@@ -1,0 +1,10 @@
+-- What the contracts of `text` cite. Files that end in `Laws` hold consequences, which a reader may skip.
+pub mod Bytes
+pub mod Number
+pub mod NumberLaws
+pub mod Outcome
+pub mod Part
+pub mod PartLaws
+pub mod Put
+pub mod PutLaws
+pub mod TableLaws

@@ -1,0 +1,15 @@
+-- A contract leaves one outcome: any two that it permits, from the same arguments, are the same.
+-- Assumes nothing.
+use mathlib.Core.Path.{_≡_}
+use Prim.Native.Nat.{ℕ}
+use mathlib.Core.List.{List}
+
+-- Post is a contract as Rattle makes it of the source: of lifetimes, arguments, result, and the parameters at exit
+module _ {L : Type 0} {A R S : L → Type 0} (Post : (κs : L) → A κs → R κs → S κs → Type 0) where
+  -- one result
+  abbrev pub One : Type 0
+  One = (κs : L) (a : A κs) (r₁ r₂ : R κs) (s₁ s₂ : S κs) → Post κs a r₁ s₁ → Post κs a r₂ s₂ → r₁ ≡ r₂
+
+  -- one result, and one content of the buffer
+  abbrev pub OneWith : ((κs : L) → S κs → List ℕ) → Type 0
+  OneWith buffer = (κs : L) (a : A κs) (r₁ r₂ : R κs) (s₁ s₂ : S κs) → Post κs a r₁ s₁ → Post κs a r₂ s₂ → (r₁ ≡ r₂) × (buffer κs s₁ ≡ buffer κs s₂)

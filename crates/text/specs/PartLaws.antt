@@ -1,0 +1,152 @@
+-- Laws of `Part`: one turn of each loop, and how the largest value of a text answers a test on each of its bytes.
+-- Assumes nothing.
+use mathlib.Core.Path.{_≡_, refl, sym, ap, _∙_}
+use mathlib.Core.Bool.{Bool, true, false, _&&_, and-true, and-false, and-assoc}
+use Prim.Native.Nat.{ℕ, zero, suc, max, _+_, _-_, _≤_, _<_}
+use native.Mathlib.Nat.{add-zero, add-suc, le-refl}
+use native.Mathlib.Numerals.{add-one}
+use native.Mathlib.Omega.{arith}
+use mathlib.Core.List.{List, [], _∷_, _++_}
+use lib.ListN.{length, take, drop, getD, length-drop, drop-of-length-le}
+use lib.Seq.{drop-cons, take-all}
+use lib.Dec.{ltb, eqb}
+use borrow.Author.Tests.{lt-ltb, le-ltb, eq-eqb, ne-eqb, eqb-true, ltb-true, ltb-false}
+use Rattle.text.specs.Part.{every, ascii, startsWith, same}
+
+-- ---- both tests hold
+pub and-left : (a b : Bool) → (a && b) ≡ true → a ≡ true
+and-left true b h = refl
+and-left false b h = h
+
+pub and-right : (a b : Bool) → (a && b) ≡ true → b ≡ true
+and-right true b h = h
+and-right false b h = let z : _≡_ {A = ℕ} 0 1 = cc in absurd (omega arith)
+
+-- a test that holds of each byte holds of the one at place i
+pub every-at : (f : ℕ → Bool) (s : List ℕ) (i : ℕ) → every f s ≡ true → i < length s → f (getD s i 0) ≡ true
+unfolding every
+every-at f [] i h l = absurd (omega arith)
+every-at f (b ∷ s) zero h l = and-left (f b) (every f s) h
+every-at f (b ∷ s) (suc i) h l = every-at f s i (and-right (f b) (every f s) h) (omega arith)
+
+pub every-append : (f : ℕ → Bool) (a b : List ℕ) → every f (a ++ b) ≡ (every f a && every f b)
+unfolding every
+every-append f [] b = refl
+every-append f (x ∷ a) b = rw (every-append f a b) (sym (and-assoc (f x) (every f a) (every f b)))
+
+-- ---- the largest value of g on a text, and at least v
+unfoldable pub top : (ℕ → ℕ) → ℕ → List ℕ → ℕ
+top g v [] = v
+top g v (b ∷ s) = top g (max v (g b)) s
+
+ltb-max : (v w n : ℕ) → ltb (max v w) n ≡ (ltb v n && ltb w n)
+ltb-max v w n = go (ltb v n) refl (ltb w n) refl
+  where
+    go : (p : Bool) → ltb v n ≡ p → (q : Bool) → ltb w n ≡ q → ltb (max v w) n ≡ (p && q)
+    go true e true f = lt-ltb (max v w) n (omega (arith, ltb-true v n e, ltb-true w n f))
+    go true e false f = le-ltb (max v w) n (omega (arith, ltb-false w n f))
+    go false e q f = le-ltb (max v w) n (omega (arith, ltb-false v n e))
+
+-- a test that asks whether g is below n holds of each byte where the largest value is below n
+module _ (f : ℕ → Bool) (g : ℕ → ℕ) (n : ℕ) (rule : (b : ℕ) → f b ≡ ltb (g b) n) where
+  below : (v : ℕ) (s : List ℕ) → (ltb v n && every f s) ≡ ltb (top g v s) n
+  unfolding every top
+  below v [] = go (ltb v n)
+    where
+      go : (p : Bool) → (p && true) ≡ p
+      go true = refl
+      go false = refl
+  below v (b ∷ s) = rw (rule b) (go (ltb v n) (ltb (g b) n) (ltb-max v (g b) n) ∙ below (max v (g b)) s)
+    where
+      go : (p q : Bool) → ltb (max v (g b)) n ≡ (p && q) → (p && (q && every f s)) ≡ (ltb (max v (g b)) n && every f s)
+      go true q e = rw e
+      go false q e = rw e
+
+  pub every-top : 0 < n → (s : List ℕ) → every f s ≡ ltb (top g 0 s) n
+  every-top h s = rw (lt-ltb 0 n h) at (below 0 s)
+
+-- one turn of a loop that keeps the largest value
+module _ (g : ℕ → ℕ) (v : ℕ) (s : List ℕ) (i : ℕ) where
+  pub top-none : length s ≤ i → top g v (drop i s) ≡ v
+  unfolding top
+  top-none h = rw (drop-of-length-le s h)
+
+  pub top-more : i < length s → top g v (drop i s) ≡ top g (max v (g (getD s i 0))) (drop (i + 1) s)
+  unfolding top
+  top-more h = rw (drop-cons s i 0 h, add-one)
+
+-- a text is ASCII where its largest byte is
+pub ascii-top : (s : List ℕ) → ascii s ≡ ltb (top (λ b. b) 0 s) 128
+unfolding ascii
+ascii-top s = every-top (λ b. ltb b 128) (λ b. b) 128 (λ b. refl) (omega arith) s
+
+-- ---- the part of a text from n to its end, as the code takes it
+pub part-rest : (n : ℕ) (s : List ℕ) → take (length s - n) (drop n s) ≡ drop n s
+part-rest n s = take-all (length s - n) (drop n s) (rw length-drop (le-refl _))
+
+-- ---- a text that is shorter than w does not start with w
+pub starts-short : (w s : List ℕ) → length s < length w → startsWith w s ≡ false
+unfolding startsWith
+starts-short [] s h = absurd (omega arith)
+starts-short (x ∷ w) [] h = refl
+starts-short (x ∷ w) (y ∷ s) h = rw (starts-short w s (omega arith)) (and-false (eqb y x))
+
+-- a text starts with two words joined where it starts with the one, and goes on with the other
+pub starts-append : (a b s : List ℕ) → startsWith (a ++ b) s ≡ (startsWith a s && startsWith b (drop (length a) s))
+unfolding startsWith
+starts-append [] b s = refl
+starts-append (x ∷ a) b [] = refl
+starts-append (x ∷ a) b (y ∷ s) = rw (starts-append a b s) (sym (and-assoc (eqb y x) (startsWith a s) _))
+
+-- a text starts with one byte
+pub starts-byte : (x : ℕ) (s : List ℕ) → 0 < length s → startsWith (x ∷ []) s ≡ eqb (getD s 0 0) x
+unfolding startsWith
+starts-byte x [] h = absurd (omega arith)
+starts-byte x (y ∷ s) h = and-true (eqb y x)
+
+-- w from i on, against s from at + i on
+module _ (w s : List ℕ) (at i : ℕ) where
+  pub starts-none : length w ≤ i → startsWith (drop i w) (drop (at + i) s) ≡ true
+  unfolding startsWith
+  starts-none h = rw (drop-of-length-le w h)
+
+  module _ (h : i < length w) (k : at + i < length s) where
+    pub starts-other : (getD s (at + i) 0 ≡ getD w i 0 → ⊥) → startsWith (drop i w) (drop (at + i) s) ≡ false
+    unfolding startsWith
+    starts-other e = rw (drop-cons w i 0 h, drop-cons s (at + i) 0 k, ne-eqb (getD s (at + i) 0) (getD w i 0) e)
+
+    pub starts-more : getD s (at + i) 0 ≡ getD w i 0 → startsWith (drop i w) (drop (at + i) s) ≡ startsWith (drop (i + 1) w) (drop (at + (i + 1)) s)
+    unfolding startsWith
+    starts-more e = rw (drop-cons w i 0 h, drop-cons s (at + i) 0 k, eq-eqb (getD s (at + i) 0) (getD w i 0) e, add-one, add-suc)
+
+-- ---- texts of one length are the same where one starts with the other
+pub same-starts : (a b : List ℕ) → length a ≡ length b → same a b ≡ startsWith b a
+unfolding same startsWith
+same-starts [] [] h = refl
+same-starts [] (y ∷ b) h = absurd (omega arith)
+same-starts (x ∷ a) [] h = absurd (omega arith)
+same-starts (x ∷ a) (y ∷ b) h = rw (same-starts a b (omega arith))
+
+pub same-is : (a b : List ℕ) → same a b ≡ true → a ≡ b
+unfolding same
+same-is [] [] h = refl
+same-is [] (y ∷ b) h = let z : _≡_ {A = ℕ} 0 1 = cc in absurd (omega arith)
+same-is (x ∷ a) [] h = let z : _≡_ {A = ℕ} 0 1 = cc in absurd (omega arith)
+same-is (x ∷ a) (y ∷ b) h = go (eqb x y) refl (same a b) refl h (same-is a b)
+  where
+    go : (v : Bool) → eqb x y ≡ v → (w : Bool) → same a b ≡ w → (v && w) ≡ true → (same a b ≡ true → a ≡ b) → x ∷ a ≡ y ∷ b
+    go true e true f g ih = rw (eqb-true x y e, ih f)
+    go true e false f g ih = let z : _≡_ {A = ℕ} 0 1 = cc in absurd (omega arith)
+    go false e w f g ih = let z : _≡_ {A = ℕ} 0 1 = cc in absurd (omega arith)
+
+pub same-refl : (a : List ℕ) → same a a ≡ true
+unfolding same
+same-refl [] = refl
+same-refl (x ∷ a) = rw (eq-eqb x x refl) (same-refl a)
+
+pub same-not : (a b : List ℕ) → (a ≡ b → ⊥) → same a b ≡ false
+same-not a b h = go (same a b) refl
+  where
+    go : (v : Bool) → same a b ≡ v → v ≡ false
+    go true e = absurd (h (same-is a b e))
+    go false e = refl

@@ -1,0 +1,33 @@
+-- What a call that writes a text leaves in the buffer that is lent to it, and what it answers.
+-- Assumes nothing.
+use Prim.Native.Nat.{ℕ, _+_}
+use mathlib.Core.Bool.{Bool, cond}
+use mathlib.Core.List.{List, _++_}
+use lib.Dec.{leb}
+use lib.ListN.{length, take, drop}
+use Rattle.text.specs.declared.Written.{Written}
+
+-- `out` with `w` written over it from place `at` on
+unfoldable pub put : List ℕ → ℕ → List ℕ → List ℕ
+put out at w = take at out ++ (w ++ drop (at + length w) out)
+
+-- what is asked of a writing call: a refusal by its number, or a text to be written
+pub data Wanted : Type 0 where
+  refused : ℕ → Wanted
+  text : List ℕ → Wanted
+
+abbrev pub refusal : ℕ → Written
+refusal n = record { refusal = n; length = 0 }
+
+abbrev pub done : ℕ → Written
+done n = record { refusal = 0; length = n }
+
+-- the answer, where the buffer has room for that many bytes: 4 where that is too little
+unfoldable pub answer : Wanted → ℕ → Written
+answer (refused n) room = refusal n
+answer (text w) room = cond (leb (length w) room) (done (length w)) (refusal 4)
+
+-- the buffer after the call: the text stands from byte 0 on and later bytes stay; a refusal changes no byte
+unfoldable pub left : Wanted → List ℕ → List ℕ
+left (refused n) out = out
+left (text w) out = cond (leb (length w) (length out)) (put out 0 w) out

@@ -1,0 +1,97 @@
+// Number texts, parts of a text, and the writing of texts into a lent buffer.
+pub mod part;
+pub mod put;
+pub mod refusal;
+
+ghost use mathlib.Core.Path.{_≡_};
+ghost use Prim.Native.Nat.{_+_, _≤_};
+ghost use lib.ListN.{length, drop};
+ghost use Rattle.text.specs.Number.{numeralOf, digitsAt, width, decimal};
+ghost use Rattle.text.specs.Put.{put};
+
+// What a text says as a number. A fault names its place in the text.
+pub enum Numeral {
+    Value(u64),
+    NoDigits(usize),
+    NotADigit(usize),
+    TooLarge(usize),
+}
+
+// What a call that writes answers: a refusal number, 0 where it is done, and how many bytes were written.
+#[repr(C)]
+pub struct Written {
+    pub refusal: u8,
+    pub length: u64,
+}
+
+// Reads the digits from `start` to the end of `s`: one or more.
+fn digits_at(s: &[u8], start: usize) -> Numeral
+    requires { ⌜ start ≤ length (now s) ⌝ }
+    ensures { λ r. ⌜ r ≡ digitsAt start (drop start (now (s .entry))) ⌝ }
+{
+    if start == s.len() {
+        return Numeral::NoDigits(start);
+    }
+    let mut v: u64 = 0;
+    let mut i = start;
+    while i < s.len() {
+        let b = s[i];
+        if b < 48 {
+            return Numeral::NotADigit(i);
+        }
+        if 57 < b {
+            return Numeral::NotADigit(i);
+        }
+        let d = (b - 48) as u64;
+        if (18446744073709551615 - d) / 10 < v {
+            return Numeral::TooLarge(i);
+        }
+        v = v * 10 + d;
+        i += 1;
+    }
+    Numeral::Value(v)
+}
+
+// Reads a number: an optional `+`, then one digit or more. The leftmost fault decides.
+pub fn read_number(s: &[u8]) -> Numeral
+    ensures { λ r. ⌜ r ≡ numeralOf (now (s .entry)) ⌝ }
+{
+    if s.len() == 0 {
+        return Numeral::NoDigits(0);
+    }
+    if s[0] == 43 {
+        digits_at(s, 1)
+    } else {
+        digits_at(s, 0)
+    }
+}
+
+// How many decimal digits n has.
+pub fn number_width(n: u64) -> usize
+    ensures { λ r. ⌜ r ≡ width n ⌝ }
+{
+    let mut w: usize = 1;
+    let mut m = n;
+    while 10 <= m {
+        m = m / 10;
+        w += 1;
+    }
+    w
+}
+
+// Writes the decimal digits of n from out[at] on, each straight to its final place, and returns the place after them.
+pub fn write_number(out: &mut [u8], at: usize, n: u64) -> usize
+    requires { ⌜ at + length (decimal n) ≤ length (now out) ⌝ }
+    ensures { λ r. ⌜ r ≡ at + length (decimal n) ⌝ }
+    ensures { λ _. ⌜ now (out .exit) ≡ put (now (out .entry)) at (decimal n) ⌝ }
+{
+    let w = number_width(n);
+    let mut j = w;
+    let mut m = n;
+    while 0 < j {
+        j -= 1;
+        out[at + j] = 48 + (m % 10) as u8;
+        m = m / 10;
+    }
+    at + w
+}

@@ -1,0 +1,53 @@
+// Tests on a text.
+ghost use mathlib.Core.Path.{_≡_};
+ghost use Prim.Native.Nat.{_≤_, max};
+ghost use lib.ListN.{length, drop};
+ghost use Rattle.text.specs.Part.{ascii, startsWith, same};
+
+// The larger of two bytes.
+pub fn larger(a: u8, b: u8) -> u8
+    ensures { λ r. ⌜ r ≡ max a b ⌝ }
+{
+    if a < b { b } else { a }
+}
+
+// Whether each byte of `s` is below 128. The loop has no early exit, so that it can take many bytes at a time.
+pub fn all_ascii(s: &[u8]) -> bool
+    ensures { λ r. ⌜ r ≡ ascii (now (s .entry)) ⌝ }
+{
+    let mut top: u8 = 0;
+    let mut i = 0;
+    while i < s.len() {
+        top = larger(top, s[i]);
+        i += 1;
+    }
+    top < 128
+}
+
+// Whether `w` stands in `s` at place `at`.
+pub fn same_at(s: &[u8], at: usize, w: &[u8]) -> bool
+    requires { ⌜ at ≤ length (now s) ⌝ }
+    ensures { λ r. ⌜ r ≡ startsWith (now (w .entry)) (drop at (now (s .entry))) ⌝ }
+{
+    if s.len() - at < w.len() {
+        return false;
+    }
+    let mut i = 0;
+    while i < w.len() {
+        if s[at + i] != w[i] {
+            return false;
+        }
+        i += 1;
+    }
+    true
+}
+
+// Whether two texts are the same.
+pub fn equal(a: &[u8], b: &[u8]) -> bool
+    ensures { λ r. ⌜ r ≡ same (now (a .entry)) (now (b .entry)) ⌝ }
+{
+    if a.len() != b.len() {
+        return false;
+    }
+    same_at(a, 0, b)
+}

@@ -1,0 +1,18 @@
+// The refusal numbers of the whole library. 0 is no refusal.
+pub const DONE: u8 = 0;
+
+pub const TOO_LONG: u8 = 1;
+
+pub const NOT_ASCII: u8 = 2;
+
+pub const NOT_A_PATH: u8 = 3;
+
+pub const NO_ROOM: u8 = 4;
+
+pub const BAD_CHAR: u8 = 5;
+
+pub const BAD_LENGTH: u8 = 6;
+
+pub const BAD_PREFIX: u8 = 7;
+
+pub const BAD_NUMBER: u8 = 8;

@@ -1,0 +1,124 @@
+/* IBC host paths and identifiers: the C interface of libnode.a.
+ *
+ * Every call takes any bytes and any numbers. A text is a pointer and a count of bytes, a null
+ * pointer with count 0 among them; `out` is a lent buffer and its size, which lies apart from every
+ * text. A success writes from byte 0 of `out` and leaves the bytes after what it wrote. A refusal
+ * changes no byte of `out`; its length, numbers and value are 0.
+ *
+ * The numbers after a call are its refusals, in the order in which they are looked for; 0 is done.
+ * The library is proved in Rattle; rust/hostpath has the same calls for Rust.
+ */
+#ifndef HOSTPATH_H
+#define HOSTPATH_H
+
+#include <stddef.h>
+#include <stdint.h>
+
+#ifdef __cplusplus
+extern "C" {
+#endif
+
+enum hp_refusal {
+    HP_DONE = 0,
+    HP_TOO_LONG = 1,      /* a text to be read, or a rendering, of more than 4,096 bytes */
+    HP_NOT_ASCII = 2,     /* a byte of 128 or more */
+    HP_NOT_A_PATH = 3,    /* no kind fits */
+    HP_NO_ROOM = 4,       /* out is too short */
+    HP_BAD_CHAR = 5,      /* a byte that no identifier has */
+    HP_BAD_LENGTH = 6,    /* an identifier too short or too long */
+    HP_BAD_PREFIX = 7,    /* not the name and `-`, or a leading zero after them */
+    HP_BAD_NUMBER = 8,    /* no number after them */
+    HP_BAD_BOOK = 9,      /* no book */
+    HP_KEY_TOO_LONG = 10, /* a rendering of more than 255 bytes */
+    HP_FULL = 11,         /* no free slot for a new key */
+    HP_ABSENT = 12,       /* no such record */
+    HP_BAD_SEGMENT = 13,  /* `/` in an upgrade path */
+    HP_BAD_KIND = 14      /* a kind that is not from 1 to 19 */
+};
+
+struct hp_written { uint8_t refusal; uint64_t length; };
+struct hp_pair { uint8_t refusal; uint64_t number; uint64_t height; };
+struct hp_flag { uint8_t refusal; uint8_t value; };
+
+/* Identifier checks. */
+
+/* All bytes are A-Z, a-z, 0-9 or one of . _ + - # [ ] < >: 2, 5. */
+uint8_t hp_validate_identifier_chars(const uint8_t *id, size_t id_len);
+/* The length is from min, raised to 1, to max: 2, 6. */
+uint8_t hp_validate_identifier_length(const uint8_t *id, size_t id_len, uint64_t min, uint64_t max);
+/* The length is from min - 2, raised to 1, to max - 21, both stopping at 0: 2, 6. */
+uint8_t hp_validate_prefix_length(const uint8_t *prefix, size_t prefix_len, uint64_t min, uint64_t max);
+/* The name, `-` and an index; either text may give 2: 2, 7, 8. */
+uint8_t hp_validate_named_u64_index(const uint8_t *id, size_t id_len, const uint8_t *name, size_t name_len);
+/* A client type of 7 to 43 bytes: 2, 5, 6. */
+uint8_t hp_validate_client_type(const uint8_t *id, size_t id_len);
+/* A client identifier of 9 to 64 bytes: 2, 5, 6. */
+uint8_t hp_validate_client_identifier(const uint8_t *id, size_t id_len);
+/* A connection identifier of 10 to 64 bytes, `connection-` and an index: 2, 5, 6, 7, 8. */
+uint8_t hp_validate_connection_identifier(const uint8_t *id, size_t id_len);
+/* A port identifier of 2 to 128 bytes: 2, 5, 6. */
+uint8_t hp_validate_port_identifier(const uint8_t *id, size_t id_len);
+/* A channel identifier of 8 to 64 bytes, `channel-` and an index: 2, 5, 6, 7, 8. */
+uint8_t hp_validate_channel_identifier(const uint8_t *id, size_t id_len);
+
+/* Identifiers from a counter. */
+
+/* The client type without the bytes 9 to 13 and 32 at its ends, `-` and the counter: 2, 5, 6, 4. */
+struct hp_written hp_client_id_new(const uint8_t *client_type, size_t client_type_len, uint64_t counter, uint8_t *out, size_t out_len);
+/* `channel-` and the counter: 4. */
+struct hp_written hp_channel_id_new(uint64_t counter, uint8_t *out, size_t out_len);
+
+#ifdef HOSTPATH_PATHS
+
+/* Paths. */
+
+/* The reading in 26 bytes, high bytes first: kind; 1 exact or 0 loose; start and length of the first
+ * identifier and of the second, 2 bytes each; two numbers of 8 bytes. What the kind lacks is 0: 1, 2, 3, 4. */
+uint8_t hp_read(const uint8_t *text, size_t text_len, uint8_t *out, size_t out_len);
+/* The rendering of the text: 1, 2, 3, 4. */
+struct hp_written hp_key(const uint8_t *text, size_t text_len, uint8_t *out, size_t out_len);
+/* The path of a kind; what the kind lacks has no influence: 14, first, second (an upgrade path: 2, 13), 1, 4. */
+struct hp_written hp_render(uint8_t kind, const uint8_t *first, size_t first_len, const uint8_t *second, size_t second_len, uint64_t a, uint64_t b, uint8_t *out, size_t out_len);
+/* 1 where paths of the kind are provable: 14. */
+struct hp_flag hp_is_provable(uint8_t kind);
+/* `iterateConsensusStates`, number and height, 38 bytes: 4. */
+struct hp_written hp_iteration_key(uint64_t number, uint64_t height, uint8_t *out, size_t out_len);
+
+/* Texts above and below a path. */
+
+/* `clients`: 4. */
+struct hp_written hp_client_state_prefix(uint8_t *out, size_t out_len);
+/* `clientState`: 4. */
+struct hp_written hp_client_state_leaf(uint8_t *out, size_t out_len);
+/* `clients/C/consensusStates`: the client's 2, 5, 6; then 4. */
+struct hp_written hp_consensus_state_parent(const uint8_t *client, size_t client_len, uint8_t *out, size_t out_len);
+/* `consensusStates/R-h`: 4. */
+struct hp_written hp_consensus_state_leaf(uint64_t number, uint64_t height, uint8_t *out, size_t out_len);
+/* `consensusStates/R-h/processedTime`: 4. */
+struct hp_written hp_update_time_leaf(uint64_t number, uint64_t height, uint8_t *out, size_t out_len);
+/* `consensusStates/R-h/processedHeight`: 4. */
+struct hp_written hp_update_height_leaf(uint64_t number, uint64_t height, uint8_t *out, size_t out_len);
+/* `connections`: 4. */
+struct hp_written hp_connection_prefix(uint8_t *out, size_t out_len);
+/* `channelEnds`: 4. */
+struct hp_written hp_channel_end_prefix(uint8_t *out, size_t out_len);
+/* `commitments/ports/P/channels/H/sequences`: the port's 2, 5, 6; the channel's 2, 5, 6, 7, 8; then 4. */
+struct hp_written hp_commitments_path(const uint8_t *port, size_t port_len, const uint8_t *channel, size_t channel_len, uint8_t *out, size_t out_len);
+/* `acks/ports/P/channels/H/sequences`: the port's 2, 5, 6; the channel's 2, 5, 6, 7, 8; then 4. */
+struct hp_written hp_acks_path(const uint8_t *port, size_t port_len, const uint8_t *channel, size_t channel_len, uint8_t *out, size_t out_len);
+/* `receipts/ports/P/channels/H/sequences`: the port's 2, 5, 6; the channel's 2, 5, 6, 7, 8; then 4. */
+struct hp_written hp_receipts_path(const uint8_t *port, size_t port_len, const uint8_t *channel, size_t channel_len, uint8_t *out, size_t out_len);
+/* `commitments`: 4. */
+struct hp_written hp_commitment_prefix(uint8_t *out, size_t out_len);
+/* `acks`: 4. */
+struct hp_written hp_ack_prefix(uint8_t *out, size_t out_len);
+/* `receipts`: 4. */
+struct hp_written hp_receipt_prefix(uint8_t *out, size_t out_len);
+
+#endif
+
+#ifdef __cplusplus
+}
+#endif
+
+#endif

@@ -1,0 +1,101 @@
+//! Reading for each kind and for all, rendering, and both in one.
+use std::hint::black_box;
+
+use hostpath::READING;
+use ibc_core_host_types::path::Path;
+use ibc_core_host_types::terms;
+use model::path::{self, Part, KINDS, MOST};
+use model::pool;
+
+use crate::family::{keep, Family};
+
+/// Texts of a kind: its plain one, and others of its good parts, loose numbers among them.
+fn texts(shape: &[Part]) -> Vec<String> {
+    let text = |turn: usize| {
+        let part = |part: &Part| pool::good(part)[turn % pool::good(part).len()];
+        shape.iter().map(part).collect::<Vec<_>>().join("/")
+    };
+    let mut all: Vec<String> = (0..5).map(text).collect();
+    all.dedup();
+    all
+}
+
+fn all_texts() -> Vec<String> {
+    KINDS.iter().flat_map(|shape| texts(shape)).collect()
+}
+
+fn refused() -> Vec<String> {
+    let cut = all_texts().into_iter().map(|text| text[..text.len() - 1].to_string());
+    cut.filter(|text| path::read(text.as_bytes()).is_err()).collect()
+}
+
+fn reading(name: String, texts: Vec<String>) -> Family {
+    let same = texts.clone();
+    Family::new(
+        name,
+        move || texts.iter().for_each(|text| keep(black_box(text.as_str()).parse::<Path>())),
+        move || {
+            let mut out = [0; READING];
+            for text in &same {
+                let answer = hostpath::read(black_box(text.as_bytes()), &mut out);
+                keep((answer, &out));
+            }
+        },
+    )
+}
+
+fn key(texts: Vec<String>) -> Family {
+    let same = texts.clone();
+    Family::new(
+        "key, all kinds together".into(),
+        move || {
+            for text in &texts {
+                let path: Path = black_box(text.as_str()).parse().expect("a path");
+                keep(path.to_string());
+            }
+        },
+        move || {
+            let mut out = [0; MOST];
+            for text in &same {
+                let written = hostpath::key(black_box(text.as_bytes()), &mut out);
+                keep((written, &out));
+            }
+        },
+    )
+}
+
+fn rendering(name: String, texts: &[String]) -> Family {
+    let paths: Vec<Path> = texts.iter().map(|text| text.parse().expect("a path")).collect();
+    let parts: Vec<(u8, String, String, [u64; 2])> = paths
+        .iter()
+        .map(terms::parts)
+        .map(|parts| (parts.kind, parts.first.into(), parts.second.into(), parts.numbers))
+        .collect();
+    Family::new(
+        name,
+        move || paths.iter().for_each(|path| keep(black_box(path).to_string())),
+        move || {
+            let mut out = [0; MOST];
+            for (kind, first, second, [a, b]) in &parts {
+                let (first, second) = black_box((first.as_bytes(), second.as_bytes()));
+                let written = hostpath::render(*kind, first, second, *a, *b, &mut out);
+                keep((written, &out));
+            }
+        },
+    )
+}
+
+pub fn families() -> Vec<Family> {
+    let mut all = vec![];
+    for (kind, shape) in (1..).zip(KINDS) {
+        all.push(reading(format!("reading, kind {kind}"), texts(shape)));
+    }
+    all.push(reading("reading, all kinds together".into(), all_texts()));
+    all.push(reading("reading, refused".into(), refused()));
+    for (kind, shape) in (1..).zip(KINDS) {
+        all.push(rendering(format!("rendering, kind {kind}"), &texts(shape)));
+    }
+    all.push(rendering("rendering, all kinds together".into(), &all_texts()));
+    all.push(key(all_texts()));
+    all
+}

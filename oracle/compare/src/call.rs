@@ -1,0 +1,70 @@
+//! A call over the C interface as data, so that another process can answer it.
+use std::fmt::{self, Debug, Display, Formatter};
+
+/// The calls, in the order that serve.c has too.
+#[derive(Clone, Copy, Debug, PartialEq, Eq)]
+#[repr(u8)]
+pub enum Function {
+    ValidateIdentifierChars,
+    ValidateIdentifierLength,
+    ValidatePrefixLength,
+    ValidateNamedU64Index,
+    ValidateClientType,
+    ValidateClientIdentifier,
+    ValidateConnectionIdentifier,
+    ValidatePortIdentifier,
+    ValidateChannelIdentifier,
+    ClientIdNew,
+    ChannelIdNew,
+    Read,
+    Key,
+    Render,
+    IsProvable,
+    IterationKey,
+    ClientStatePrefix,
+    ClientStateLeaf,
+    ConsensusStateParent,
+    ConsensusStateLeaf,
+    UpdateTimeLeaf,
+    UpdateHeightLeaf,
+    ConnectionPrefix,
+    ChannelEndPrefix,
+    CommitmentsPath,
+    AcksPath,
+    ReceiptsPath,
+    CommitmentPrefix,
+    AckPrefix,
+    ReceiptPrefix,
+}
+
+/// A call's arguments but for the lent buffer. What a call lacks is not looked at.
+#[derive(Clone, Copy)]
+pub struct Call<'a> {
+    pub function: Function,
+    pub kind: u8,
+    pub texts: [&'a [u8]; 2],
+    pub numbers: [u64; 2],
+}
+
+impl<'a> Call<'a> {
+    pub fn new(function: Function, texts: [&'a [u8]; 2], numbers: [u64; 2]) -> Self {
+        Self { function, kind: 0, texts, numbers }
+    }
+
+    /// As serve.c reads it, with the size of the lent buffer.
+    pub fn encode(&self, room: usize, to: &mut Vec<u8>) {
+        to.extend([self.function as u8, self.kind]);
+        to.extend(self.numbers.iter().flat_map(|number| number.to_le_bytes()));
+        let sizes = [self.texts[0].len(), self.texts[1].len(), room];
+        to.extend(sizes.iter().flat_map(|size| (*size as u32).to_le_bytes()));
+        self.texts.iter().for_each(|text| to.extend_from_slice(text));
+    }
+}
+
+impl Display for Call<'_> {
+    fn fmt(&self, out: &mut Formatter<'_>) -> fmt::Result {
+        let Self { function, kind, texts: [first, second], numbers: [a, b] } = self;
+        let (first, second) = (first.escape_ascii(), second.escape_ascii());
+        write!(out, "{function:?}(kind {kind}, \"{first}\", \"{second}\", {a}, {b})")
+    }
+}

@@ -1,0 +1,42 @@
+//! Three voices on the same questions: the library over its C interface, the original as it runs,
+//! and the model of document 01. The library equals the model always; the original equals it
+//! wherever docs/DIFFERENCES.md lists no difference.
+pub mod batch;
+pub mod call;
+pub mod identifiers;
+#[cfg_attr(feature = "linked", path = "linked.rs")]
+#[cfg_attr(not(feature = "linked"), path = "served.rs")]
+pub mod library;
+#[cfg(feature = "paths")]
+pub mod paths;
+#[cfg(feature = "paths")]
+pub mod renderings;
+pub mod set;
+
+/// How much of a set to run.
+#[derive(Clone, Copy, Debug, PartialEq, Eq)]
+pub enum Size {
+    Quick,
+    Full,
+}
+
+impl Size {
+    pub fn pick<T>(self, quick: T, full: T) -> T {
+        match self {
+            Self::Quick => quick,
+            Self::Full => full,
+        }
+    }
+}
+
+/// A set's name and what it asks.
+pub type Sets = &'static [(&'static str, fn(&mut set::Set, Size))];
+
+/// The families of sets that this build can run.
+pub const FAMILIES: &[Sets] = &[
+    identifiers::SETS,
+    #[cfg(feature = "paths")]
+    paths::SETS,
+    #[cfg(feature = "paths")]
+    renderings::SETS,
+];

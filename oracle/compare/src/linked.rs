@@ -1,0 +1,101 @@
+//! The library linked into this program, called through the crate that the node uses.
+use hostpath::{Refusal, Written};
+
+use crate::batch::{put_reply, Batch, Returned, HEAD};
+use crate::call::{Call, Function};
+
+#[derive(Default)]
+pub struct Library {
+    replies: Vec<u8>,
+}
+
+impl Library {
+    pub fn start() -> Self {
+        Self::default()
+    }
+
+    pub fn send(&mut self, batch: &Batch) {
+        for (call, room) in batch.calls() {
+            let head = self.replies.len();
+            let lent = put_reply(&mut self.replies, Returned { refusal: 0, length: 0 }, room);
+            let returned = answer(&call, &mut self.replies[lent..lent + room]);
+            self.replies[head] = returned.refusal;
+            self.replies[head + 1..head + HEAD].copy_from_slice(&returned.length.to_le_bytes());
+        }
+    }
+
+    pub fn receive(&mut self, _: usize) -> Vec<u8> {
+        std::mem::take(&mut self.replies)
+    }
+
+    pub fn stop(self) {}
+}
+
+fn number(answer: Result<(), Refusal>) -> Returned {
+    Returned { refusal: answer.map_or_else(Refusal::number, |()| 0), length: 0 }
+}
+
+fn written(answer: Written) -> Returned {
+    Returned { refusal: answer.refusal, length: answer.length }
+}
+
+fn answer(call: &Call, out: &mut [u8]) -> Returned {
+    let Call { function, texts: [first, second], numbers: [a, b], .. } = *call;
+    match function {
+        Function::ValidateIdentifierChars => number(hostpath::validate_identifier_chars(first)),
+        Function::ValidateIdentifierLength => {
+            number(hostpath::validate_identifier_length(first, a, b))
+        }
+        Function::ValidatePrefixLength => number(hostpath::validate_prefix_length(first, a, b)),
+        Function::ValidateNamedU64Index => {
+            number(hostpath::validate_named_u64_index(first, second))
+        }
+        Function::ValidateClientType => number(hostpath::validate_client_type(first)),
+        Function::ValidateClientIdentifier => number(hostpath::validate_client_identifier(first)),
+        Function::ValidateConnectionIdentifier => {
+            number(hostpath::validate_connection_identifier(first))
+        }
+        Function::ValidatePortIdentifier => number(hostpath::validate_port_identifier(first)),
+        Function::ValidateChannelIdentifier => number(hostpath::validate_channel_identifier(first)),
+        Function::ClientIdNew => written(hostpath::client_id_new(first, a, out)),
+        Function::ChannelIdNew => written(hostpath::channel_id_new(a, out)),
+        #[cfg(feature = "paths")]
+        _ => answer_path(call, out),
+        #[cfg(not(feature = "paths"))]
+        _ => panic!("{call} is a call of the feature paths"),
+    }
+}
+
+#[cfg(feature = "paths")]
+fn answer_path(call: &Call, out: &mut [u8]) -> Returned {
+    let Call { function, kind, texts: [first, second], numbers: [a, b] } = *call;
+    match function {
+        Function::Read => {
+            let answer = number(hostpath::read(first, out));
+            let length = if answer.refusal == 0 { hostpath::READING as u64 } else { 0 };
+            Returned { length, ..answer }
+        }
+        Function::IsProvable => {
+            let flag = hostpath::is_provable(kind);
+            Returned { refusal: flag.refusal, length: flag.value.into() }
+        }
+        Function::Key => written(hostpath::key(first, out)),
+        Function::Render => written(hostpath::render(kind, first, second, a, b, out)),
+        Function::IterationKey => written(hostpath::iteration_key(a, b, out)),
+        Function::ClientStatePrefix => written(hostpath::client_state_prefix(out)),
+        Function::ClientStateLeaf => written(hostpath::client_state_leaf(out)),
+        Function::ConsensusStateParent => written(hostpath::consensus_state_parent(first, out)),
+        Function::ConsensusStateLeaf => written(hostpath::consensus_state_leaf(a, b, out)),
+        Function::UpdateTimeLeaf => written(hostpath::update_time_leaf(a, b, out)),
+        Function::UpdateHeightLeaf => written(hostpath::update_height_leaf(a, b, out)),
+        Function::ConnectionPrefix => written(hostpath::connection_prefix(out)),
+        Function::ChannelEndPrefix => written(hostpath::channel_end_prefix(out)),
+        Function::CommitmentsPath => written(hostpath::commitments_path(first, second, out)),
+        Function::AcksPath => written(hostpath::acks_path(first, second, out)),
+        Function::ReceiptsPath => written(hostpath::receipts_path(first, second, out)),
+        Function::CommitmentPrefix => written(hostpath::commitment_prefix(out)),
+        Function::AckPrefix => written(hostpath::ack_prefix(out)),
+        Function::ReceiptPrefix => written(hostpath::receipt_prefix(out)),
+        _ => unreachable!("{call} is no call of the feature paths"),
+    }
+}

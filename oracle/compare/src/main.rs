@@ -1,0 +1,37 @@
+//! `compare quick` is for the gate, `compare full` for the list of differences. The last line counts
+//! sets; the status is 0 where no set has a difference that is not listed.
+use std::process::ExitCode;
+use std::time::Instant;
+
+use compare::library::Library;
+use compare::set::Set;
+use compare::{Size, FAMILIES};
+
+fn main() -> ExitCode {
+    let size = match std::env::args().nth(1).as_deref() {
+        Some("quick") => Size::Quick,
+        Some("full") => Size::Full,
+        _ => {
+            eprintln!("compare quick|full");
+            return ExitCode::from(2);
+        }
+    };
+    let mut library = Library::start();
+    let (mut passed, mut failed) = (0, 0);
+    for (name, run) in FAMILIES.iter().copied().flatten() {
+        let begun = Instant::now();
+        let mut set = Set::new(&mut library);
+        run(&mut set, size);
+        set.finish();
+        println!("{name}: {set}, {:.1} s", begun.elapsed().as_secs_f64());
+        set.shown().iter().for_each(|difference| println!("  {difference}"));
+        if set.passed() {
+            passed += 1;
+        } else {
+            failed += 1;
+        }
+    }
+    library.stop();
+    println!("{passed} passed, {failed} failed");
+    ExitCode::from(u8::from(failed > 0))
+}

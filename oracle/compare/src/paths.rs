@@ -1,0 +1,257 @@
+//! Reading: `hp_read` and `hp_key` against `Path::from_str` and `Path`'s `Display`.
+use std::fmt::{self, Debug, Formatter};
+
+use ibc_core_host_types::path::Path;
+use ibc_core_host_types::terms::{self, Answer};
+use model::path::{self, KINDS, MOST};
+use model::pool::{self, Pools};
+use model::random::Random;
+use model::{table, NOT_A_PATH};
+
+use crate::call::{Call, Function};
+use crate::set::{Bytes, Listed, Set, Text, Theirs};
+use crate::{Sets, Size};
+
+pub const SETS: Sets = &[
+    ("paths of document 01", table),
+    ("texts of up to three bytes", short),
+    ("lists of components", lists),
+    ("lists of packet components", packets),
+    ("texts at each place", places),
+    ("numbers in paths", numbers),
+    ("numbers at the limit", limit),
+    ("damaged paths", damaged),
+    ("paths around 4,096 bytes", lengths),
+    ("bytes of 128 and more", high),
+    ("rooms for a reading", rooms),
+];
+
+/// A reading with its identifiers as texts, as each voice can tell it.
+#[derive(PartialEq)]
+struct Told<'a> {
+    kind: u8,
+    exact: bool,
+    first: &'a [u8],
+    second: &'a [u8],
+    numbers: [u64; 2],
+    key: &'a [u8],
+}
+
+impl Debug for Told<'_> {
+    fn fmt(&self, out: &mut Formatter<'_>) -> fmt::Result {
+        let [first, second, key] = [self.first, self.second, self.key].map(<[u8]>::escape_ascii);
+        let Self { kind, exact, numbers, .. } = self;
+        write!(out, "kind {kind}, exact {exact}, {first}, {second}, {numbers:?}, key {key}")
+    }
+}
+
+/// No refusal: the original panicked.
+const PANICKED: u8 = 255;
+
+/// The one text that the original panics on.
+const PANICS: &[u8] = b"clients";
+
+/// Where the original's reading of a text may differ.
+fn listed(text: &[u8]) -> Option<Listed> {
+    if text.len() > MOST {
+        return Some(Listed::TooLong);
+    }
+    if !text.is_ascii() {
+        return Some(Listed::NotAscii);
+    }
+    (text == PANICS).then_some(Listed::Panic)
+}
+
+fn told_by_original<'a>(path: &'a Path, key: &'a str, text: &str) -> Told<'a> {
+    let parts = terms::parts(path);
+    Told {
+        kind: parts.kind,
+        exact: key == text,
+        first: parts.first.as_bytes(),
+        second: parts.second.as_bytes(),
+        numbers: parts.numbers,
+        key: key.as_bytes(),
+    }
+}
+
+fn read_call(text: &[u8]) -> Call<'_> {
+    Call::new(Function::Read, [text, b""], [0, 0])
+}
+
+fn key_call(text: &[u8]) -> Call<'_> {
+    Call::new(Function::Key, [text, b""], [0, 0])
+}
+
+/// One text, read and rendered.
+fn ask(set: &mut Set, text: &[u8]) {
+    let model = path::read_with_key(text);
+    let bytes = model.as_ref().map(|(reading, _)| Bytes(reading.bytes().to_vec())).map_err(|e| *e);
+    let key: Text = model.as_ref().map(|(_, key)| Bytes(key.clone())).map_err(|e| *e);
+    set.count();
+    set.lend_around(read_call(text), &bytes);
+    set.lend_around(key_call(text), &key);
+    let told = model.as_ref().map_err(|e| *e).map(|(reading, key)| Told {
+        kind: reading.kind,
+        exact: reading.exact,
+        first: reading.first.of(text),
+        second: reading.second.of(text),
+        numbers: reading.numbers,
+        key,
+    });
+    hear(set, text, &told);
+}
+
+/// What the original says of the text, held to the model.
+fn hear(set: &mut Set, text: &[u8], model: &Result<Told, u8>) {
+    let Ok(heard) = std::str::from_utf8(text) else {
+        return;
+    };
+    let answer = terms::read(heard);
+    let key = match &answer {
+        Answer::Path(path) => path.to_string(),
+        Answer::Refused | Answer::Panic => String::new(),
+    };
+    let said = match &answer {
+        Answer::Path(path) => Ok(told_by_original(path, &key, heard)),
+        Answer::Refused => Err(NOT_A_PATH),
+        Answer::Panic => Err(PANICKED),
+    };
+    let theirs = match listed(text) {
+        Some(reason) => Theirs::Listed(reason, said),
+        None => Theirs::Says(said),
+    };
+    set.agree(theirs, model, read_call(text));
+}
+
+/// Document 01's rows, held to the outcomes that it writes.
+fn table(set: &mut Set, _: Size) {
+    for (text, outcome) in table::paths() {
+        ask(set, text.as_bytes());
+        let written = outcome.map(|reading| Bytes(reading.bytes().to_vec()));
+        set.text(read_call(text.as_bytes()), Theirs::Silent, &written);
+    }
+}
+
+fn short(set: &mut Set, _: Size) {
+    let bytes: Vec<[u8; 1]> = (0..128).map(|byte| [byte]).collect();
+    pool::texts(&bytes, "", 3, |text| ask(set, text));
+}
+
+/// What may stand between slashes; those that read on come first.
+const COMPONENTS: [&str; 27] = [
+    "clients", "07-tendermint-4", "clientState", "consensusStates", "007-+2", "ports", "channels",
+    "channel-+01", "channelEnds", "+5", "upgradedClient", "", "0000000005", "processedTime",
+    "connections", "connection-+0", "processedHeight", "nextSequenceSend", "commitments",
+    "sequences", "upgradedConsState", "nextClientSequence", "7--2", "channel-01",
+    "18446744073709551616", "a", "clientid",
+];
+
+fn lists(set: &mut Set, size: Size) {
+    pool::texts(&COMPONENTS[..size.pick(12, 27)], "/", 5, |text| ask(set, text));
+}
+
+/// Lists as long as the longest kinds, and in the full set one longer.
+fn packets(set: &mut Set, size: Size) {
+    let pieces = ["commitments", "ports", "channels", "channel-7", "sequences", "+5", "transfer"];
+    pool::texts(&pieces[..size.pick(6, 7)], "/", size.pick(7, 8), |text| ask(set, text));
+}
+
+/// Every pool text at every place of every kind, and once more with a slash too many.
+fn places(set: &mut Set, size: Size) {
+    let pools = Pools::default();
+    for shape in KINDS {
+        let mut parts: Vec<&str> = shape.iter().map(|part| pool::good(part)[0]).collect();
+        for place in 0..parts.len() {
+            let plain = parts[place];
+            for text in pools.components(size.pick(29, 1)) {
+                parts[place] = text;
+                let text = parts.join("/");
+                ask(set, text.as_bytes());
+                ask(set, format!("{text}/").as_bytes());
+                ask(set, format!("/{text}").as_bytes());
+                ask(set, format!("{text}/x").as_bytes());
+            }
+            parts[place] = plain;
+        }
+    }
+}
+
+/// A number text at each kind of place that holds one.
+fn at_each_number(set: &mut Set, number: &str) {
+    for text in [
+        format!("x/{number}/upgradedClient"),
+        format!("x/{number}/upgradedConsState"),
+        format!("clients/07-tendermint-4/consensusStates/{number}"),
+        format!("clients/07-tendermint-4/consensusStates/{number}-1"),
+        format!("clients/07-tendermint-4/consensusStates/1-{number}/processedTime"),
+        format!("connections/connection-{number}"),
+        format!("channelEnds/ports/ab/channels/channel-{number}"),
+        format!("acks/ports/ab/channels/channel-0/sequences/{number}"),
+    ] {
+        ask(set, text.as_bytes());
+    }
+}
+
+fn numbers(set: &mut Set, size: Size) {
+    pool::texts(&pool::LETTERS, "", size.pick(5, 6), |number| {
+        at_each_number(set, std::str::from_utf8(number).unwrap());
+    });
+}
+
+fn limit(set: &mut Set, size: Size) {
+    for value in pool::around_powers(size.pick(50, 2_000)) {
+        for sign in ["", "+", "0", "+0000"] {
+            at_each_number(set, &format!("{sign}{value}"));
+        }
+    }
+}
+
+fn damaged(set: &mut Set, size: Size) {
+    let mut random = Random(1);
+    let pools = Pools::default();
+    for _ in 0..size.pick(300_000, 6_000_000) {
+        ask(set, &pools.path(&mut random));
+    }
+}
+
+/// Texts and renderings just below, at and above the most.
+fn lengths(set: &mut Set, _: Size) {
+    for length in [255, 256, 4094, 4095, 4096, 4097, 4098, 65_535, 65_536, 65_563, 70_000] {
+        for text in pool::grown(length) {
+            let mut text = text.into_bytes();
+            ask(set, &text);
+            *text.last_mut().unwrap() = 0x80;
+            ask(set, &text);
+        }
+    }
+}
+
+/// Every byte beyond ASCII, and some characters, at every place of every kind's plain text.
+fn high(set: &mut Set, _: Size) {
+    for shape in KINDS {
+        let plain = pool::plain(shape);
+        for place in 0..plain.len() {
+            let mut text = plain.as_bytes().to_vec();
+            for byte in 128..=255 {
+                text[place] = byte;
+                ask(set, &text);
+            }
+            for scalar in ["\u{80}", "\u{e9}", "\u{3b1}", "\u{4e2d}", "\u{1f600}", "\u{ff11}"] {
+                let mut text = plain.clone();
+                text.insert_str(place, scalar);
+                ask(set, text.as_bytes());
+            }
+        }
+    }
+}
+
+/// Every size of buffer up to well beyond the need.
+fn rooms(set: &mut Set, _: Size) {
+    for shape in KINDS {
+        let text = pool::plain(shape).into_bytes();
+        ask(set, &text);
+        let (reading, key) = path::read_with_key(&text).expect("a plain text is a path");
+        set.lend(read_call(&text), 0..66, &Ok(Bytes(reading.bytes().to_vec())));
+        set.lend(key_call(&text), 0..key.len() + 40, &Ok(Bytes(key)));
+    }
+}

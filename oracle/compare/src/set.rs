@@ -1,0 +1,207 @@
+//! One set of checks: what was asked, how often the voices differed, and the first differences whole.
+use std::fmt::{self, Debug, Display, Formatter};
+
+use model::NO_ROOM;
+
+use crate::batch::{Batch, Difference, Returned};
+use crate::call::Call;
+use crate::library::Library;
+
+/// Where the original may differ: a reason for each kind that docs/DIFFERENCES.md lists.
+#[derive(Clone, Copy, Debug)]
+pub enum Listed {
+    NotAscii,
+    Panic,
+    Slash,
+    TooLong,
+}
+
+const REASONS: [&str; 4] = ["beyond ASCII", "panics of the Rust", "slash in U", "over 4,096 bytes"];
+
+/// What the original says.
+pub enum Theirs<T> {
+    Says(T),
+    /// On a question where the answer may differ.
+    Listed(Listed, T),
+    /// It takes no such question.
+    Silent,
+}
+
+/// Asks the original, which takes valid UTF-8 alone, about some texts.
+pub fn hear<T, const N: usize>(texts: [&[u8]; N], ask: impl FnOnce([&str; N]) -> T) -> Theirs<T> {
+    let heard = texts.map(|text| std::str::from_utf8(text).ok());
+    if heard.contains(&None) {
+        return Theirs::Silent;
+    }
+    let said = ask(heard.map(Option::unwrap_or_default));
+    if texts.iter().all(|text| text.is_ascii()) {
+        Theirs::Says(said)
+    } else {
+        Theirs::Listed(Listed::NotAscii, said)
+    }
+}
+
+/// Bytes that show as text.
+#[derive(Clone, PartialEq)]
+pub struct Bytes(pub Vec<u8>);
+
+impl Debug for Bytes {
+    fn fmt(&self, out: &mut Formatter<'_>) -> fmt::Result {
+        write!(out, "{}", self.0.escape_ascii())
+    }
+}
+
+/// A text that a call writes, or the number of its refusal.
+pub type Text = Result<Bytes, u8>;
+
+pub struct Set<'a> {
+    library: &'a mut Library,
+    batch: Batch,
+    sent: Option<Batch>,
+    checks: u64,
+    differences: u64,
+    last: u64,
+    shown: Vec<String>,
+    listed: [u64; REASONS.len()],
+}
+
+impl<'a> Set<'a> {
+    pub fn new(library: &'a mut Library) -> Self {
+        Self {
+            library,
+            batch: Batch::default(),
+            sent: None,
+            checks: 0,
+            differences: 0,
+            last: 0,
+            shown: vec![],
+            listed: Default::default(),
+        }
+    }
+
+    pub fn passed(&self) -> bool {
+        self.differences == 0
+    }
+
+    /// The first differences.
+    pub fn shown(&self) -> &[String] {
+        &self.shown
+    }
+
+    /// A check of a call whose answer is a number alone.
+    pub fn number(&mut self, call: Call, theirs: Theirs<u8>, model: Result<(), u8>) {
+        let refusal = model.err().unwrap_or(0);
+        self.checks += 1;
+        self.ask(call, 0, Returned { refusal, length: 0 }, b"");
+        self.agree(theirs, &refusal, call);
+    }
+
+    /// A check of a call whose answer is a yes or no.
+    pub fn flag(&mut self, call: Call, theirs: Theirs<Result<bool, u8>>, model: Result<bool, u8>) {
+        let returned = match model {
+            Ok(value) => Returned { refusal: 0, length: value.into() },
+            Err(refusal) => Returned { refusal, length: 0 },
+        };
+        self.checks += 1;
+        self.ask(call, 0, returned, b"");
+        self.agree(theirs, &model, call);
+    }
+
+    /// A check of a call that writes a text, with buffers of the sizes that tell.
+    pub fn text(&mut self, call: Call, theirs: Theirs<Text>, model: &Text) {
+        self.checks += 1;
+        self.lend_around(call, model);
+        self.agree(theirs, model, call);
+    }
+
+    /// Counts a check whose calls are lent buffers one by one.
+    pub fn count(&mut self) {
+        self.checks += 1;
+    }
+
+    /// Lends no buffer, and buffers around the need.
+    pub fn lend_around(&mut self, call: Call, model: &Text) {
+        match model.as_ref().map(|text| text.0.len()) {
+            Ok(need) => self.lend(call, [0, need - 1, need, need + 1, need + 7], model),
+            Err(_) => self.lend(call, [0, 64], model),
+        }
+    }
+
+    /// Lends buffers of these sizes: the call writes the text and leaves the rest, or it refuses and
+    /// leaves all.
+    pub fn lend(&mut self, call: Call, rooms: impl IntoIterator<Item = usize>, model: &Text) {
+        for room in rooms {
+            let (refusal, text) = match model {
+                Ok(text) if text.0.len() <= room => (0, text.0.as_slice()),
+                Ok(_) => (NO_ROOM, &[][..]),
+                Err(refusal) => (*refusal, &[][..]),
+            };
+            self.ask(call, room, Returned { refusal, length: text.len() as u64 }, text);
+        }
+    }
+
+    /// The original and the model say the same, or the difference is a listed one.
+    pub fn agree<T: PartialEq + Debug>(
+        &mut self,
+        theirs: Theirs<T>,
+        model: &T,
+        asked: impl Display,
+    ) {
+        match theirs {
+            Theirs::Says(said) if said != *model => {
+                self.differ(|| format!("{asked}: Rust {said:?}, document 01 {model:?}"));
+            }
+            Theirs::Listed(reason, said) if said != *model => self.listed[reason as usize] += 1,
+            _ => {}
+        }
+    }
+
+    fn ask(&mut self, call: Call, room: usize, returned: Returned, text: &[u8]) {
+        self.batch.push(self.checks, call, room, returned, text);
+        if self.batch.is_full() {
+            self.turn();
+        }
+    }
+
+    /// Judges the batch that was sent, a check once, and sends the next.
+    fn turn(&mut self) {
+        if let Some(sent) = self.sent.take() {
+            let replies = self.library.receive(sent.expected().len());
+            for Difference { check, call, room, ours, expected } in sent.differences(&replies) {
+                if check != self.last {
+                    self.differ(|| {
+                        format!("{call} with room {room}: library {ours}; document 01 {expected}")
+                    });
+                }
+                self.last = check;
+            }
+        }
+        if !self.batch.is_empty() {
+            self.library.send(&self.batch);
+            self.sent = Some(std::mem::take(&mut self.batch));
+        }
+    }
+
+    /// Judges all that was asked.
+    pub fn finish(&mut self) {
+        self.turn();
+        self.turn();
+    }
+
+    fn differ(&mut self, difference: impl FnOnce() -> String) {
+        self.differences += 1;
+        if self.shown.len() < 10 {
+            self.shown.push(difference());
+        }
+    }
+}
+
+impl Display for Set<'_> {
+    fn fmt(&self, out: &mut Formatter<'_>) -> fmt::Result {
+        write!(out, "{} checks, {} differences", self.checks, self.differences)?;
+        for (reason, count) in REASONS.iter().zip(self.listed).filter(|(_, count)| *count > 0) {
+            write!(out, ", {count} listed ({reason})")?;
+        }
+        Ok(())
+    }
+}

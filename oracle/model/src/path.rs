@@ -1,0 +1,229 @@
+//! The section 'The nineteen kinds' of document 01: one table, read and rendered by walking it.
+use crate::identifier::Identifier;
+use crate::{ascii, hold, number, Refusal, BAD_KIND, BAD_SEGMENT, NOT_ASCII, NOT_A_PATH, TOO_LONG};
+
+/// The longest text that is read or rendered.
+pub const MOST: usize = 4096;
+
+/// What stands between two slashes.
+#[derive(Clone, Copy, Debug, PartialEq, Eq)]
+pub enum Part {
+    Word(&'static str),
+    /// C, K or P.
+    First(Identifier),
+    /// H.
+    Second(Identifier),
+    /// U.
+    Upgrade,
+    /// S or n.
+    Number,
+    /// R-h.
+    Heights,
+}
+
+use Part::{First, Heights, Number, Second, Upgrade, Word};
+
+const C: Part = First(Identifier::Client);
+const K: Part = First(Identifier::Connection);
+const P: Part = First(Identifier::Port);
+const H: Part = Second(Identifier::Channel);
+
+/// Kind k stands at place k - 1.
+pub const KINDS: [&[Part]; 19] = [
+    &[Word("nextClientSequence")],
+    &[Word("nextConnectionSequence")],
+    &[Word("nextChannelSequence")],
+    &[Word("clients"), C, Word("clientState")],
+    &[Word("clients"), C, Word("consensusStates"), Heights],
+    &[Word("clients"), C, Word("consensusStates"), Heights, Word("processedTime")],
+    &[Word("clients"), C, Word("consensusStates"), Heights, Word("processedHeight")],
+    &[Word("clients"), C, Word("connections")],
+    &[Word("connections"), K],
+    &[Word("ports"), P],
+    &[Word("channelEnds"), Word("ports"), P, Word("channels"), H],
+    &[Word("nextSequenceSend"), Word("ports"), P, Word("channels"), H],
+    &[Word("nextSequenceRecv"), Word("ports"), P, Word("channels"), H],
+    &[Word("nextSequenceAck"), Word("ports"), P, Word("channels"), H],
+    &[Word("commitments"), Word("ports"), P, Word("channels"), H, Word("sequences"), Number],
+    &[Word("acks"), Word("ports"), P, Word("channels"), H, Word("sequences"), Number],
+    &[Word("receipts"), Word("ports"), P, Word("channels"), H, Word("sequences"), Number],
+    &[Upgrade, Number, Word("upgradedClient")],
+    &[Upgrade, Number, Word("upgradedConsState")],
+];
+
+/// The parts of a kind.
+pub fn shape(kind: u8) -> Result<&'static [Part], Refusal> {
+    usize::from(kind).checked_sub(1).and_then(|at| KINDS.get(at)).copied().ok_or(BAD_KIND)
+}
+
+/// Start and length of a part of a text.
+#[derive(Clone, Copy, Debug, Default, PartialEq, Eq)]
+pub struct Place {
+    pub start: usize,
+    pub length: usize,
+}
+
+impl Place {
+    pub fn of(self, text: &[u8]) -> &[u8] {
+        &text[self.start..self.start + self.length]
+    }
+}
+
+#[derive(Clone, Copy, Debug, PartialEq, Eq)]
+pub struct Reading {
+    pub kind: u8,
+    pub exact: bool,
+    pub first: Place,
+    pub second: Place,
+    pub numbers: [u64; 2],
+}
+
+impl Reading {
+    /// The reading for the node.
+    pub fn bytes(&self) -> [u8; 26] {
+        let mut bytes = vec![self.kind, u8::from(self.exact)];
+        for place in [self.first, self.second] {
+            bytes.extend((place.start as u16).to_be_bytes());
+            bytes.extend((place.length as u16).to_be_bytes());
+        }
+        bytes.extend(self.numbers.iter().flat_map(|n| n.to_be_bytes()));
+        bytes.try_into().unwrap()
+    }
+
+    fn key(&self, text: &[u8]) -> Vec<u8> {
+        joined(
+            KINDS[usize::from(self.kind) - 1],
+            self.first.of(text),
+            self.second.of(text),
+            self.numbers,
+        )
+    }
+}
+
+/// Reading, in the order of refusals 1, 2, 3.
+pub fn read(text: &[u8]) -> Result<Reading, Refusal> {
+    read_with_key(text).map(|(reading, _)| reading)
+}
+
+/// Reading, with the rendering of the text. It fits at most one kind: a second fit stops the run.
+pub fn read_with_key(text: &[u8]) -> Result<(Reading, Vec<u8>), Refusal> {
+    hold(text.len() <= MOST, TOO_LONG)?;
+    ascii(text)?;
+    let places = cut(text);
+    let mut fits = (1..=19).filter_map(|kind| fit(kind, text, &places));
+    let mut reading = fits.next().ok_or(NOT_A_PATH)?;
+    assert_eq!(fits.next(), None, "two kinds: {}", text.escape_ascii());
+    let key = reading.key(text);
+    reading.exact = key == text;
+    Ok((reading, key))
+}
+
+/// The parts of a text between its slashes, empty ones too.
+fn cut(text: &[u8]) -> Vec<Place> {
+    let mut start = 0;
+    text.split(|b| *b == b'/')
+        .map(|part| {
+            let place = Place { start, length: part.len() };
+            start += part.len() + 1;
+            place
+        })
+        .collect()
+}
+
+/// The reading of a text as this kind, its mark not yet set.
+fn fit(kind: u8, text: &[u8], places: &[Place]) -> Option<Reading> {
+    let shape = KINDS[usize::from(kind) - 1];
+    if shape.len() != places.len() {
+        return None;
+    }
+    let none = Place::default();
+    let mut reading = Reading { kind, exact: false, first: none, second: none, numbers: [0, 0] };
+    for (part, place) in shape.iter().zip(places) {
+        let bytes = place.of(text);
+        match part {
+            Word(word) => (bytes == word.as_bytes()).then_some(())?,
+            First(identifier) => {
+                identifier.check(bytes).ok()?;
+                reading.first = *place;
+            }
+            Second(identifier) => {
+                identifier.check(bytes).ok()?;
+                reading.second = *place;
+            }
+            Upgrade => reading.first = *place,
+            Number => reading.numbers[0] = number(bytes)?,
+            Heights => reading.numbers = heights(bytes)?,
+        }
+    }
+    Some(reading)
+}
+
+/// R-h: two number texts around the one `-`.
+fn heights(text: &[u8]) -> Option<[u64; 2]> {
+    let mut halves = text.split(|b| *b == b'-');
+    let pair = [number(halves.next()?)?, number(halves.next()?)?];
+    halves.next().is_none().then_some(pair)
+}
+
+/// Rendering by kind and parts, in the order of refusals 14, first, second, 1.
+pub fn render(
+    kind: u8,
+    first: &[u8],
+    second: &[u8],
+    numbers: [u64; 2],
+) -> Result<Vec<u8>, Refusal> {
+    let shape = shape(kind)?;
+    for part in shape {
+        match part {
+            First(identifier) => identifier.check(first)?,
+            Second(identifier) => identifier.check(second)?,
+            Upgrade => segment(first)?,
+            Word(_) | Number | Heights => {}
+        }
+    }
+    let text = joined(shape, first, second, numbers);
+    hold(text.len() <= MOST, TOO_LONG)?;
+    Ok(text)
+}
+
+fn segment(upgrade: &[u8]) -> Result<(), Refusal> {
+    hold(upgrade.is_ascii(), NOT_ASCII)?;
+    hold(!upgrade.contains(&b'/'), BAD_SEGMENT)
+}
+
+fn joined(shape: &[Part], first: &[u8], second: &[u8], [a, b]: [u64; 2]) -> Vec<u8> {
+    let shown = |part: &Part| match part {
+        Word(word) => word.as_bytes().to_vec(),
+        First(_) | Upgrade => first.to_vec(),
+        Second(_) => second.to_vec(),
+        Number => a.to_string().into_bytes(),
+        Heights => format!("{a}-{b}").into_bytes(),
+    };
+    shape.iter().map(shown).collect::<Vec<_>>().join(&b'/')
+}
+
+pub fn is_provable(kind: u8) -> Result<bool, Refusal> {
+    shape(kind).map(|_| kind != 8 && kind != 10)
+}
+
+pub fn iteration_key(number: u64, height: u64) -> Vec<u8> {
+    [&b"iterateConsensusStates"[..], &number.to_be_bytes(), &height.to_be_bytes()].concat()
+}
+
+/// `clients/C/consensusStates`.
+pub fn consensus_state_parent(client: &[u8]) -> Result<Vec<u8>, Refusal> {
+    Identifier::Client.check(client)?;
+    Ok([&b"clients/"[..], client, b"/consensusStates"].concat())
+}
+
+/// `consensusStates/R-h`, and what follows it.
+pub fn consensus_state_leaf(number: u64, height: u64, after: &str) -> Vec<u8> {
+    format!("consensusStates/{number}-{height}{after}").into_bytes()
+}
+
+/// The text above all sequences of a channel, as `commitments/ports/P/channels/H/sequences`.
+pub fn sequences_path(word: &str, port: &[u8], channel: &[u8]) -> Result<Vec<u8>, Refusal> {
+    Identifier::Port.check(port)?;
+    Identifier::Channel.check(channel)?;
+    Ok([word.as_bytes(), b"/ports/", port, b"/channels/", channel, b"/sequences"].concat())
+}

@@ -1,0 +1,69 @@
+//! Document 01's rows, asked of the model and of the original as it runs.
+use std::str::FromStr;
+
+use ibc_core_host_types::error::IdentifierError;
+use ibc_core_host_types::identifiers::{ChannelId, ClientId, ConnectionId, PortId};
+use ibc_core_host_types::terms::{self, Answer};
+use ibc_core_host_types::validate::validate_client_type;
+use model::identifier::Identifier;
+use model::{path, table};
+
+#[test]
+fn paths() {
+    for (text, outcome) in table::paths() {
+        assert_eq!(path::read(text.as_bytes()), outcome, "{text}");
+        match (terms::read(&text), outcome) {
+            (Answer::Path(path), Ok(reading)) => {
+                let parts = terms::parts(&path);
+                assert_eq!((parts.kind, parts.numbers), (reading.kind, reading.numbers), "{text}");
+                assert_eq!(parts.first.as_bytes(), reading.first.of(text.as_bytes()), "{text}");
+                assert_eq!(path.to_string() == text, reading.exact, "{text}");
+            }
+            (Answer::Refused, Err(_)) => {}
+            (Answer::Panic, Err(_)) if text == "clients" => {}
+            (answer, _) => panic!("{text}: {answer:?}"),
+        }
+    }
+}
+
+#[test]
+fn identifiers() {
+    fn number<T>(read: Result<T, IdentifierError>) -> Result<(), u8> {
+        read.map(|_| ()).map_err(|e| e.number())
+    }
+    for (identifier, id, outcome) in table::identifiers() {
+        assert_eq!(identifier.check(id.as_bytes()), outcome, "{id}");
+        let theirs = match identifier {
+            Identifier::Client => number(ClientId::from_str(&id)),
+            Identifier::ClientType => number(validate_client_type(&id)),
+            Identifier::Connection => number(ConnectionId::from_str(&id)),
+            Identifier::Port => number(PortId::from_str(&id)),
+            Identifier::Channel => number(ChannelId::from_str(&id)),
+        };
+        assert_eq!(theirs, outcome, "{id}");
+    }
+}
+
+/// The longest rendering outside 18 and 19 is 251 bytes.
+#[test]
+fn longest() {
+    let port = [b'p'; 128];
+    let channel = [&b"channel-+"[..], &[b'0'; 55]].concat();
+    let longest = (1..=17)
+        .filter_map(|kind| path::render(kind, &port, &channel, [u64::MAX; 2]).ok())
+        .map(|text| text.len())
+        .max();
+    assert_eq!(longest, Some(251));
+}
+
+#[test]
+fn iteration_keys_compare_as_pairs() {
+    let corners = [0, 1, 9, 10, 255, 256, 65_535, 1 << 32, 1 << 63, u64::MAX - 1, u64::MAX];
+    let pairs: Vec<_> = corners.iter().flat_map(|a| corners.map(|b| (*a, b))).collect();
+    let key = |(number, height)| path::iteration_key(number, height);
+    for left in &pairs {
+        for right in &pairs {
+            assert_eq!(key(*left).cmp(&key(*right)), left.cmp(right), "{left:?} {right:?}");
+        }
+    }
+}
