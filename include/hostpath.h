@@ -68,8 +68,6 @@ struct hp_written hp_client_id_new(const uint8_t *client_type, size_t client_typ
 /* `channel-` and the counter: 4. */
 struct hp_written hp_channel_id_new(uint64_t counter, uint8_t *out, size_t out_len);
 
-#ifdef HOSTPATH_PATHS
-
 /* Paths. */
 
 /* The reading in 26 bytes, high bytes first: kind; 1 exact or 0 loose; start and length of the first
@@ -114,8 +112,6 @@ struct hp_written hp_commitment_prefix(uint8_t *out, size_t out_len);
 struct hp_written hp_ack_prefix(uint8_t *out, size_t out_len);
 /* `receipts`: 4. */
 struct hp_written hp_receipt_prefix(uint8_t *out, size_t out_len);
-
-#endif
 
 #ifdef __cplusplus
 }

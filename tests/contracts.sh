@@ -32,7 +32,7 @@ sed 's/#.*//' crates.txt | awk -F: 'NF { gsub(/[ \t]/, "", $1); print $1 }' | wh
 done | sort >"$work/source"
 
 # The rows: function | definition | uniqueness lemma | wrong answer | wrong answer
-grep '^| `' docs/CONTRACTS.md >"$work/rows"
+grep -E '^\| `[a-z_]+::' docs/CONTRACTS.md >"$work/rows"
 cut -d '|' -f 2 "$work/rows" | tr -d '` *' | sort >"$work/named"
 
 while read -r name; do

@@ -75,7 +75,6 @@ static struct hp_written call(const struct request *q, uint8_t *out) {
     case VALIDATE_CHANNEL_IDENTIFIER: return number(hp_validate_channel_identifier(x, m));
     case CLIENT_ID_NEW: return hp_client_id_new(x, m, a, out, room);
     case CHANNEL_ID_NEW: return hp_channel_id_new(a, out, room);
-#ifdef HOSTPATH_PATHS
     case READ: {
         struct hp_written answer = number(hp_read(x, m, out, room));
         answer.length = answer.refusal ? 0 : 26;
@@ -103,7 +102,6 @@ static struct hp_written call(const struct request *q, uint8_t *out) {
     case COMMITMENT_PREFIX: return hp_commitment_prefix(out, room);
     case ACK_PREFIX: return hp_ack_prefix(out, room);
     case RECEIPT_PREFIX: return hp_receipt_prefix(out, room);
-#endif
     default: return number(255);
     }
 }

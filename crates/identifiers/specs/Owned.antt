@@ -8,16 +8,12 @@ use lib.ListN.{replicate}
 use Rattle.text.specs.Bytes.{bytes}
 use Rattle.text.specs.Number.{decimal}
 use Rattle.text.specs.Part.{ascii}
-use Rattle.text.specs.Put.{Wanted, refused, text, answer, left}
+use Rattle.text.specs.Put.{Wanted, text, accepted, answer, left}
 use Rattle.identifiers.specs.Check.{first, unless, checkOf, Rule, clientType}
 use Rattle.identifiers.specs.declared.client_id.MadeClientId.{MadeClientId}
 use Rattle.identifiers.specs.declared.connection_id.MadeConnectionId.{MadeConnectionId}
 use Rattle.identifiers.specs.declared.channel_id.MadeChannelId.{MadeChannelId}
 use Rattle.identifiers.specs.declared.port_id.MadePortId.{MadePortId}
-
--- the text, where the check accepts it
-abbrev pub accepted : ℕ → List ℕ → Wanted
-accepted n s = cond (eqb n 0) (text s) (refused n)
 
 -- an identifier as it is written
 unfoldable pub asWritten : Rule → List ℕ → Wanted

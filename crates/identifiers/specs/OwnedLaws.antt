@@ -17,11 +17,11 @@ use Rattle.text.specs.Number.{width, numeralOf, decimal}
 use Rattle.text.specs.NumberLaws.{by-tens, width-small, width-pos, width-u64, length-decimal, length-decimal-some, length-decimal-u64, decimal-small, decimal-more, Digit, decimal-first, read-decimal}
 use Rattle.text.specs.Part.{every, ascii, startsWith}
 use Rattle.text.specs.PartLaws.{every-append}
-use Rattle.text.specs.Put.{refused, text, refusal, done, answer, left}
+use Rattle.text.specs.Put.{refused, text, refusal, done, answer, left, accepted}
 use Rattle.text.specs.PutLaws.{put-zero, answer-fits, left-fits}
 use Rattle.identifiers.specs.Check.{first, unless, among, identifierByte, isValue, indexOf, namedOf, Rule, checkOf, client, clientType, channel}
 use Rattle.identifiers.specs.CheckLaws.{first-zero, index-short, index-other, accepted-bytes, accepted-length, accepted-by}
-use Rattle.identifiers.specs.Owned.{accepted, asWritten, blank, trimStart, keep, trimEnd, trim, newClient, zeros}
+use Rattle.identifiers.specs.Owned.{asWritten, blank, trimStart, keep, trimEnd, trim, newClient, zeros}
 
 -- ---- a text that is accepted, and one that is not
 pub accepted-some : (n : ℕ) (s : List ℕ) → (n ≡ 0 → ⊥) → accepted n s ≡ refused n

@@ -12,8 +12,7 @@ ghost use mathlib.Core.List.{_++_};
 ghost use lib.ListN.{length};
 ghost use Rattle.text.specs.Bytes.{bytes};
 ghost use Rattle.text.specs.Number.{decimal};
-ghost use Rattle.text.specs.Put.{text, answer, left};
-ghost use Rattle.identifiers.specs.Owned.{accepted};
+ghost use Rattle.text.specs.Put.{text, accepted, answer, left};
 
 // Copies the text into `out` where its check accepted it.
 fn write_accepted(refusal: u8, s: &[u8], out: &mut [u8]) -> Written

@@ -14,6 +14,25 @@ use Rattle.node.proofs.hp_validate_port_identifier.Reads as hp-validate
 use Rattle.node.proofs.hp_validate_channel_identifier.Reads as hp-validate-channel-identifier
 use Rattle.node.proofs.hp_client_id_new.Reads as hp-client-id-new
 use Rattle.node.proofs.hp_channel_id_new.Reads as hp-channel-id-new
+use Rattle.node.proofs.hp_read.Reads as hp-read
+use Rattle.node.proofs.hp_key.Reads as hp-key
+use Rattle.node.proofs.hp_render.Reads as hp-render
+use Rattle.node.proofs.hp_is_provable.Reads as hp-is-provable
+use Rattle.node.proofs.hp_iteration_key.Reads as hp-iteration-key
+use Rattle.node.proofs.hp_client_state_prefix.Reads as hp-client-state-prefix
+use Rattle.node.proofs.hp_client_state_leaf.Reads as hp-client-state-leaf
+use Rattle.node.proofs.hp_consensus_state_parent.Reads as hp-consensus-state-parent
+use Rattle.node.proofs.hp_consensus_state_leaf.Reads as hp-consensus-state-leaf
+use Rattle.node.proofs.hp_update_time_leaf.Reads as hp-update-time-leaf
+use Rattle.node.proofs.hp_update_height_leaf.Reads as hp-update-height-leaf
+use Rattle.node.proofs.hp_connection_prefix.Reads as hp-connection-prefix
+use Rattle.node.proofs.hp_channel_end_prefix.Reads as hp-channel-end-prefix
+use Rattle.node.proofs.hp_commitments_path.Reads as hp-commitments-path
+use Rattle.node.proofs.hp_acks_path.Reads as hp-acks-path
+use Rattle.node.proofs.hp_receipts_path.Reads as hp-receipts-path
+use Rattle.node.proofs.hp_commitment_prefix.Reads as hp-commitment-prefix
+use Rattle.node.proofs.hp_ack_prefix.Reads as hp-ack-prefix
+use Rattle.node.proofs.hp_receipt_prefix.Reads as hp-receipt-prefix
 
 pub one-hp-validate-identifier-chars : One hp-validate-identifier-chars.Post
 one-hp-validate-identifier-chars κs a r₁ r₂ s₁ s₂ p q = p ∙ sym q
@@ -47,3 +66,60 @@ one-hp-client-id-new κs a r₁ r₂ s₁ s₂ p q = (p .0 ∙ sym (q .0), p .1 
 
 pub one-hp-channel-id-new : OneWith hp-channel-id-new.Post (λ κs s. now (s .1 .0))
 one-hp-channel-id-new κs a r₁ r₂ s₁ s₂ p q = (p .0 ∙ sym (q .0), p .1 ∙ sym (q .1))
+
+pub one-hp-read : OneWith hp-read.Post (λ κs s. now (s .1 .0))
+one-hp-read κs a r₁ r₂ s₁ s₂ p q = (p .0 ∙ sym (q .0), p .1 ∙ sym (q .1))
+
+pub one-hp-key : OneWith hp-key.Post (λ κs s. now (s .1 .0))
+one-hp-key κs a r₁ r₂ s₁ s₂ p q = (p .0 ∙ sym (q .0), p .1 ∙ sym (q .1))
+
+pub one-hp-render : OneWith hp-render.Post (λ κs s. now (s .1 .1 .1 .1 .1 .0))
+one-hp-render κs a r₁ r₂ s₁ s₂ p q = (p .0 ∙ sym (q .0), p .1 ∙ sym (q .1))
+
+pub one-hp-is-provable : One hp-is-provable.Post
+one-hp-is-provable κs a r₁ r₂ s₁ s₂ p q = p ∙ sym q
+
+pub one-hp-iteration-key : OneWith hp-iteration-key.Post (λ κs s. now (s .1 .1 .0))
+one-hp-iteration-key κs a r₁ r₂ s₁ s₂ p q = (p .0 ∙ sym (q .0), p .1 ∙ sym (q .1))
+
+pub one-hp-client-state-prefix : OneWith hp-client-state-prefix.Post (λ κs s. now (s .0))
+one-hp-client-state-prefix κs a r₁ r₂ s₁ s₂ p q = (p .0 ∙ sym (q .0), p .1 ∙ sym (q .1))
+
+pub one-hp-client-state-leaf : OneWith hp-client-state-leaf.Post (λ κs s. now (s .0))
+one-hp-client-state-leaf κs a r₁ r₂ s₁ s₂ p q = (p .0 ∙ sym (q .0), p .1 ∙ sym (q .1))
+
+pub one-hp-consensus-state-parent : OneWith hp-consensus-state-parent.Post (λ κs s. now (s .1 .0))
+one-hp-consensus-state-parent κs a r₁ r₂ s₁ s₂ p q = (p .0 ∙ sym (q .0), p .1 ∙ sym (q .1))
+
+pub one-hp-consensus-state-leaf : OneWith hp-consensus-state-leaf.Post (λ κs s. now (s .1 .1 .0))
+one-hp-consensus-state-leaf κs a r₁ r₂ s₁ s₂ p q = (p .0 ∙ sym (q .0), p .1 ∙ sym (q .1))
+
+pub one-hp-update-time-leaf : OneWith hp-update-time-leaf.Post (λ κs s. now (s .1 .1 .0))
+one-hp-update-time-leaf κs a r₁ r₂ s₁ s₂ p q = (p .0 ∙ sym (q .0), p .1 ∙ sym (q .1))
+
+pub one-hp-update-height-leaf : OneWith hp-update-height-leaf.Post (λ κs s. now (s .1 .1 .0))
+one-hp-update-height-leaf κs a r₁ r₂ s₁ s₂ p q = (p .0 ∙ sym (q .0), p .1 ∙ sym (q .1))
+
+pub one-hp-connection-prefix : OneWith hp-connection-prefix.Post (λ κs s. now (s .0))
+one-hp-connection-prefix κs a r₁ r₂ s₁ s₂ p q = (p .0 ∙ sym (q .0), p .1 ∙ sym (q .1))
+
+pub one-hp-channel-end-prefix : OneWith hp-channel-end-prefix.Post (λ κs s. now (s .0))
+one-hp-channel-end-prefix κs a r₁ r₂ s₁ s₂ p q = (p .0 ∙ sym (q .0), p .1 ∙ sym (q .1))
+
+pub one-hp-commitments-path : OneWith hp-commitments-path.Post (λ κs s. now (s .1 .1 .0))
+one-hp-commitments-path κs a r₁ r₂ s₁ s₂ p q = (p .0 ∙ sym (q .0), p .1 ∙ sym (q .1))
+
+pub one-hp-acks-path : OneWith hp-acks-path.Post (λ κs s. now (s .1 .1 .0))
+one-hp-acks-path κs a r₁ r₂ s₁ s₂ p q = (p .0 ∙ sym (q .0), p .1 ∙ sym (q .1))
+
+pub one-hp-receipts-path : OneWith hp-receipts-path.Post (λ κs s. now (s .1 .1 .0))
+one-hp-receipts-path κs a r₁ r₂ s₁ s₂ p q = (p .0 ∙ sym (q .0), p .1 ∙ sym (q .1))
+
+pub one-hp-commitment-prefix : OneWith hp-commitment-prefix.Post (λ κs s. now (s .0))
+one-hp-commitment-prefix κs a r₁ r₂ s₁ s₂ p q = (p .0 ∙ sym (q .0), p .1 ∙ sym (q .1))
+
+pub one-hp-ack-prefix : OneWith hp-ack-prefix.Post (λ κs s. now (s .0))
+one-hp-ack-prefix κs a r₁ r₂ s₁ s₂ p q = (p .0 ∙ sym (q .0), p .1 ∙ sym (q .1))
+
+pub one-hp-receipt-prefix : OneWith hp-receipt-prefix.Post (λ κs s. now (s .0))
+one-hp-receipt-prefix κs a r₁ r₂ s₁ s₂ p q = (p .0 ∙ sym (q .0), p .1 ∙ sym (q .1))

@@ -6,6 +6,7 @@ use Rattle.text.specs.Outcome.{One, OneWith}
 use Rattle.text.proofs.read_number.Reads as read-number
 use Rattle.text.proofs.number_width.Reads as number-width
 use Rattle.text.proofs.write_number.Reads as write-number
+use Rattle.text.proofs.write_big_endian.Reads as write-big-endian
 use Rattle.text.proofs.part.larger.Reads as larger
 use Rattle.text.proofs.part.all_ascii.Reads as all-ascii
 use Rattle.text.proofs.part.same_at.Reads as same-at
@@ -22,6 +23,9 @@ one-number-width κs a r₁ r₂ s₁ s₂ p q = p ∙ sym q
 
 pub one-write-number : OneWith write-number.Post (λ κs s. now (s .0))
 one-write-number κs a r₁ r₂ s₁ s₂ p q = (p .0 ∙ sym (q .0), p .1 ∙ sym (q .1))
+
+pub one-write-big-endian : OneWith write-big-endian.Post (λ κs s. now (s .0))
+one-write-big-endian κs a r₁ r₂ s₁ s₂ p q = (p .0 ∙ sym (q .0), p .1 ∙ sym (q .1))
 
 pub one-larger : One larger.Post
 one-larger κs a r₁ r₂ s₁ s₂ p q = p ∙ sym q

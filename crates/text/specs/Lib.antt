@@ -2,6 +2,8 @@
 pub mod Bytes
 pub mod Number
 pub mod NumberLaws
+pub mod Order
+pub mod OrderLaws
 pub mod Outcome
 pub mod Part
 pub mod PartLaws

@@ -3,16 +3,17 @@
 use mathlib.Core.Path.{_≡_, refl, sym, ap, _∙_}
 use mathlib.Core.Bool.{Bool, true, false, cond}
 use Prim.Native.Nat.{ℕ, zero, suc, _+_, _*_, _-_, _/_, _%_, _^_, _≤_, _<_}
-use native.Mathlib.Nat.{pow-suc, add-zero, le-refl}
+use native.Mathlib.Nat.{pow-suc, add-zero, zero-add, le-refl}
 use native.Mathlib.Decide.{decLt}
 use native.Mathlib.Numerals.{add-one}
 use native.Mathlib.Omega.{arith}
 use mathlib.Core.List.{List, [], _∷_, _++_, append-assoc, append-nil}
-use lib.Dec.{ltb, eqb}
+use lib.Dec.{ltb, leb, eqb}
 use lib.ListN.{length, getD, length-append, List·getD-append}
 use lib.Seq.{getD-at}
-use borrow.Author.Tests.{lt-ltb, le-ltb, le-leb, lt-leb, ne-eqb, ltb-true}
-use Rattle.text.specs.Number.{numeralOf, digitsAt, digitsFrom, isDigit, withDigit, width, widthBy, digits, decimal}
+use borrow.Author.Tests.{lt-ltb, le-ltb, le-leb, lt-leb, ne-eqb, ltb-true, leb-true}
+use Rattle.text.specs.PartLaws.{and-left, and-right}
+use Rattle.text.specs.Number.{numeralOf, digitsAt, digitsFrom, isDigit, withDigit, width, widthBy, digits, decimal, bigEndian}
 use Rattle.text.specs.declared.Numeral.{Numeral}
 use Rattle.text.specs.declared.Numeral.the-variants.{Value, NoDigits, NotADigit, TooLarge}
 
@@ -175,3 +176,47 @@ pub numeral-fits : (s : List ℕ) (n : ℕ) → numeralOf s ≡ Value n → n < 
 unfolding numeralOf
 numeral-fits [] n h = let z : _≡_ {A = ℕ} 0 1 = cc in omega arith
 numeral-fits (b ∷ s) n h = either-fits (eqb b 43) _ _ n (digitsAt-fits s 1 n) (digitsAt-fits (b ∷ s) 0 n) h
+
+-- ---- what is written of a number is no longer than a text that reads as it
+-- d is no longer than c, and it is c where it is as long
+abbrev pub NoLonger : List ℕ → List ℕ → Type 0
+NoLonger d c = (length d ≤ length c) × (length d ≡ length c → d ≡ c)
+
+-- k digits with the value v, and the digits s after them, are the digits of what they read as
+digits-back : (k v i : ℕ) (s : List ℕ) (n : ℕ) → v < 10 ^ k → digitsFrom v i s ≡ Value n → (n < 10 ^ (k + length s)) × (digits (k + length s) n ≡ digits k v ++ s)
+unfolding digits digitsFrom
+digits-back k v i [] n u h = let e : v ≡ n = cc in (rw (add-zero, ← e) u, rw (add-zero, append-nil, e))
+digits-back k v i (b ∷ s) n u h =
+    let digit = cond-is (isDigit b) _ _ n h (letter-is-none i n) in
+    let small = cond-is (ltb (withDigit v b) (2 ^ 64)) _ _ n (digit .1) (large-is-none i n) in
+    let low : 48 ≤ b = leb-true 48 b (and-left (leb 48 b) (leb b 57) (digit .0)) in
+    let high : b ≤ 57 = leb-true b 57 (and-right (leb 48 b) (leb b 57) (digit .0)) in
+    let back = digits-back (suc k) (withDigit v b) (i + 1) s n (omega (arith, pow-suc 10 k)) (small .1) in
+    let more : suc k + length s ≡ k + suc (length s) = omega arith in
+    let tens : withDigit v b / 10 ≡ v = omega arith in
+    let ones : 48 + withDigit v b % 10 ≡ b = omega arith in
+    (rw more at (back .0), rw (more, tens, ones, append-assoc) at (back .1))
+
+digitsAt-no-longer : (i : ℕ) (s : List ℕ) (n : ℕ) → digitsAt i s ≡ Value n → NoLonger (decimal n) s
+unfolding digitsAt decimal digits
+digitsAt-no-longer i [] n h = let z : _≡_ {A = ℕ} 0 1 = cc in absurd (omega arith)
+digitsAt-no-longer i (b ∷ s) n h =
+    let back = digits-back 0 0 i (b ∷ s) n (omega arith) h in
+    let w : width n ≤ suc (length s) = width-within (length s) n (rw zero-add at (back .0)) in
+    (omega (arith, length-decimal n), λ e. let f : width n ≡ suc (length s) = omega (arith, length-decimal n) in rw f (rw zero-add at (back .1)))
+
+-- a sign makes the text longer
+pub decimal-no-longer : (c : List ℕ) (n : ℕ) → numeralOf c ≡ Value n → NoLonger (decimal n) c
+unfolding numeralOf
+decimal-no-longer [] n h = let z : _≡_ {A = ℕ} 0 1 = cc in absurd (omega arith)
+decimal-no-longer (b ∷ s) n h = go (eqb b 43) h
+  where
+    go : (v : Bool) → cond v (digitsAt 1 s) (digitsAt 0 (b ∷ s)) ≡ Value n → NoLonger (decimal n) (b ∷ s)
+    go true k = let l = digitsAt-no-longer 1 s n k .0 in (omega arith, λ e. absurd (omega arith))
+    go false k = digitsAt-no-longer 0 (b ∷ s) n k
+
+-- ---- bytes, high byte first
+pub length-big : (n v : ℕ) → length (bigEndian n v) ≡ n
+unfolding bigEndian
+length-big zero v = refl
+length-big (suc n) v = rw length-append (omega (arith, length-big n (v / 256)))

@@ -84,6 +84,20 @@ ascii-top s = every-top (λ b. ltb b 128) (λ b. b) 128 (λ b. refl) (omega arit
 pub part-rest : (n : ℕ) (s : List ℕ) → take (length s - n) (drop n s) ≡ drop n s
 part-rest n s = take-all (length s - n) (drop n s) (rw length-drop (le-refl _))
 
+-- one turn of a loop that tests each byte
+module _ (f : ℕ → Bool) (s : List ℕ) (i : ℕ) where
+  pub every-none : length s ≤ i → every f (drop i s) ≡ true
+  unfolding every
+  every-none h = rw (drop-of-length-le s h)
+
+  pub every-stop : i < length s → f (getD s i 0) ≡ false → every f (drop i s) ≡ false
+  unfolding every
+  every-stop h e = rw (drop-cons s i 0 h, e)
+
+  pub every-more : i < length s → f (getD s i 0) ≡ true → every f (drop i s) ≡ every f (drop (i + 1) s)
+  unfolding every
+  every-more h e = rw (drop-cons s i 0 h, e, add-one)
+
 -- ---- a text that is shorter than w does not start with w
 pub starts-short : (w s : List ℕ) → length s < length w → startsWith w s ≡ false
 unfolding startsWith

@@ -3,7 +3,7 @@
 use Prim.Native.Nat.{ℕ, _+_}
 use mathlib.Core.Bool.{Bool, cond}
 use mathlib.Core.List.{List, _++_}
-use lib.Dec.{leb}
+use lib.Dec.{eqb, leb}
 use lib.ListN.{length, take, drop}
 use Rattle.text.specs.declared.Written.{Written}
 
@@ -21,6 +21,10 @@ refusal n = record { refusal = n; length = 0 }
 
 abbrev pub done : ℕ → Written
 done n = record { refusal = 0; length = n }
+
+-- the text, where a check gives 0, and else what it refuses with
+abbrev pub accepted : ℕ → List ℕ → Wanted
+accepted n w = cond (eqb n 0) (text w) (refused n)
 
 -- the answer, where the buffer has room for that many bytes: 4 where that is too little
 unfoldable pub answer : Wanted → ℕ → Written

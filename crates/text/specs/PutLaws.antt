@@ -60,6 +60,13 @@ put-then out at a b o o′ p e q h f = f ∙ rw (e, q) (put-put out at a b h)
 pub put-next : (out : List ℕ) (p : ℕ) (a rest out′ : List ℕ) (p′ : ℕ) → p + length a ≤ length out → p′ ≡ p + length a → out′ ≡ put out p a → put out p (a ++ rest) ≡ put out′ p′ rest
 put-next out p a rest out′ p′ h q e = rw (e, q) (sym (put-put out p a rest h))
 
+-- two texts written one after the other, and a third still to come: the three from the first place on
+pub put-two :
+    (out : List ℕ) (p : ℕ) (a b t o o′ : List ℕ) (q r : ℕ) → o ≡ put out p a → q ≡ p + length a → o′ ≡ put o q b → r ≡ q + length b → r ≤ length out → put out p (a ++ (b ++ t)) ≡ put o′ r t
+put-two out p a b t o o′ q r e x f y h =
+    let l : length o ≡ length out = ap length e ∙ length-put out p a (omega arith) in
+    put-next out p a (b ++ t) o q (omega arith) x e ∙ put-next o q b t o′ r (omega arith) y f
+
 -- `out` up to place at + i, then `src` from i on, then `out` from place e on: one turn of a copying loop
 module _ (out src : List ℕ) (at i e : ℕ) where
   pub copy-none : length src ≤ i → at + i ≡ e → take (at + i) out ++ (drop i src ++ drop e out) ≡ out
@@ -67,6 +74,15 @@ module _ (out src : List ℕ) (at i e : ℕ) where
 
   pub copy-more : i < length src → at + i < length out → at + i < e → take (at + i) out ++ (drop i src ++ drop e out) ≡ take (at + (i + 1)) (set out (at + i) (getD src i 0)) ++ (drop (i + 1) src ++ drop e (set out (at + i) (getD src i 0)))
   copy-more h l q = rw (drop-cons src i 0 h, add-one, add-suc, take-suc-set out (at + i) (getD src i 0) l, append-assoc, drop-set-lt e out (at + i) (getD src i 0) q)
+
+-- a refusal
+pub answer-refused : (n room : ℕ) → answer (refused n) room ≡ refusal n
+unfolding answer
+answer-refused n room = refl
+
+pub left-refused : (n : ℕ) (out : List ℕ) → left (refused n) out ≡ out
+unfolding left
+left-refused n out = refl
 
 -- a text that fits, and one that does not
 module _ (w : List ℕ) where

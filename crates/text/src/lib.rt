@@ -6,7 +6,7 @@ pub mod refusal;
 ghost use mathlib.Core.Path.{_≡_};
 ghost use Prim.Native.Nat.{_+_, _≤_};
 ghost use lib.ListN.{length, drop};
-ghost use Rattle.text.specs.Number.{numeralOf, digitsAt, width, decimal};
+ghost use Rattle.text.specs.Number.{numeralOf, digitsAt, width, decimal, bigEndian};
 ghost use Rattle.text.specs.Put.{put};
 
 // What a text says as a number. A fault names its place in the text.
@@ -94,4 +94,20 @@ pub fn write_number(out: &mut [u8], at: usize, n: u64) -> usize
         m = m / 10;
     }
     at + w
+}
+
+// Writes `width` bytes of v from out[at] on, high byte first, and returns the place after them.
+pub fn write_big_endian(out: &mut [u8], at: usize, v: u64, width: usize) -> usize
+    requires { ⌜ at + width ≤ length (now out) ⌝ }
+    ensures { λ r. ⌜ r ≡ at + width ⌝ }
+    ensures { λ _. ⌜ now (out .exit) ≡ put (now (out .entry)) at (bigEndian width v) ⌝ }
+{
+    let mut j = width;
+    let mut m = v;
+    while 0 < j {
+        j -= 1;
+        out[at + j] = (m % 256) as u8;
+        m = m / 256;
+    }
+    at + width
 }

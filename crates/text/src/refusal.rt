@@ -16,3 +16,7 @@ pub const BAD_LENGTH: u8 = 6;
 pub const BAD_PREFIX: u8 = 7;
 
 pub const BAD_NUMBER: u8 = 8;
+
+pub const BAD_SEGMENT: u8 = 13;
+
+pub const BAD_KIND: u8 = 14;

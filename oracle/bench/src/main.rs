@@ -3,12 +3,10 @@
 //! rounds' ratios.
 mod family;
 mod identifiers;
-#[cfg(feature = "paths")]
 mod paths;
 
 fn main() {
     let families = identifiers::families();
-    #[cfg(feature = "paths")]
     let families = families.into_iter().chain(paths::families());
     for family in families {
         println!("{:40} {:6.2}", family.name, family.ratio());

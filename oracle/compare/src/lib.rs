@@ -7,9 +7,7 @@ pub mod identifiers;
 #[cfg_attr(feature = "linked", path = "linked.rs")]
 #[cfg_attr(not(feature = "linked"), path = "served.rs")]
 pub mod library;
-#[cfg(feature = "paths")]
 pub mod paths;
-#[cfg(feature = "paths")]
 pub mod renderings;
 pub mod set;
 
@@ -35,8 +33,6 @@ pub type Sets = &'static [(&'static str, fn(&mut set::Set, Size))];
 /// The families of sets that this build can run.
 pub const FAMILIES: &[Sets] = &[
     identifiers::SETS,
-    #[cfg(feature = "paths")]
     paths::SETS,
-    #[cfg(feature = "paths")]
     renderings::SETS,
 ];

@@ -59,14 +59,10 @@ fn answer(call: &Call, out: &mut [u8]) -> Returned {
         Function::ValidateChannelIdentifier => number(hostpath::validate_channel_identifier(first)),
         Function::ClientIdNew => written(hostpath::client_id_new(first, a, out)),
         Function::ChannelIdNew => written(hostpath::channel_id_new(a, out)),
-        #[cfg(feature = "paths")]
         _ => answer_path(call, out),
-        #[cfg(not(feature = "paths"))]
-        _ => panic!("{call} is a call of the feature paths"),
     }
 }
 
-#[cfg(feature = "paths")]
 fn answer_path(call: &Call, out: &mut [u8]) -> Returned {
     let Call { function, kind, texts: [first, second], numbers: [a, b] } = *call;
     match function {

@@ -10,10 +10,8 @@
 
 mod answer;
 mod identifiers;
-#[cfg(feature = "paths")]
 mod paths;
 
 pub use answer::{Flag, Pair, Refusal, Written};
 pub use identifiers::*;
-#[cfg(feature = "paths")]
 pub use paths::*;

@@ -21,7 +21,6 @@ fn writers() {
     assert_eq!(&out, b"channel-7...");
 }
 
-#[cfg(feature = "paths")]
 #[test]
 fn paths() {
     let text = b"clients/07-tendermint-4/consensusStates/007-+2";

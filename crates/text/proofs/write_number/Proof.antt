@@ -1,20 +1,17 @@
 -- `text::write_number` meets its contract.
 -- Assumes nothing.
-use mathlib.Core.Path.{_≡_, refl, sym, ap, _∙_}
+use mathlib.Core.Path.{_≡_, refl, sym, _∙_}
 use mathlib.Core.List.{_++_}
-use Prim.Native.Nat.{ℕ, _+_, _≤_, _<_, _-_, _^_}
+use Prim.Native.Nat.{_+_, _≤_, _-_, _/_, _%_}
 use borrow.Author.Needs.{needs}
 use native.Mathlib.Omega.{arith}
-use lib.ListN.{length, take, drop, length-set}
+use lib.ListN.{length, take, drop}
 use Rattle.text.specs.Number.{width, digits, decimal}
 use Rattle.text.specs.NumberLaws.{length-decimal, length-digits}
 use Rattle.text.specs.Put.{put}
 use Rattle.text.proofs.Steps as steps
 use Rattle.text.proofs.write_number.Statement.{statement}
 use Rattle.text.proofs.write_number.Tie as tie
-use Rattle.text.proofs.write_number.Reads as reads
-use Rattle.text.proofs.write_number.Lts as lts
-use Rattle.text.proofs.number_width.Reads as number-width-reads
 
 -- the text that is to be there is what stands there, with the j digits that are left put in
 abbrev Inv-loop : tie.InvT-loop
@@ -25,52 +22,40 @@ Inv-loop out₀ at n w j₀ m₀ out j m =
 abbrev μ-loop : tie.MeasureT-loop
 μ-loop out₀ at n w j₀ m₀ out j m = j
 
--- src/lib.rt:77:9
 number-width-requires : tie.Need-number-width-requires Inv-loop μ-loop
 number-width-requires c κs = search needs
 
--- src/lib.rt:80:5
 loop-holds : tie.Need-loop-holds Inv-loop μ-loop
 loop-holds c = let fits = length-decimal (c .before .before .args .n) in (search needs, refl)
 
--- src/lib.rt:81:9
 sub-j : tie.Need-sub-j Inv-loop μ-loop
 sub-j c = search needs
 
--- src/lib.rt:82:28
 cast-out : tie.Need-cast-out Inv-loop μ-loop
 cast-out c = search needs
 
--- src/lib.rt:82:23
 add-out : tie.Need-add-out Inv-loop μ-loop
 add-out c = search needs
 
--- src/lib.rt:82:13
 add-out-2 : tie.Need-add-out-2 Inv-loop μ-loop
 add-out-2 c = search needs
 
--- src/lib.rt:82:9
 slice-write-out : tie.Need-slice-write-out Inv-loop μ-loop
 slice-write-out c = search needs
 
--- src/lib.rt:80:5
 loop-less : tie.Need-loop-less Inv-loop μ-loop
 loop-less c = search needs
 
--- src/lib.rt:80:5
 loop-again : tie.Need-loop-again Inv-loop μ-loop
 loop-again c =
-    let l = c .before .loop in (search needs, l .inv .1 ∙ steps.put-last (l .out) (c .before .before .before .before .args .at) (l .j) (l .m) (l .j - 1) (omega arith) (omega arith))
+    let l = c .before .loop in (search needs, l .inv .1 ∙ steps.put-last digits (λ m. 48 + m % 10) (λ m. m / 10) steps.digits-nil steps.digits-snoc (l .out) (c .before .before .before .before .args .at) (l .j) (l .m) (l .j - 1) (omega arith) (omega arith))
 
--- src/lib.rt:85:5
 add-result : tie.Need-add-result Inv-loop μ-loop
 add-result c = search needs
 
--- src/lib.rt:72:1
 same-length : tie.Need-same-length Inv-loop μ-loop
 same-length c = search needs
 
--- src/lib.rt:72:1
 returns : tie.Need-returns Inv-loop μ-loop
 unfolding decimal put
 returns c =
@@ -78,7 +63,7 @@ returns c =
     let l = c .before .loop in
     let w = c .before .before .number-width .ensures in
     let e = length-digits (width (a .n)) (a .n) in
-    (omega arith, rw (e, ← w) (sym (l .inv .1 ∙ steps.put-none (l .out) (a .at) (l .j) (l .m) (omega arith))))
+    (omega arith, rw (e, ← w) (sym (l .inv .1 ∙ steps.put-none digits (λ m. 48 + m % 10) (λ m. m / 10) steps.digits-nil steps.digits-snoc (l .out) (a .at) (l .j) (l .m) (omega arith))))
 
 pub write-number-spec : {M : Type 1} → statement M
 write-number-spec =

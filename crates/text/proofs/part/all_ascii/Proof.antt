@@ -7,9 +7,6 @@ use borrow.Author.Needs.{needs}
 use native.Mathlib.Omega.{arith}
 use Rattle.text.proofs.part.all_ascii.Statement.{statement}
 use Rattle.text.proofs.part.all_ascii.Tie as tie
-use Rattle.text.proofs.part.all_ascii.Reads as reads
-use Rattle.text.proofs.part.all_ascii.Lts as lts
-use Rattle.text.proofs.part.larger.Reads as larger-reads
 
 abbrev Inv-loop : tie.InvT-loop
 Inv-loop s top₀ i₀ top i = (i ≤ length s) × (largest (λ b. b) 0 s ≡ largest (λ b. b) top (drop i s))
@@ -17,34 +14,27 @@ Inv-loop s top₀ i₀ top i = (i ≤ length s) × (largest (λ b. b) 0 s ≡ la
 abbrev μ-loop : tie.MeasureT-loop
 μ-loop s top₀ i₀ top i = length s - i
 
--- src/part.rt:20:5
 loop-holds : tie.Need-loop-holds Inv-loop μ-loop
 loop-holds c = search needs
 
--- src/part.rt:21:27
 shared-slice-read-larger : tie.Need-shared-slice-read-larger Inv-loop μ-loop
 shared-slice-read-larger c = search needs
 
--- src/part.rt:21:9
 larger-requires : tie.Need-larger-requires Inv-loop μ-loop
 larger-requires c κs = search needs
 
--- src/part.rt:22:9
 add-i : tie.Need-add-i Inv-loop μ-loop
 add-i c = search needs
 
--- src/part.rt:20:5
 loop-less : tie.Need-loop-less Inv-loop μ-loop
 loop-less c = search needs
 
--- src/part.rt:20:5
 loop-again : tie.Need-loop-again Inv-loop μ-loop
 loop-again c =
     let l = c .before .before .before .loop in
     let s = c .before .before .before .before .before .args .s .now in
     (search needs, l .inv .1 ∙ top-more (λ b. b) (l .top) s (l .i) (omega arith) ∙ ap (λ v. largest (λ b. b) v (drop (l .i + 1) s)) (sym (c .larger .ensures)))
 
--- src/part.rt:15:1
 returns : tie.Need-returns Inv-loop μ-loop
 returns c =
     let l = c .before .loop in

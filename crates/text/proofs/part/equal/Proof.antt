@@ -1,23 +1,16 @@
-use native.Mathlib.Omega.{arith}
-use mathlib.Core.Path.{_≡_, sym, ap, _∙_}
+use mathlib.Core.Path.{sym, ap, _∙_}
 use lib.ListN.{length}
 use Rattle.text.specs.PartLaws.{same-not, same-starts}
 use borrow.Author.Needs.{needs}
 use Rattle.text.proofs.part.equal.Statement.{statement}
 use Rattle.text.proofs.part.equal.Tie as tie
-use Rattle.text.proofs.part.equal.Reads as reads
-use Rattle.text.proofs.part.equal.Lts as lts
-use Rattle.text.proofs.part.same_at.Reads as same-at-reads
 
--- src/part.rt:50:9
 returns : tie.Need-returns
 returns c = sym (same-not _ _ (λ e. c .if1 .taken (ap length e)))
 
--- src/part.rt:52:5
 same-at-requires : tie.Need-same-at-requires
 same-at-requires c κs = search needs
 
--- src/part.rt:46:1
 returns-2 : tie.Need-returns-2
 returns-2 c = c .same-at .ensures ∙ sym (same-starts _ _ (c .before .if1 .left))
 

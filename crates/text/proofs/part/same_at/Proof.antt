@@ -8,8 +8,6 @@ use borrow.Author.Needs.{needs}
 use native.Mathlib.Omega.{arith}
 use Rattle.text.proofs.part.same_at.Statement.{statement}
 use Rattle.text.proofs.part.same_at.Tie as tie
-use Rattle.text.proofs.part.same_at.Reads as reads
-use Rattle.text.proofs.part.same_at.Lts as lts
 
 abbrev Inv-loop : tie.InvT-loop
 Inv-loop s at w i₀ i = (i ≤ length w) × (startsWith w (drop at s) ≡ startsWith (drop i w) (drop (at + i) s))
@@ -17,47 +15,36 @@ Inv-loop s at w i₀ i = (i ≤ length w) × (startsWith w (drop at s) ≡ start
 abbrev μ-loop : tie.MeasureT-loop
 μ-loop s at w i₀ i = length w - i
 
--- src/part.rt:27:8
 sub-if1 : tie.Need-sub-if1 Inv-loop μ-loop
 sub-if1 c = search needs
 
--- src/part.rt:28:9
 returns : tie.Need-returns Inv-loop μ-loop
 returns c = sym (parts.starts-short _ _ (rw length-drop (omega arith)))
 
--- src/part.rt:31:5
 loop-holds : tie.Need-loop-holds Inv-loop μ-loop
 loop-holds c = (search needs, rw add-zero)
 
--- src/part.rt:32:14
 add-if2 : tie.Need-add-if2 Inv-loop μ-loop
 add-if2 c = search needs
 
--- src/part.rt:32:12
 shared-slice-read-if2 : tie.Need-shared-slice-read-if2 Inv-loop μ-loop
 shared-slice-read-if2 c = search needs
 
--- src/part.rt:32:25
 shared-slice-read-if2-2 : tie.Need-shared-slice-read-if2-2 Inv-loop μ-loop
 shared-slice-read-if2-2 c = search needs
 
--- src/part.rt:33:13
 returns-2 : tie.Need-returns-2 Inv-loop μ-loop
 returns-2 c = let l = c .before .before .before .before .loop in let a = c .before .before .before .before .before .before .args in sym (l .inv .1 ∙ parts.starts-other (a .w .now) (a .s .now) (a .at) (l .i) (omega arith) (omega arith) (c .if2 .taken))
 
--- src/part.rt:35:9
 add-i : tie.Need-add-i Inv-loop μ-loop
 add-i c = search needs
 
--- src/part.rt:31:5
 loop-less : tie.Need-loop-less Inv-loop μ-loop
 loop-less c = search needs
 
--- src/part.rt:31:5
 loop-again : tie.Need-loop-again Inv-loop μ-loop
 loop-again c = let l = c .before .before .before .before .loop in let a = c .before .before .before .before .before .before .args in (search needs, l .inv .1 ∙ parts.starts-more (a .w .now) (a .s .now) (a .at) (l .i) (omega arith) (omega arith) (c .if2 .left))
 
--- src/part.rt:23:1
 returns-3 : tie.Need-returns-3 Inv-loop μ-loop
 returns-3 c = let l = c .before .loop in let a = c .before .before .before .args in sym (l .inv .1 ∙ parts.starts-none (a .w .now) (a .s .now) (a .at) (l .i) (omega arith))
 

@@ -1,28 +1,21 @@
 use native.Mathlib.Omega.{arith}
-use mathlib.Core.Path.{_≡_, sym, ap, _∙_}
+use mathlib.Core.Path.{sym, ap, _∙_}
 use native.Mathlib.Nat.{zero-add}
 use Rattle.text.specs.Put.{done}
 use Rattle.text.specs.PutLaws.{answer-fits, answer-short, left-fits, left-short}
 use borrow.Author.Needs.{needs}
 use Rattle.text.proofs.put.give.Statement.{statement}
 use Rattle.text.proofs.put.give.Tie as tie
-use Rattle.text.proofs.put.give.Reads as reads
-use Rattle.text.proofs.put.give.Lts as lts
-use Rattle.text.proofs.put.write_text.Reads as write-text-reads
 
--- src/put.rt:40:9
 returns : tie.Need-returns
 returns c = (sym (answer-short _ _ (omega arith)), sym (left-short _ _ (omega arith)))
 
--- src/put.rt:45:9
 write-text-requires : tie.Need-write-text-requires
 write-text-requires c κs = search needs
 
--- src/put.rt:35:1
 same-length : tie.Need-same-length
 same-length c = search needs
 
--- src/put.rt:35:1
 returns-2 : tie.Need-returns-2
 returns-2 c =
     let w = c .before .before .write-text .ensures in

@@ -1,24 +1,17 @@
-use native.Mathlib.Omega.{arith}
 use Rattle.text.specs.PutLaws.{put-set}
 use borrow.Author.Needs.{needs}
 use Rattle.text.proofs.put.write_byte.Statement.{statement}
 use Rattle.text.proofs.put.write_byte.Tie as tie
-use Rattle.text.proofs.put.write_byte.Reads as reads
-use Rattle.text.proofs.put.write_byte.Lts as lts
 
--- src/put.rt:16:5
 slice-write-out : tie.Need-slice-write-out
 slice-write-out c = search needs
 
--- src/put.rt:17:5
 add-result : tie.Need-add-result
 add-result c = search needs
 
--- src/put.rt:11:1
 same-length : tie.Need-same-length
 same-length c = search needs
 
--- src/put.rt:11:1
 returns : tie.Need-returns
 returns c = (search needs, put-set _ _ _ (c .pre))
 

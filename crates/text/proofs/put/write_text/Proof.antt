@@ -9,8 +9,6 @@ use borrow.Author.Needs.{needs}
 use native.Mathlib.Omega.{arith}
 use Rattle.text.proofs.put.write_text.Statement.{statement}
 use Rattle.text.proofs.put.write_text.Tie as tie
-use Rattle.text.proofs.put.write_text.Reads as reads
-use Rattle.text.proofs.put.write_text.Lts as lts
 
 abbrev Inv-loop : tie.InvT-loop
 Inv-loop out₀ at src i₀ out i =
@@ -20,43 +18,33 @@ Inv-loop out₀ at src i₀ out i =
 abbrev μ-loop : tie.MeasureT-loop
 μ-loop out₀ at src i₀ out i = length src - i
 
--- src/part.rt:47:5
 loop-holds : tie.Need-loop-holds Inv-loop μ-loop
 loop-holds c = (search needs, rw add-zero)
 
--- src/part.rt:48:23
 shared-slice-read-out : tie.Need-shared-slice-read-out Inv-loop μ-loop
 shared-slice-read-out c = search needs
 
--- src/part.rt:48:13
 add-out : tie.Need-add-out Inv-loop μ-loop
 add-out c = search needs
 
--- src/part.rt:48:9
 slice-write-out : tie.Need-slice-write-out Inv-loop μ-loop
 slice-write-out c = search needs
 
--- src/part.rt:49:9
 add-i : tie.Need-add-i Inv-loop μ-loop
 add-i c = search needs
 
--- src/part.rt:47:5
 loop-less : tie.Need-loop-less Inv-loop μ-loop
 loop-less c = search needs
 
--- src/part.rt:47:5
 loop-again : tie.Need-loop-again Inv-loop μ-loop
 loop-again c = let l = c .before .before .loop in let a = c .before .before .before .args in (search needs, l .inv .1 ∙ puts.copy-more (l .out) (a .src .now) (a .at) (l .i) (a .at + length (a .src .now)) (omega arith) (omega arith) (omega arith))
 
--- src/part.rt:51:5
 add-result : tie.Need-add-result Inv-loop μ-loop
 add-result c = search needs
 
--- src/part.rt:41:1
 same-length : tie.Need-same-length Inv-loop μ-loop
 same-length c = search needs
 
--- src/part.rt:41:1
 returns : tie.Need-returns Inv-loop μ-loop
 unfolding put
 returns c = let l = c .before .loop in let a = c .before .before .args in (search needs, sym (l .inv .1 ∙ puts.copy-none (l .out) (a .src .now) (a .at) (l .i) (a .at + length (a .src .now)) (omega arith) (omega arith)))

@@ -1,0 +1,3 @@
+-- What the contract of `ask` cites.
+pub mod Answer
+pub mod AnswerLaws

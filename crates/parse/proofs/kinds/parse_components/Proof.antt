@@ -1,0 +1,143 @@
+-- `kinds::parse_components` meets its contract: the number of components picks the group, and the group is the kinds with that many parts.
+-- Assumes nothing.
+use mathlib.Core.Path.{sym, _∙_}
+use mathlib.Core.List.{[], _∷_}
+use lib.Dec.{lit<}
+use Rattle.parse.specs.CutLaws.{cut-components}
+use Rattle.path.specs.Kinds.{kind4, kind6, kind7, kind8, kind9, kind10, kind11, kind12, kind13, kind14, kind18, kind19}
+use Rattle.parse.specs.CountLaws.{groups, read-all, read-first, read-second, read-none}
+use borrow.Author.Needs.{needs}
+use Rattle.parse.proofs.kinds.parse_components.Statement.{statement}
+use Rattle.parse.proofs.kinds.parse_components.Tie as tie
+
+parse-next-sequence-requires : tie.Need-parse-next-sequence-requires
+parse-next-sequence-requires c κs = search needs
+
+returns : tie.Need-returns
+returns c =
+    let s = c .before .before .before in
+    let n = cut-components (s .args .text .now) (s .args .cut) 1 (s .pre .0) (c .before .if1 .taken) (lit< tt) in
+    read-all _ 1 n _ _ (groups .0) (c .parse-next-sequence .ensures)
+
+parse-connections-requires : tie.Need-parse-connections-requires
+parse-connections-requires c κs = search needs
+
+enum-told : tie.Need-enum-told
+enum-told c = search needs
+
+returns-2 : tie.Need-returns-2
+returns-2 c =
+    let s = c .before .before .before .before .before .before in
+    let n = cut-components (s .args .text .now) (s .args .cut) 2 (s .pre .0) (c .before .before .before .if2 .taken) (lit< tt) in
+    read-first _ 2 n (kind9 ∷ []) (kind10 ∷ []) (groups .1) _ _ (c .enum-told .given .1) (c .before .before .parse-connections .ensures)
+
+enum-told-2 : tie.Need-enum-told-2
+enum-told-2 c = search needs
+
+parse-ports-requires : tie.Need-parse-ports-requires
+parse-ports-requires c κs = search needs
+
+returns-3 : tie.Need-returns-3
+returns-3 c =
+    let s = c .before .before .before .before .before .before .before in
+    let n = cut-components (s .args .text .now) (s .args .cut) 2 (s .pre .0) (c .before .before .before .before .if2 .taken) (lit< tt) in
+    read-second _ 2 n (kind9 ∷ []) (kind10 ∷ []) (groups .1) _ (sym (c .before .enum-told2 .given .1) ∙ c .before .before .before .parse-connections .ensures) (c .parse-ports .ensures)
+
+parse-clients-requires : tie.Need-parse-clients-requires
+parse-clients-requires c κs = search needs
+
+enum-told-3 : tie.Need-enum-told-3
+enum-told-3 c = search needs
+
+returns-4 : tie.Need-returns-4
+returns-4 c =
+    let s = c .before .before .before .before .before .before .before in
+    let n = cut-components (s .args .text .now) (s .args .cut) 3 (s .pre .0) (c .before .before .before .if3 .taken) (lit< tt) in
+    read-first _ 3 n (kind4 ∷ kind8 ∷ []) (kind18 ∷ kind19 ∷ []) (groups .2) _ _ (c .enum-told3 .given .1) (c .before .before .parse-clients .ensures)
+
+enum-told-4 : tie.Need-enum-told-4
+enum-told-4 c = search needs
+
+parse-upgrades-requires : tie.Need-parse-upgrades-requires
+parse-upgrades-requires c κs = search needs
+
+returns-5 : tie.Need-returns-5
+returns-5 c =
+    let s = c .before .before .before .before .before .before .before .before in
+    let n = cut-components (s .args .text .now) (s .args .cut) 3 (s .pre .0) (c .before .before .before .before .if3 .taken) (lit< tt) in
+    read-second _ 3 n (kind4 ∷ kind8 ∷ []) (kind18 ∷ kind19 ∷ []) (groups .2) _ (sym (c .before .enum-told4 .given .1) ∙ c .before .before .before .parse-clients .ensures) (c .parse-upgrades .ensures)
+
+parse-consensus-states-requires : tie.Need-parse-consensus-states-requires
+parse-consensus-states-requires c κs = search needs
+
+returns-6 : tie.Need-returns-6
+returns-6 c =
+    let s = c .before .before .before .before .before .before in
+    let n = cut-components (s .args .text .now) (s .args .cut) 4 (s .pre .0) (c .before .if4 .taken) (lit< tt) in
+    read-all _ 4 n _ _ (groups .3) (c .parse-consensus-states .ensures)
+
+parse-updates-requires : tie.Need-parse-updates-requires
+parse-updates-requires c κs = search needs
+
+enum-told-5 : tie.Need-enum-told-5
+enum-told-5 c = search needs
+
+returns-7 : tie.Need-returns-7
+returns-7 c =
+    let s = c .before .before .before .before .before .before .before .before .before in
+    let n = cut-components (s .args .text .now) (s .args .cut) 5 (s .pre .0) (c .before .before .before .if5 .taken) (lit< tt) in
+    read-first _ 5 n (kind6 ∷ kind7 ∷ []) (kind11 ∷ kind12 ∷ kind13 ∷ kind14 ∷ []) (groups .4) _ _ (c .enum-told5 .given .1) (c .before .before .parse-updates .ensures)
+
+enum-told-6 : tie.Need-enum-told-6
+enum-told-6 c = search needs
+
+parse-channel-ends-requires : tie.Need-parse-channel-ends-requires
+parse-channel-ends-requires c κs = search needs
+
+returns-8 : tie.Need-returns-8
+returns-8 c =
+    let s = c .before .before .before .before .before .before .before .before .before .before in
+    let n = cut-components (s .args .text .now) (s .args .cut) 5 (s .pre .0) (c .before .before .before .before .if5 .taken) (lit< tt) in
+    read-second _ 5 n (kind6 ∷ kind7 ∷ []) (kind11 ∷ kind12 ∷ kind13 ∷ kind14 ∷ []) (groups .4) _ (sym (c .before .enum-told6 .given .1) ∙ c .before .before .before .parse-updates .ensures) (c .parse-channel-ends .ensures)
+
+parse-packets-requires : tie.Need-parse-packets-requires
+parse-packets-requires c κs = search needs
+
+returns-9 : tie.Need-returns-9
+returns-9 c =
+    let s = c .before .before .before .before .before .before .before .before in
+    let n = cut-components (s .args .text .now) (s .args .cut) 7 (s .pre .0) (c .before .if6 .taken) (lit< tt) in
+    read-all _ 7 n _ _ (groups .5) (c .parse-packets .ensures)
+
+returns-10 : tie.Need-returns-10
+returns-10 c = read-none _ _ (c .before .before .before .before .before .before .before .pre .0) (c .before .before .before .before .before .if1 .left) (c .before .before .before .before .if2 .left) (c .before .before .before .if3 .left) (c .before .before .if4 .left) (c .before .if5 .left) (c .if6 .left)
+
+pub parse-components-spec : {M : Type 1} → statement M
+parse-components-spec =
+    tie.close
+    (tie.spec
+    parse-next-sequence-requires
+    returns
+    parse-connections-requires
+    enum-told
+    returns-2
+    enum-told-2
+    parse-ports-requires
+    returns-3
+    parse-clients-requires
+    enum-told-3
+    returns-4
+    enum-told-4
+    parse-upgrades-requires
+    returns-5
+    parse-consensus-states-requires
+    returns-6
+    parse-updates-requires
+    enum-told-5
+    returns-7
+    enum-told-6
+    parse-channel-ends-requires
+    returns-8
+    parse-packets-requires
+    returns-9
+    returns-10)

@@ -1,0 +1,101 @@
+-- `kinds::parse_packets` meets its contract.
+-- Assumes nothing.
+use mathlib.Core.Path.{sym, _∙_}
+use mathlib.Core.Bool.{true, false, and-false}
+use lib.Dec.{lit<}
+use Rattle.parse.specs.CutLaws.{cut-components}
+use Rattle.path.specs.Kinds.{kind15, kind16, kind17}
+use Rattle.path.specs.Read.{fitsKind, readKind, readFirst}
+use Rattle.parse.specs.Pieces.{packetIn, packetParts}
+use Rattle.parse.specs.FitLaws.{no-run, is-run, packetAnswers, word-if}
+use borrow.Author.Needs.{needs}
+use Rattle.parse.proofs.kinds.parse_packets.Statement.{statement}
+use Rattle.parse.proofs.kinds.parse_packets.Tie as tie
+
+read-packet-requires : tie.Need-read-packet-requires
+read-packet-requires c κs = search needs
+
+enum-known-places : tie.Need-enum-known-places
+enum-known-places c = search needs
+
+enum-told : tie.Need-enum-told
+enum-told c = search needs
+
+returns : tie.Need-returns
+unfolding packetIn fitsKind readKind readFirst kind15 kind16 kind17
+returns c = simp (no-run packetAnswers 1 packetParts _ _ (sym (c .enum-told .given .1) ∙ c .before .before .read-packet .ensures), and-false)
+
+slice-aggregate-is-word : tie.Need-slice-aggregate-is-word
+slice-aggregate-is-word c = search needs
+
+is-word-requires : tie.Need-is-word-requires
+is-word-requires c κs = search needs
+
+returns-2 : tie.Need-returns-2
+unfolding packetIn fitsKind readKind readFirst kind15 kind16 kind17
+returns-2 c =
+    let s = c .before .before .before .before .before .before .before .before in
+    let n = cut-components (s .args .text .now) (s .args .cut) 7 (s .pre .0) (s .pre .1) (lit< tt) in
+    let r = is-run packetAnswers 1 packetParts _ _ _ (sym (c .before .before .before .before .places .given .1) ∙ c .before .before .before .before .before .before .read-packet .ensures) in
+    let w1 = word-if _ _ _ (c .before .is-word .ensures) true (c .if1 .taken) in
+    simp (n, r .0, r .1, w1)
+
+slice-aggregate-is-word-2 : tie.Need-slice-aggregate-is-word-2
+slice-aggregate-is-word-2 c = search needs
+
+is-word-requires-2 : tie.Need-is-word-requires-2
+is-word-requires-2 c κs = search needs
+
+returns-3 : tie.Need-returns-3
+unfolding packetIn fitsKind readKind readFirst kind15 kind16 kind17
+returns-3 c =
+    let s = c .before .before .before .before .before .before .before .before .before .before .before in
+    let n = cut-components (s .args .text .now) (s .args .cut) 7 (s .pre .0) (s .pre .1) (lit< tt) in
+    let r = is-run packetAnswers 1 packetParts _ _ _ (sym (c .before .before .before .before .before .before .before .places .given .1) ∙ c .before .before .before .before .before .before .before .before .before .read-packet .ensures) in
+    let w1 = word-if _ _ _ (c .before .before .before .before .is-word .ensures) false (c .before .before .before .if1 .left) in
+    let w2 = word-if _ _ _ (c .before .is-word2 .ensures) true (c .if2 .taken) in
+    simp (n, r .0, r .1, w1, w2)
+
+slice-aggregate-is-word-3 : tie.Need-slice-aggregate-is-word-3
+slice-aggregate-is-word-3 c = search needs
+
+is-word-requires-3 : tie.Need-is-word-requires-3
+is-word-requires-3 c κs = search needs
+
+returns-4 : tie.Need-returns-4
+unfolding packetIn fitsKind readKind readFirst kind15 kind16 kind17
+returns-4 c =
+    let s = c .before .before .before .before .before .before .before .before .before .before .before .before .before .before in
+    let n = cut-components (s .args .text .now) (s .args .cut) 7 (s .pre .0) (s .pre .1) (lit< tt) in
+    let r = is-run packetAnswers 1 packetParts _ _ _ (sym (c .before .before .before .before .before .before .before .before .before .before .places .given .1) ∙ c .before .before .before .before .before .before .before .before .before .before .before .before .read-packet .ensures) in
+    let w1 = word-if _ _ _ (c .before .before .before .before .before .before .before .is-word .ensures) false (c .before .before .before .before .before .before .if1 .left) in
+    let w2 = word-if _ _ _ (c .before .before .before .before .is-word2 .ensures) false (c .before .before .before .if2 .left) in
+    let w3 = word-if _ _ _ (c .before .is-word3 .ensures) true (c .if3 .taken) in
+    simp (n, r .0, r .1, w1, w2, w3)
+
+returns-5 : tie.Need-returns-5
+unfolding packetIn fitsKind readKind readFirst kind15 kind16 kind17
+returns-5 c =
+    let w1 = word-if _ _ _ (c .before .before .before .before .before .before .before .is-word .ensures) false (c .before .before .before .before .before .before .if1 .left) in
+    let w2 = word-if _ _ _ (c .before .before .before .before .is-word2 .ensures) false (c .before .before .before .if2 .left) in
+    let w3 = word-if _ _ _ (c .before .is-word3 .ensures) false (c .if3 .left) in
+    simp (w1, w2, w3, and-false)
+
+pub parse-packets-spec : {M : Type 1} → statement M
+parse-packets-spec =
+    tie.close
+    (tie.spec
+    read-packet-requires
+    enum-known-places
+    enum-told
+    returns
+    slice-aggregate-is-word
+    is-word-requires
+    returns-2
+    slice-aggregate-is-word-2
+    is-word-requires-2
+    returns-3
+    slice-aggregate-is-word-3
+    is-word-requires-3
+    returns-4
+    returns-5)

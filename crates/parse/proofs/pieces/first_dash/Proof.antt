@@ -1,0 +1,58 @@
+-- `pieces::first_dash` meets its contract. The invariant: the first dash is i bytes before the first of what is left.
+-- Assumes nothing.
+use Prim.Native.Nat.{_+_, _-_, _≤_}
+use mathlib.Core.Path.{_≡_}
+use lib.ListN.{length, drop}
+use Rattle.parse.specs.Pieces.{firstDash}
+use Rattle.parse.specs.PairLaws.{dash-end, dash-here, dash-later}
+use borrow.Author.Needs.{needs}
+use native.Mathlib.Omega.{arith}
+use Rattle.parse.proofs.pieces.first_dash.Statement.{statement}
+use Rattle.parse.proofs.pieces.first_dash.Tie as tie
+
+abbrev Inv-loop : tie.InvT-loop
+Inv-loop s i₀ i = (i ≤ length s) × (firstDash s ≡ i + firstDash (drop i s))
+
+abbrev μ-loop : tie.MeasureT-loop
+μ-loop s i₀ i = length s - i
+
+loop-holds : tie.Need-loop-holds Inv-loop μ-loop
+loop-holds c = search needs
+
+shared-slice-read-if1 : tie.Need-shared-slice-read-if1 Inv-loop μ-loop
+shared-slice-read-if1 c = search needs
+
+returns : tie.Need-returns Inv-loop μ-loop
+returns c =
+    let l = c .before .before .before .loop in
+    omega (arith, dash-here (c .before .before .before .before .args .s .now) (l .i) (omega arith) (c .if1 .taken))
+
+add-i : tie.Need-add-i Inv-loop μ-loop
+add-i c = search needs
+
+loop-less : tie.Need-loop-less Inv-loop μ-loop
+loop-less c = search needs
+
+loop-again : tie.Need-loop-again Inv-loop μ-loop
+loop-again c =
+    let l = c .before .before .before .loop in
+    (omega arith, omega (arith, dash-later (c .before .before .before .before .args .s .now) (l .i) (omega arith) (c .if1 .left)))
+
+returns-2 : tie.Need-returns-2 Inv-loop μ-loop
+returns-2 c =
+    let l = c .before .loop in
+    omega (arith, dash-end (c .before .before .args .s .now) (l .i) (omega arith))
+
+pub first-dash-spec : {M : Type 1} → statement M
+first-dash-spec =
+    tie.close
+    (tie.spec
+    Inv-loop
+    μ-loop
+    loop-holds
+    shared-slice-read-if1
+    returns
+    add-i
+    loop-less
+    loop-again
+    returns-2)

@@ -1,0 +1,61 @@
+-- `pieces::read_connection` meets its contract.
+-- Assumes nothing.
+use mathlib.Core.Bool.{true, false, and-false}
+use Rattle.path.specs.Kinds.{connection}
+use Rattle.path.specs.Read.{nameFault}
+use Rattle.parse.specs.Pieces.{placeAfter}
+use Rattle.parse.specs.FitLaws.{word-unless, name-no, name-yes}
+use borrow.Author.Needs.{needs}
+use Rattle.parse.proofs.pieces.read_connection.Statement.{statement}
+use Rattle.parse.proofs.pieces.read_connection.Tie as tie
+
+slice-aggregate-is-word : tie.Need-slice-aggregate-is-word
+slice-aggregate-is-word c = search needs
+
+is-word-requires : tie.Need-is-word-requires
+is-word-requires c κs = search needs
+
+returns : tie.Need-returns
+unfolding placeAfter
+returns c = rw (word-unless _ _ _ (c .before .is-word .ensures) false (c .if1 .taken))
+
+add-component-at : tie.Need-add-component-at
+add-component-at c = search needs
+
+component-at-requires : tie.Need-component-at-requires
+component-at-requires c κs = search needs
+
+validate-connection-identifier-requires : tie.Need-validate-connection-identifier-requires
+validate-connection-identifier-requires c κs = search needs
+
+returns-2 : tie.Need-returns-2
+unfolding placeAfter nameFault
+returns-2 c = rw (name-no connection _ _ _ (c .before .validate-connection-identifier .ensures) (c .before .before .component-at .ensures) (c .if2 .taken), and-false)
+
+add-place-at : tie.Need-add-place-at
+add-place-at c = search needs
+
+place-at-requires : tie.Need-place-at-requires
+place-at-requires c κs = search needs
+
+returns-3 : tie.Need-returns-3
+unfolding placeAfter nameFault
+returns-3 c =
+    let word = word-unless _ _ _ (c .before .before .before .before .before .is-word .ensures) true (c .before .before .before .before .if1 .left) in
+    let name = name-yes connection _ _ _ (c .before .before .validate-connection-identifier .ensures) (c .before .before .before .component-at .ensures) (c .before .if2 .left) in
+    rw (word, name, c .place-at .ensures)
+
+pub read-connection-spec : {M : Type 1} → statement M
+read-connection-spec =
+    tie.close
+    (tie.spec
+    slice-aggregate-is-word
+    is-word-requires
+    returns
+    add-component-at
+    component-at-requires
+    validate-connection-identifier-requires
+    returns-2
+    add-place-at
+    place-at-requires
+    returns-3)

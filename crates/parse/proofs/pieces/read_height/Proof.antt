@@ -1,0 +1,31 @@
+-- `pieces::read_height` meets its contract.
+-- Assumes nothing.
+use Rattle.parse.specs.Pieces.{heightAt}
+use Rattle.parse.specs.FitLaws.{number-no, number-yes}
+use Rattle.parse.proofs.Steps.{no-value}
+use borrow.Author.Needs.{needs}
+use Rattle.parse.proofs.pieces.read_height.Statement.{statement}
+use Rattle.parse.proofs.pieces.read_height.Tie as tie
+
+component-at-requires : tie.Need-component-at-requires
+component-at-requires c κs = search needs
+
+read-number-requires : tie.Need-read-number-requires
+read-number-requires c κs = search needs
+
+enum-known-n : tie.Need-enum-known-n
+enum-known-n c = search needs
+
+returns : tie.Need-returns
+unfolding heightAt
+returns c = rw (number-no _ _ _ (c .before .read-number .ensures) (c .before .before .component-at .ensures) (no-value (c .before .read-number .result) (c .match .keys2)))
+
+returns-2 : tie.Need-returns-2
+unfolding heightAt
+returns-2 c =
+    let number = number-yes _ _ _ (c .before .before .before .read-number .ensures) (c .before .before .before .before .component-at .ensures) _ (c .before .n .given .1) in
+    rw (number .0, number .1)
+
+pub read-height-spec : {M : Type 1} → statement M
+read-height-spec =
+    tie.close (tie.spec component-at-requires read-number-requires enum-known-n returns returns-2)

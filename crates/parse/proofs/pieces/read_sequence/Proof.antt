@@ -1,0 +1,56 @@
+-- `pieces::read_sequence` meets its contract.
+-- Assumes nothing.
+use mathlib.Core.Bool.{true, false, and-false}
+use Rattle.parse.specs.Pieces.{sequenceAfter}
+use Rattle.parse.specs.FitLaws.{word-unless, number-no, number-yes}
+use Rattle.parse.proofs.Steps.{no-value}
+use borrow.Author.Needs.{needs}
+use Rattle.parse.proofs.pieces.read_sequence.Statement.{statement}
+use Rattle.parse.proofs.pieces.read_sequence.Tie as tie
+
+slice-aggregate-is-word : tie.Need-slice-aggregate-is-word
+slice-aggregate-is-word c = search needs
+
+is-word-requires : tie.Need-is-word-requires
+is-word-requires c κs = search needs
+
+returns : tie.Need-returns
+unfolding sequenceAfter
+returns c = rw (word-unless _ _ _ (c .before .is-word .ensures) false (c .if1 .taken))
+
+add-component-at : tie.Need-add-component-at
+add-component-at c = search needs
+
+component-at-requires : tie.Need-component-at-requires
+component-at-requires c κs = search needs
+
+read-number-requires : tie.Need-read-number-requires
+read-number-requires c κs = search needs
+
+enum-known-n : tie.Need-enum-known-n
+enum-known-n c = search needs
+
+returns-2 : tie.Need-returns-2
+unfolding sequenceAfter
+returns-2 c = rw (number-no _ _ _ (c .before .read-number .ensures) (c .before .before .component-at .ensures) (no-value (c .before .read-number .result) (c .match .keys2)), and-false)
+
+returns-3 : tie.Need-returns-3
+unfolding sequenceAfter
+returns-3 c =
+    let word = word-unless _ _ _ (c .before .before .before .before .before .before .is-word .ensures) true (c .before .before .before .before .before .if1 .left) in
+    let number = number-yes _ _ _ (c .before .before .before .read-number .ensures) (c .before .before .before .before .component-at .ensures) _ (c .before .n .given .1) in
+    rw (word, number .0, number .1)
+
+pub read-sequence-spec : {M : Type 1} → statement M
+read-sequence-spec =
+    tie.close
+    (tie.spec
+    slice-aggregate-is-word
+    is-word-requires
+    returns
+    add-component-at
+    component-at-requires
+    read-number-requires
+    enum-known-n
+    returns-2
+    returns-3)

@@ -1,0 +1,28 @@
+-- The contract of each public function, as the source has it, leaves one outcome: the result, and the content of the buffer that is lent.
+-- Assumes nothing.
+use mathlib.Core.Path.{sym, _∙_}
+use Rattle.text.specs.Outcome.{One}
+use Rattle.path.proofs.view.Reads as view
+use Rattle.path.proofs.is_provable.Reads as is-provable
+use Rattle.path.proofs.refusal_number.Reads as refusal-number
+use Rattle.path.proofs.measure.render_length.Reads as render-length
+use Rattle.path.proofs.number.refusal_of.Reads as refusal-of
+use Rattle.path.proofs.number.kind_is_provable.Reads as kind-is-provable
+
+pub one-view : One view.Post
+one-view κs a r₁ r₂ s₁ s₂ p q = p ∙ sym q
+
+pub one-is-provable : One is-provable.Post
+one-is-provable κs a r₁ r₂ s₁ s₂ p q = p ∙ sym q
+
+pub one-refusal-number : One refusal-number.Post
+one-refusal-number κs a r₁ r₂ s₁ s₂ p q = p ∙ sym q
+
+pub one-render-length : One render-length.Post
+one-render-length κs a r₁ r₂ s₁ s₂ p q = p ∙ sym q
+
+pub one-refusal-of : One refusal-of.Post
+one-refusal-of κs a r₁ r₂ s₁ s₂ p q = p ∙ sym q
+
+pub one-kind-is-provable : One kind-is-provable.Post
+one-kind-is-provable κs a r₁ r₂ s₁ s₂ p q = p ∙ sym q

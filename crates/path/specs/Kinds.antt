@@ -1,0 +1,104 @@
+-- The nineteen kinds of path, as one table: what each component of each kind is. Reading and rendering both go by it.
+-- Assumes nothing.
+use Prim.Native.Nat.{ℕ}
+use mathlib.Core.List.{List, [], _∷_}
+use Rattle.text.specs.Bytes.{bytes}
+use Rattle.path.specs.declared.Place.{Place}
+use Rattle.path.specs.declared.Path.{Path}
+use Rattle.path.specs.declared.Path.the-variants.{NextClientSequence, NextConnectionSequence, NextChannelSequence, ClientState, ClientConsensusState, ClientUpdateTime, ClientUpdateHeight, ClientConnection, Connection, Ports, ChannelEnd, SeqSend, SeqRecv, SeqAck, Commitment, Ack, Receipt, UpgradeClientState, UpgradeConsensusState}
+
+-- what an identifier is checked as: C, K, P, H, and U
+pub data Name : Type 0 where
+  client connection port channel upgrade : Name
+
+-- what one component of a path is: a fixed word, an identifier, a number (S or n), or two with a dash between (R-h)
+pub data Part : Type 0 where
+  word : List ℕ → Part
+  name : Name → Part
+  count : Part
+  pair : Part
+
+-- what a path carries besides its kind: two identifiers, as places or as texts, and two numbers. What a kind lacks is empty or 0
+pub record Carried (A : Type 0) : Type 0 where
+  pub one : A
+  pub two : A
+  pub a : ℕ
+  pub b : ℕ
+
+-- a kind: its components, and the typed path that carries these places and numbers
+pub record Kind : Type 0 where
+  pub parts : List Part
+  pub make : Carried Place → Path
+
+abbrev clientParts : List Part → List Part
+clientParts rest = word (bytes "clients") ∷ name client ∷ rest
+
+abbrev consensusParts : List Part → List Part
+consensusParts rest = clientParts (word (bytes "consensusStates") ∷ pair ∷ rest)
+
+abbrev channelParts : List ℕ → List Part → List Part
+channelParts first rest = word first ∷ word (bytes "ports") ∷ name port ∷ word (bytes "channels") ∷ name channel ∷ rest
+
+abbrev packetParts : List ℕ → List Part
+packetParts first = channelParts first (word (bytes "sequences") ∷ count ∷ [])
+
+unfoldable pub kind1 : Kind
+kind1 = record { parts = word (bytes "nextClientSequence") ∷ []; make = λ v. NextClientSequence (record {}) }
+
+unfoldable pub kind2 : Kind
+kind2 = record { parts = word (bytes "nextConnectionSequence") ∷ []; make = λ v. NextConnectionSequence (record {}) }
+
+unfoldable pub kind3 : Kind
+kind3 = record { parts = word (bytes "nextChannelSequence") ∷ []; make = λ v. NextChannelSequence (record {}) }
+
+unfoldable pub kind4 : Kind
+kind4 = record { parts = clientParts (word (bytes "clientState") ∷ []); make = λ v. ClientState (record { client = v .one }) }
+
+unfoldable pub kind5 : Kind
+kind5 = record { parts = consensusParts []; make = λ v. ClientConsensusState (record { client = v .one; number = record { 0 = v .a }; height = record { 0 = v .b } }) }
+
+unfoldable pub kind6 : Kind
+kind6 = record { parts = consensusParts (word (bytes "processedTime") ∷ []); make = λ v. ClientUpdateTime (record { client = v .one; number = record { 0 = v .a }; height = record { 0 = v .b } }) }
+
+unfoldable pub kind7 : Kind
+kind7 = record { parts = consensusParts (word (bytes "processedHeight") ∷ []); make = λ v. ClientUpdateHeight (record { client = v .one; number = record { 0 = v .a }; height = record { 0 = v .b } }) }
+
+unfoldable pub kind8 : Kind
+kind8 = record { parts = clientParts (word (bytes "connections") ∷ []); make = λ v. ClientConnection (record { client = v .one }) }
+
+unfoldable pub kind9 : Kind
+kind9 = record { parts = word (bytes "connections") ∷ name connection ∷ []; make = λ v. Connection (record { connection = v .one }) }
+
+unfoldable pub kind10 : Kind
+kind10 = record { parts = word (bytes "ports") ∷ name port ∷ []; make = λ v. Ports (record { port = v .one }) }
+
+unfoldable pub kind11 : Kind
+kind11 = record { parts = channelParts (bytes "channelEnds") []; make = λ v. ChannelEnd (record { port = v .one; channel = v .two }) }
+
+unfoldable pub kind12 : Kind
+kind12 = record { parts = channelParts (bytes "nextSequenceSend") []; make = λ v. SeqSend (record { port = v .one; channel = v .two }) }
+
+unfoldable pub kind13 : Kind
+kind13 = record { parts = channelParts (bytes "nextSequenceRecv") []; make = λ v. SeqRecv (record { port = v .one; channel = v .two }) }
+
+unfoldable pub kind14 : Kind
+kind14 = record { parts = channelParts (bytes "nextSequenceAck") []; make = λ v. SeqAck (record { port = v .one; channel = v .two }) }
+
+unfoldable pub kind15 : Kind
+kind15 = record { parts = packetParts (bytes "commitments"); make = λ v. Commitment (record { port = v .one; channel = v .two; sequence = record { 0 = v .a } }) }
+
+unfoldable pub kind16 : Kind
+kind16 = record { parts = packetParts (bytes "acks"); make = λ v. Ack (record { port = v .one; channel = v .two; sequence = record { 0 = v .a } }) }
+
+unfoldable pub kind17 : Kind
+kind17 = record { parts = packetParts (bytes "receipts"); make = λ v. Receipt (record { port = v .one; channel = v .two; sequence = record { 0 = v .a } }) }
+
+unfoldable pub kind18 : Kind
+kind18 = record { parts = name upgrade ∷ count ∷ word (bytes "upgradedClient") ∷ []; make = λ v. UpgradeClientState (record { upgrade = v .one; height = record { 0 = v .a } }) }
+
+unfoldable pub kind19 : Kind
+kind19 = record { parts = name upgrade ∷ count ∷ word (bytes "upgradedConsState") ∷ []; make = λ v. UpgradeConsensusState (record { upgrade = v .one; height = record { 0 = v .a } }) }
+
+-- in the order of the enum: kind 1 stands first
+unfoldable pub kinds : List Kind
+kinds = kind1 ∷ kind2 ∷ kind3 ∷ kind4 ∷ kind5 ∷ kind6 ∷ kind7 ∷ kind8 ∷ kind9 ∷ kind10 ∷ kind11 ∷ kind12 ∷ kind13 ∷ kind14 ∷ kind15 ∷ kind16 ∷ kind17 ∷ kind18 ∷ kind19 ∷ []

@@ -1,0 +1,93 @@
+-- The length of a rendering by three sums, and the tables of the code.
+-- Assumes nothing.
+use Prim.Native.Nat.{ℕ, zero, suc, _+_, _-_, _≤_}
+use mathlib.Core.Path.{_≡_, refl, _∙_}
+use mathlib.Core.Bool.{true}
+use mathlib.Core.List.{List, [], _∷_, map}
+use native.Mathlib.Omega.{arith}
+use lib.Dec.{leb}
+use lib.ListN.{length, getD, length-append}
+use borrow.Author.Tests.{leb-true}
+use Rattle.text.specs.Number.{width, decimal}
+use Rattle.text.specs.NumberLaws.{length-decimal}
+use Rattle.text.specs.TableLaws.{valuesFrom, table-at}
+use Rattle.path.specs.Text.{joinBy}
+use Rattle.path.specs.Kinds.{Name, client, connection, port, channel, upgrade, Part, word, name, count, pair, Carried, kinds, kind1, kind2, kind3, kind4, kind5, kind6, kind7, kind8, kind9, kind10, kind11, kind12, kind13, kind14, kind15, kind16, kind17, kind18, kind19}
+use Rattle.path.specs.Read.{nameIn, show, render, partsOf}
+use Rattle.path.specs.ReadLaws.{has-both, kind-has, kind-parts}
+use Rattle.path.specs.Length.{nameLength, partLength, renderLength, fixed, namesIn, numbersIn, nameCount, numberCount, firstOf}
+
+-- ---- a rendering is that long
+abbrev pub lengths : Carried (List ℕ) → Carried ℕ
+lengths v = record { one = length (v .one); two = length (v .two); a = v .a; b = v .b }
+
+name-length : (n : Name) (v : Carried (List ℕ)) → length (nameIn n v) ≡ nameLength n (lengths v)
+name-length client v = refl
+name-length connection v = refl
+name-length port v = refl
+name-length channel v = refl
+name-length upgrade v = refl
+
+part-length : (p : Part) (v : Carried (List ℕ)) → length (show p v) ≡ partLength p (lengths v)
+unfolding show
+part-length (word w) v = refl
+part-length (name n) v = name-length n v
+part-length count v = length-decimal (v .a)
+part-length pair v = length-append (decimal (v .a)) (45 ∷ decimal (v .b)) ∙ rw (length-decimal (v .a), length-decimal (v .b))
+
+pub render-length : (ps : List Part) (v : Carried (List ℕ)) → length (render ps v) ≡ renderLength ps (lengths v)
+unfolding render renderLength joinBy
+render-length [] v = refl
+render-length (p ∷ []) v = part-length p v
+render-length (p ∷ (q ∷ ps)) v = length-append (show p v) _ ∙ rw (part-length p v, render-length (q ∷ ps) v)
+
+-- ---- the three sums
+pub length-sums : (ps : List Part) (v : Carried ℕ) → renderLength ps v ≡ fixed ps + (namesIn ps v + numbersIn ps v)
+unfolding renderLength fixed namesIn numbersIn
+length-sums [] v = refl
+length-sums (word w ∷ []) v = omega arith
+length-sums (name n ∷ []) v = omega arith
+length-sums (count ∷ []) v = omega arith
+length-sums (pair ∷ []) v = omega arith
+length-sums (word w ∷ (q ∷ ps)) v = omega (arith, length-sums (q ∷ ps) v)
+length-sums (name n ∷ (q ∷ ps)) v = omega (arith, length-sums (q ∷ ps) v)
+length-sums (count ∷ (q ∷ ps)) v = omega (arith, length-sums (q ∷ ps) v)
+length-sums (pair ∷ (q ∷ ps)) v = omega (arith, length-sums (q ∷ ps) v)
+
+-- ---- the table: a kind with one identifier has the first, and one with two has both; with the numbers it is the same
+names-all : (v : Carried ℕ) → map (λ e. namesIn (e .parts) v) kinds ≡ map (λ e. firstOf (nameCount (e .parts)) (v .one) (v .two)) kinds
+unfolding namesIn nameCount firstOf kinds kind1 kind2 kind3 kind4 kind5 kind6 kind7 kind8 kind9 kind10 kind11 kind12 kind13 kind14 kind15 kind16 kind17 kind18 kind19
+names-all v = refl
+
+numbers-all : (v : Carried ℕ) → map (λ e. numbersIn (e .parts) v) kinds ≡ map (λ e. firstOf (numberCount (e .parts)) (width (v .a)) (width (v .b))) kinds
+unfolding numbersIn numberCount firstOf kinds kind1 kind2 kind3 kind4 kind5 kind6 kind7 kind8 kind9 kind10 kind11 kind12 kind13 kind14 kind15 kind16 kind17 kind18 kind19
+numbers-all v = refl
+
+fixed-all : map (λ e. leb (fixed (e .parts)) 64) kinds ≡ map (λ e. true) kinds
+unfolding fixed kinds kind1 kind2 kind3 kind4 kind5 kind6 kind7 kind8 kind9 kind10 kind11 kind12 kind13 kind14 kind15 kind16 kind17 kind18 kind19
+fixed-all = refl
+
+module _ (k : ℕ) (low : 1 ≤ k) (high : k ≤ 19) where
+  pub length-by : (v : Carried ℕ) → renderLength (partsOf k) v ≡ fixed (partsOf k) + (firstOf (nameCount (partsOf k)) (v .one) (v .two) + firstOf (numberCount (partsOf k)) (width (v .a)) (width (v .b)))
+  length-by v =
+      length-sums (partsOf k) v ∙ rw (
+        kind-parts k low high,
+        has-both (λ e. namesIn (e .parts) v) (λ e. firstOf (nameCount (e .parts)) (v .one) (v .two)) (kind-has k low high) (names-all v),
+        has-both (λ e. numbersIn (e .parts) v) (λ e. firstOf (numberCount (e .parts)) (width (v .a)) (width (v .b))) (kind-has k low high) (numbers-all v),
+      )
+
+  -- it is not much longer than its identifiers
+  pub fixed-most : fixed (partsOf k) ≤ 64
+  fixed-most = leb-true _ _ (rw (kind-parts k low high) (has-both (λ e. leb (fixed (e .parts)) 64) (λ e. true) (kind-has k low high) fixed-all))
+
+pub first-of-most : (n x y : ℕ) → firstOf n x y ≤ x + y
+unfolding firstOf
+first-of-most zero x y = omega arith
+first-of-most (suc zero) x y = omega arith
+first-of-most (suc (suc n)) x y = omega arith
+
+-- a table of the code: what stands at the place of kind k
+pub at-kind : (g : List Part → ℕ) (k : ℕ) → 1 ≤ k → k ≤ 19 → getD (valuesFrom (λ j. g (partsOf (j + 1))) 0 19) (k - 1) 0 ≡ g (partsOf k)
+at-kind g k low high =
+    let e : k - 1 + 1 ≡ k = omega arith in
+    table-at (λ j. g (partsOf (j + 1))) 19 (k - 1) (omega arith) ∙ rw e

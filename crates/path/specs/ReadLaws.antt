@@ -1,0 +1,282 @@
+-- No text fits two kinds, so the order of the table does not matter and what is read is one. And what a kind makes shows its number, its parts and what it was made of.
+-- Assumes nothing.
+use Prim.Native.Nat.{ℕ, zero, suc, _+_, _-_, _≤_, _<_}
+use mathlib.Core.Path.{_≡_, refl, sym, ap, _∙_}
+use mathlib.Core.List.{List, [], _∷_, map}
+use mathlib.Core.Option.{Option, none, some}
+use mathlib.Core.Bool.{Bool, true, false, not, cond, _&&_, _||_, and-false}
+use native.Mathlib.Omega.{arith}
+use native.Mathlib.Numerals.{add-one}
+use lib.Dec.{eqb, leb}
+use lib.ListN.{length, getD, drop, drop-of-length-le}
+use lib.Seq.{drop-cons}
+use borrow.Author.Tests.{not-true, eqb-true, eqb-false, leb-true}
+use Rattle.text.specs.Part.{same}
+use Rattle.text.specs.PartLaws.{and-left, and-right, same-is, same-refl}
+use Rattle.path.specs.declared.Place.{Place}
+use Rattle.path.specs.declared.Path.{Path}
+use Rattle.path.specs.declared.Path.the-variants.{NextClientSequence, NextConnectionSequence, NextChannelSequence, ClientState, ClientConsensusState, ClientUpdateTime, ClientUpdateHeight, ClientConnection, Connection, Ports, ChannelEnd, SeqSend, SeqRecv, SeqAck, Commitment, Ack, Receipt, UpgradeClientState, UpgradeConsensusState}
+use Rattle.path.specs.declared.PathAnswer.the-variants.{Found, Nothing}
+use Rattle.path.specs.Text.{components}
+use Rattle.path.specs.Kinds.{Part, word, name, count, pair, Carried, Kind, kinds, kind1, kind2, kind3, kind4, kind5, kind6, kind7, kind8, kind9, kind10, kind11, kind12, kind13, kind14, kind15, kind16, kind17, kind18, kind19}
+use Rattle.path.specs.Read.{fits, carriedFrom, fitFrom, componentCount, fitsKind, readKind, orElse, readFirst, partsOf}
+use Rattle.path.specs.View.{kindOf, carriedOf}
+
+-- ---- a text fits a kind where its components, one by one, fit the parts
+abbrev pub fitAll : List Part → List (List ℕ) → Bool
+fitAll [] [] = true
+fitAll [] (c ∷ cs) = false
+fitAll (p ∷ ps) [] = false
+fitAll (p ∷ ps) (c ∷ cs) = fits p c && fitAll ps cs
+
+fit-length : (ps : List Part) (cs : List (List ℕ)) → (length cs ≡ length ps → ⊥) → fitAll ps cs ≡ false
+fit-length [] [] h = absurd (h refl)
+fit-length [] (c ∷ cs) h = refl
+fit-length (p ∷ ps) [] h = refl
+fit-length (p ∷ ps) (c ∷ cs) h = rw (fit-length ps cs (λ e. h (ap suc e))) (and-false (fits p c))
+
+fit-from : (k : ℕ) (ps : List Part) (t : List ℕ) → k + length ps ≡ componentCount t → fitFrom k ps t ≡ fitAll ps (drop k (components t))
+fit-from k [] t h = let l : componentCount t ≤ k = omega arith in rw (drop-of-length-le (components t) l)
+fit-from k (p ∷ ps) t h =
+    let l : k < componentCount t = omega arith in
+    rw (drop-cons (components t) k [] l, fit-from (k + 1) ps t (omega arith), add-one)
+
+pub kind-fits : (e : Kind) (t : List ℕ) → fitsKind e t ≡ fitAll (e .parts) (components t)
+unfolding fitsKind
+kind-fits e t = go (eqb (componentCount t) (length (e .parts))) refl
+  where
+    go : (v : Bool) → eqb (componentCount t) (length (e .parts)) ≡ v → (v && fitFrom 0 (e .parts) t) ≡ fitAll (e .parts) (components t)
+    go true h = fit-from 0 (e .parts) t (omega (arith, eqb-true (componentCount t) (length (e .parts)) h))
+    go false h = sym (fit-length (e .parts) (components t) (eqb-false (componentCount t) (length (e .parts)) h))
+
+-- ---- two lists of parts that no text fits: another number of parts, or two different words at one place
+abbrev wordOf : Part → Option (List ℕ)
+wordOf (word w) = some w
+wordOf (name n) = none
+wordOf count = none
+wordOf pair = none
+
+abbrev differBy : Option (List ℕ) → Option (List ℕ) → Bool
+differBy (some v) (some w) = not (same v w)
+differBy (some v) none = false
+differBy none (some w) = false
+differBy none none = false
+
+abbrev clash : List Part → List Part → Bool
+clash [] [] = false
+clash [] (q ∷ qs) = true
+clash (p ∷ ps) [] = true
+clash (p ∷ ps) (q ∷ qs) = differBy (wordOf p) (wordOf q) || clash ps qs
+
+word-fits : (p : Part) (w c : List ℕ) → wordOf p ≡ some w → fits p c ≡ true → c ≡ w
+unfolding fits
+word-fits (word v) w c e f = let z : v ≡ w = cc in same-is c v f ∙ z
+word-fits (name n) w c e f = let z : _≡_ {A = ℕ} 0 1 = cc in absurd (omega arith)
+word-fits count w c e f = let z : _≡_ {A = ℕ} 0 1 = cc in absurd (omega arith)
+word-fits pair w c e f = let z : _≡_ {A = ℕ} 0 1 = cc in absurd (omega arith)
+
+differ-fits : (p q : Part) (c : List ℕ) → differBy (wordOf p) (wordOf q) ≡ true → fits p c ≡ true → fits q c ≡ true → ⊥
+differ-fits p q c d f g = go (wordOf p) refl (wordOf q) refl d
+  where
+    go : (x : Option (List ℕ)) → wordOf p ≡ x → (y : Option (List ℕ)) → wordOf q ≡ y → differBy x y ≡ true → ⊥
+    go (some v) e (some w) h k =
+        let one : v ≡ w = sym (word-fits p v c e f) ∙ word-fits q w c h g in
+        let n : same v w ≡ false = not-true (same v w) k in
+        let y : same v w ≡ true = rw one (same-refl w) in
+        let z : _≡_ {A = ℕ} 0 1 = cc in omega arith
+    go (some v) e none h k = let z : _≡_ {A = ℕ} 0 1 = cc in omega arith
+    go none e (some w) h k = let z : _≡_ {A = ℕ} 0 1 = cc in omega arith
+    go none e none h k = let z : _≡_ {A = ℕ} 0 1 = cc in omega arith
+
+clash-fits : (ps qs : List Part) (cs : List (List ℕ)) → clash ps qs ≡ true → fitAll ps cs ≡ true → fitAll qs cs ≡ true → ⊥
+clash-fits [] [] cs d f g = let z : _≡_ {A = ℕ} 0 1 = cc in omega arith
+clash-fits [] (q ∷ qs) [] d f g = let z : _≡_ {A = ℕ} 0 1 = cc in omega arith
+clash-fits [] (q ∷ qs) (c ∷ cs) d f g = let z : _≡_ {A = ℕ} 0 1 = cc in omega arith
+clash-fits (p ∷ ps) [] [] d f g = let z : _≡_ {A = ℕ} 0 1 = cc in omega arith
+clash-fits (p ∷ ps) [] (c ∷ cs) d f g = let z : _≡_ {A = ℕ} 0 1 = cc in omega arith
+clash-fits (p ∷ ps) (q ∷ qs) [] d f g = let z : _≡_ {A = ℕ} 0 1 = cc in omega arith
+clash-fits (p ∷ ps) (q ∷ qs) (c ∷ cs) d f g =
+    go (differBy (wordOf p) (wordOf q)) refl d
+    (λ h. clash-fits ps qs cs h (and-right (fits p c) (fitAll ps cs) f) (and-right (fits q c) (fitAll qs cs) g))
+  where
+    go : (v : Bool) → differBy (wordOf p) (wordOf q) ≡ v → (v || clash ps qs) ≡ true → (clash ps qs ≡ true → ⊥) → ⊥
+    go true e h k = differ-fits p q c e (and-left (fits p c) (fitAll ps cs) f) (and-left (fits q c) (fitAll qs cs) g)
+    go false e h k = k h
+
+-- ---- the whole table: each kind clashes with each later one
+abbrev clashAll : Kind → List Kind → Bool
+clashAll e [] = true
+clashAll e (x ∷ es) = clash (e .parts) (x .parts) && clashAll e es
+
+abbrev pub apartAll : List Kind → Bool
+apartAll [] = true
+apartAll (e ∷ es) = clashAll e es && apartAll es
+
+pub kinds-apart : apartAll kinds ≡ true
+unfolding kinds kind1 kind2 kind3 kind4 kind5 kind6 kind7 kind8 kind9 kind10 kind11 kind12 kind13 kind14 kind15 kind16 kind17 kind18 kind19 same
+kinds-apart = refl
+
+-- a list of kinds has the kind e
+pub data Has : List Kind → Kind → Type 0 where
+  here : {e : Kind} {es : List Kind} → Has (e ∷ es) e
+  later : {e x : Kind} {es : List Kind} → Has es e → Has (x ∷ es) e
+
+clash-has : (x : Kind) {es : List Kind} {e : Kind} → Has es e → clashAll x es ≡ true → clash (x .parts) (e .parts) ≡ true
+clash-has x (here {e} {es}) h = and-left (clash (x .parts) (e .parts)) (clashAll x es) h
+clash-has x (later {e} {x = y} {es} m) h = clash-has x m (and-right (clash (x .parts) (y .parts)) (clashAll x es) h)
+
+-- a kind that fits is what is read
+pub read-has : {es : List Kind} {e : Kind} (t : List ℕ) → Has es e → apartAll es ≡ true → fitsKind e t ≡ true → readFirst es t ≡ Found (e .make (carriedFrom 0 (e .parts) t))
+unfolding readFirst readKind
+read-has t here a f = rw f
+read-has t (later {e} {x} {es} m) a f =
+    go (fitsKind x t) refl (read-has t m (and-right (clashAll x es) (apartAll es) a) f)
+  where
+    go : (v : Bool) → fitsKind x t ≡ v → readFirst es t ≡ Found (e .make (carriedFrom 0 (e .parts) t))
+        → orElse (cond v (Found (x .make (carriedFrom 0 (x .parts) t))) Nothing) (readFirst es t) ≡ Found (e .make (carriedFrom 0 (e .parts) t))
+    go true g ih =
+        let d = clash-has x m (and-left (clashAll x es) (apartAll es) a) in
+        absurd (clash-fits (x .parts) (e .parts) (components t) d (sym (kind-fits x t) ∙ g) (sym (kind-fits e t) ∙ f))
+    go false g ih = ih
+
+-- ---- the reading as a relation: some kind of the table fits, and p is what it makes
+pub record Reads (t : List ℕ) (p : Path) : Type 0 where
+  pub kind : Kind
+  pub listed : Has kinds kind
+  pub fitting : fitsKind kind t ≡ true
+  pub made : p ≡ kind .make (carriedFrom 0 (kind .parts) t)
+
+pub reads-is : {t : List ℕ} {p : Path} → Reads t p → readFirst kinds t ≡ Found p
+reads-is {t} {p} r = read-has t (r .listed) kinds-apart (r .fitting) ∙ ap Found (sym (r .made))
+
+-- it is one
+pub reads-one : {t : List ℕ} {p q : Path} → Reads t p → Reads t q → p ≡ q
+reads-one r s = let a = reads-is r in let b = reads-is s in cc
+
+-- and it is there wherever something is read
+abbrev First : List Kind → List ℕ → Path → Type 0
+First es t p = (e : Kind) × Has es e × (fitsKind e t ≡ true) × (p ≡ e .make (carriedFrom 0 (e .parts) t))
+
+from-first : (es : List Kind) (t : List ℕ) (p : Path) → readFirst es t ≡ Found p → First es t p
+unfolding readFirst readKind
+from-first [] t p h = let z : _≡_ {A = ℕ} 0 1 = cc in absurd (omega arith)
+from-first (x ∷ es) t p h = go (fitsKind x t) refl h (λ k. from-first es t p k)
+  where
+    go : (v : Bool) → fitsKind x t ≡ v → orElse (cond v (Found (x .make (carriedFrom 0 (x .parts) t))) Nothing) (readFirst es t) ≡ Found p
+        → (readFirst es t ≡ Found p → First es t p) → First (x ∷ es) t p
+    go true g k ih = let z : p ≡ x .make (carriedFrom 0 (x .parts) t) = cc in (x, here, g, z)
+    go false g k ih = let r = ih k in (r .0, later (r .1), r .2, r .3)
+
+pub is-reads : (t : List ℕ) (p : Path) → readFirst kinds t ≡ Found p → Reads t p
+is-reads t p h = let r = from-first kinds t p h in record { kind = r .0; listed = r .1; fitting = r .2; made = r .3 }
+
+-- ---- what a kind makes. Each law is one computed fact about the table, handed to the kind in question
+pub has-both : {A : Type 0} (f g : Kind → A) {es : List Kind} {e : Kind} → Has es e → map f es ≡ map g es → f e ≡ g e
+has-both f g here h = cc
+has-both f g (later {x} {es} m) h = let t : map f es ≡ map g es = cc in has-both f g m t
+
+-- it has the kind's parts
+parts-all : (v : Carried Place) → map (λ e. partsOf (kindOf (e .make v))) kinds ≡ map (λ e. e .parts) kinds
+unfolding partsOf kinds kind1 kind2 kind3 kind4 kind5 kind6 kind7 kind8 kind9 kind10 kind11 kind12 kind13 kind14 kind15 kind16 kind17 kind18 kind19
+parts-all v = refl
+
+pub made-parts : {e : Kind} → Has kinds e → (v : Carried Place) → partsOf (kindOf (e .make v)) ≡ e .parts
+made-parts m v = has-both (λ e. partsOf (kindOf (e .make v))) (λ e. e .parts) m (parts-all v)
+
+-- its number is one of the nineteen
+range-all : (v : Carried Place) → map (λ e. leb 1 (kindOf (e .make v)) && leb (kindOf (e .make v)) 19) kinds ≡ map (λ e. true) kinds
+unfolding kinds kind1 kind2 kind3 kind4 kind5 kind6 kind7 kind8 kind9 kind10 kind11 kind12 kind13 kind14 kind15 kind16 kind17 kind18 kind19
+range-all v = refl
+
+pub made-range : {e : Kind} → Has kinds e → (v : Carried Place) → (1 ≤ kindOf (e .make v)) × (kindOf (e .make v) ≤ 19)
+made-range {e} m v =
+    let h = has-both (λ x. leb 1 (kindOf (x .make v)) && leb (kindOf (x .make v)) 19) (λ x. true) m (range-all v) in
+    (leb-true 1 (kindOf (e .make v)) (and-left _ _ h), leb-true (kindOf (e .make v)) 19 (and-right (leb 1 (kindOf (e .make v))) _ h))
+
+-- it carries what was read
+carried-all : (t : List ℕ) → map (λ e. carriedOf (e .make (carriedFrom 0 (e .parts) t))) kinds ≡ map (λ e. carriedFrom 0 (e .parts) t) kinds
+unfolding kinds kind1 kind2 kind3 kind4 kind5 kind6 kind7 kind8 kind9 kind10 kind11 kind12 kind13 kind14 kind15 kind16 kind17 kind18 kind19
+carried-all t = refl
+
+pub made-carried : {e : Kind} → Has kinds e → (t : List ℕ) → carriedOf (e .make (carriedFrom 0 (e .parts) t)) ≡ carriedFrom 0 (e .parts) t
+made-carried m t = has-both (λ e. carriedOf (e .make (carriedFrom 0 (e .parts) t))) (λ e. carriedFrom 0 (e .parts) t) m (carried-all t)
+
+-- kind k, counted from 1
+abbrev pub kindAt : ℕ → Kind
+kindAt k = getD kinds (k - 1) kind1
+
+has-at : (es : List Kind) (i : ℕ) → i < length es → Has es (getD es i kind1)
+has-at [] i h = absurd (omega arith)
+has-at (e ∷ es) zero h = here
+has-at (e ∷ es) (suc i) h = later (has-at es i (omega arith))
+
+-- n numbers from i on
+abbrev pub upFrom : ℕ → ℕ → List ℕ
+upFrom zero i = []
+upFrom (suc n) i = i ∷ upFrom n (suc i)
+
+pub up-at : (n i k : ℕ) → k < n → getD (upFrom n i) k 0 ≡ i + k
+up-at zero i k h = absurd (omega arith)
+up-at (suc n) i zero h = omega arith
+up-at (suc n) i (suc k) h = omega (arith, up-at n (suc i) k (omega arith))
+
+kinds-count : length kinds ≡ 19
+unfolding kinds
+kinds-count = refl
+
+-- the table is in the order of the kinds' numbers
+numbers-all : (v : Carried Place) → map (λ e. kindOf (e .make v)) kinds ≡ upFrom 19 1
+unfolding kinds kind1 kind2 kind3 kind4 kind5 kind6 kind7 kind8 kind9 kind10 kind11 kind12 kind13 kind14 kind15 kind16 kind17 kind18 kind19
+numbers-all v = refl
+
+map-at : {A : Type 0} (f : Kind → A) (d : A) (es : List Kind) (i : ℕ) → i < length es → getD (map f es) i d ≡ f (getD es i kind1)
+map-at f d [] i h = absurd (omega arith)
+map-at f d (e ∷ es) zero h = refl
+map-at f d (e ∷ es) (suc i) h = map-at f d es i (omega arith)
+
+module _ (k : ℕ) (low : 1 ≤ k) (high : k ≤ 19) where
+  inside : k - 1 < length kinds
+  inside = omega (arith, kinds-count)
+
+  pub kind-has : Has kinds (kindAt k)
+  kind-has = has-at kinds (k - 1) inside
+
+  pub made-kind : (v : Carried Place) → kindOf (kindAt k .make v) ≡ k
+  made-kind v =
+      let e = map-at (λ x. kindOf (x .make v)) 0 kinds (k - 1) inside in
+      omega (arith, e, ap (λ (l : List ℕ). getD l (k - 1) 0) (numbers-all v), up-at 19 1 (k - 1) (omega arith))
+
+  pub kind-parts : partsOf k ≡ kindAt k .parts
+  unfolding partsOf
+  kind-parts = map-at (λ e. e .parts) [] kinds (k - 1) inside
+
+-- every typed path is made by its kind
+pub path-made : (p : Path) → p ≡ kindAt (kindOf p) .make (carriedOf p)
+unfolding kinds kind1 kind2 kind3 kind4 kind5 kind6 kind7 kind8 kind9 kind10 kind11 kind12 kind13 kind14 kind15 kind16 kind17 kind18 kind19
+path-made (NextClientSequence x) = refl
+path-made (NextConnectionSequence x) = refl
+path-made (NextChannelSequence x) = refl
+path-made (ClientState x) = refl
+path-made (ClientConsensusState x) = refl
+path-made (ClientUpdateTime x) = refl
+path-made (ClientUpdateHeight x) = refl
+path-made (ClientConnection x) = refl
+path-made (Connection x) = refl
+path-made (Ports x) = refl
+path-made (ChannelEnd x) = refl
+path-made (SeqSend x) = refl
+path-made (SeqRecv x) = refl
+path-made (SeqAck x) = refl
+path-made (Commitment x) = refl
+path-made (Ack x) = refl
+path-made (Receipt x) = refl
+path-made (UpgradeClientState x) = refl
+path-made (UpgradeConsensusState x) = refl
+
+-- no text fits two kinds
+pub fits-one : (t : List ℕ) (j k : ℕ) → 1 ≤ j → j ≤ 19 → 1 ≤ k → k ≤ 19 → fitsKind (kindAt j) t ≡ true → fitsKind (kindAt k) t ≡ true → j ≡ k
+fits-one t j k a b c d f g =
+    let x = read-has t (kind-has j a b) kinds-apart f in
+    let y = read-has t (kind-has k c d) kinds-apart g in
+    let z : kindAt j .make (carriedFrom 0 (kindAt j .parts) t) ≡ kindAt k .make (carriedFrom 0 (kindAt k .parts) t) = cc in
+    sym (made-kind j a b (carriedFrom 0 (kindAt j .parts) t)) ∙ ap kindOf z ∙ made-kind k c d (carriedFrom 0 (kindAt k .parts) t)

@@ -1,0 +1,94 @@
+-- This paper's number and values for each case of the typed path and of the reader's answer.
+-- Assumes nothing.
+use Prim.Native.Nat.{ℕ, _+_}
+use mathlib.Core.Path.{_≡_}
+use mathlib.Core.Bool.{Bool, true, false, cond, not, _&&_, _||_}
+use mathlib.Core.List.{List}
+use lib.Dec.{eqb, leb}
+use denote.Ref.{RefT, now}
+use Rattle.path.specs.declared.Place.{Place}
+use Rattle.path.specs.declared.number.Flag.{Flag}
+use Rattle.path.specs.declared.Path.{Path}
+use Rattle.path.specs.declared.PathView.{PathView}
+use Rattle.path.specs.declared.Path.the-variants.{NextClientSequence, NextConnectionSequence, NextChannelSequence, ClientState, ClientConsensusState, ClientUpdateTime, ClientUpdateHeight, ClientConnection, Connection, Ports, ChannelEnd, SeqSend, SeqRecv, SeqAck, Commitment, Ack, Receipt, UpgradeClientState, UpgradeConsensusState}
+use Rattle.path.specs.declared.Reading.{Reading}
+use Rattle.path.specs.declared.Reading.the-variants.{Read, Refused}
+use Rattle.path.specs.Kinds.{Carried}
+use Rattle.path.specs.Text.{nowhere, shownOf, shownStart}
+
+-- the number of a kind
+abbrev pub kindOf : Path → ℕ
+kindOf (NextClientSequence x) = 1
+kindOf (NextConnectionSequence x) = 2
+kindOf (NextChannelSequence x) = 3
+kindOf (ClientState x) = 4
+kindOf (ClientConsensusState x) = 5
+kindOf (ClientUpdateTime x) = 6
+kindOf (ClientUpdateHeight x) = 7
+kindOf (ClientConnection x) = 8
+kindOf (Connection x) = 9
+kindOf (Ports x) = 10
+kindOf (ChannelEnd x) = 11
+kindOf (SeqSend x) = 12
+kindOf (SeqRecv x) = 13
+kindOf (SeqAck x) = 14
+kindOf (Commitment x) = 15
+kindOf (Ack x) = 16
+kindOf (Receipt x) = 17
+kindOf (UpgradeClientState x) = 18
+kindOf (UpgradeConsensusState x) = 19
+
+abbrev pub carry : Place → Place → ℕ → ℕ → Carried Place
+carry p q m n = record { one = p; two = q; a = m; b = n }
+
+-- its places and numbers; S and n stand in the first number
+abbrev pub carriedOf : Path → Carried Place
+carriedOf (NextClientSequence x) = carry nowhere nowhere 0 0
+carriedOf (NextConnectionSequence x) = carry nowhere nowhere 0 0
+carriedOf (NextChannelSequence x) = carry nowhere nowhere 0 0
+carriedOf (ClientState x) = carry (x .client) nowhere 0 0
+carriedOf (ClientConsensusState x) = carry (x .client) nowhere (x .number .0) (x .height .0)
+carriedOf (ClientUpdateTime x) = carry (x .client) nowhere (x .number .0) (x .height .0)
+carriedOf (ClientUpdateHeight x) = carry (x .client) nowhere (x .number .0) (x .height .0)
+carriedOf (ClientConnection x) = carry (x .client) nowhere 0 0
+carriedOf (Connection x) = carry (x .connection) nowhere 0 0
+carriedOf (Ports x) = carry (x .port) nowhere 0 0
+carriedOf (ChannelEnd x) = carry (x .port) (x .channel) 0 0
+carriedOf (SeqSend x) = carry (x .port) (x .channel) 0 0
+carriedOf (SeqRecv x) = carry (x .port) (x .channel) 0 0
+carriedOf (SeqAck x) = carry (x .port) (x .channel) 0 0
+carriedOf (Commitment x) = carry (x .port) (x .channel) (x .sequence .0) 0
+carriedOf (Ack x) = carry (x .port) (x .channel) (x .sequence .0) 0
+carriedOf (Receipt x) = carry (x .port) (x .channel) (x .sequence .0) 0
+carriedOf (UpgradeClientState x) = carry (x .upgrade) nowhere (x .height .0) 0
+carriedOf (UpgradeConsensusState x) = carry (x .upgrade) nowhere (x .height .0) 0
+
+-- both, in one
+abbrev pub seen : ℕ → Carried Place → PathView
+seen k v = record { kind = k; one = v .one; two = v .two; a = v .a; b = v .b }
+
+unfoldable pub viewOf : Path → PathView
+viewOf p = seen (kindOf p) (carriedOf p)
+
+-- all kinds but 8 and 10
+abbrev pub provable : ℕ → Bool
+provable k = not (eqb k 8 || eqb k 10)
+
+-- the same for a kind's number: 14 where it is none
+unfoldable pub provableFlag : ℕ → Flag
+provableFlag k = cond (leb 1 k && leb k 19) (record { refusal = 0; value = cond (provable k) 1 0 }) (record { refusal = 14; value = 0 })
+
+-- the places of the identifiers of a reading: none on a refusal
+abbrev pub firstPlace : Reading → Place
+firstPlace (Read p e) = carriedOf p .one
+firstPlace (Refused w) = nowhere
+
+abbrev pub secondPlace : Reading → Place
+secondPlace (Read p e) = carriedOf p .two
+secondPlace (Refused w) = nowhere
+
+-- r is the part of x at the place p, no copy: what it holds, and where it points. The empty part at the start of x where p does not lie in x
+pub record Shows (r x : RefT (List ℕ)) (p : Place) : Type 0 where
+  pub bytes : now r ≡ shownOf (now x) p
+  pub block : r .ptr .0 ≡ x .ptr .0
+  pub offset : r .ptr .1 ≡ x .ptr .1 + shownStart (now x) p

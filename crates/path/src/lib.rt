@@ -1,0 +1,165 @@
+// The typed path.
+mod carried;
+pub mod measure;
+pub mod number;
+
+use text::refusal::NOT_A_PATH;
+use text::refusal::NOT_ASCII;
+use text::refusal::TOO_LONG;
+ghost use mathlib.Core.Path.{_≡_};
+ghost use Rattle.path.specs.Read.{refusalOf};
+ghost use Rattle.path.specs.View.{kindOf, viewOf, provable};
+
+// A part of the caller's text: where it starts, and its length.
+pub struct Place {
+    pub start: usize,
+    pub len: usize,
+}
+
+// Three kinds of count, so that a sequence never stands where a height should.
+pub struct RevisionNumber(pub u64);
+
+pub struct RevisionHeight(pub u64);
+
+pub struct Sequence(pub u64);
+
+pub struct NoPlaces {}
+
+pub struct ClientPlaces {
+    pub client: Place,
+}
+
+pub struct ConsensusPlaces {
+    pub client: Place,
+    pub number: RevisionNumber,
+    pub height: RevisionHeight,
+}
+
+pub struct ConnectionPlaces {
+    pub connection: Place,
+}
+
+pub struct PortPlaces {
+    pub port: Place,
+}
+
+pub struct ChannelPlaces {
+    pub port: Place,
+    pub channel: Place,
+}
+
+pub struct PacketPlaces {
+    pub port: Place,
+    pub channel: Place,
+    pub sequence: Sequence,
+}
+
+pub struct UpgradePlaces {
+    pub upgrade: Place,
+    pub height: RevisionHeight,
+}
+
+pub enum Path {
+    NextClientSequence(NoPlaces),
+    NextConnectionSequence(NoPlaces),
+    NextChannelSequence(NoPlaces),
+    ClientState(ClientPlaces),
+    ClientConsensusState(ConsensusPlaces),
+    ClientUpdateTime(ConsensusPlaces),
+    ClientUpdateHeight(ConsensusPlaces),
+    ClientConnection(ClientPlaces),
+    Connection(ConnectionPlaces),
+    Ports(PortPlaces),
+    ChannelEnd(ChannelPlaces),
+    SeqSend(ChannelPlaces),
+    SeqRecv(ChannelPlaces),
+    SeqAck(ChannelPlaces),
+    Commitment(PacketPlaces),
+    Ack(PacketPlaces),
+    Receipt(PacketPlaces),
+    UpgradeClientState(UpgradePlaces),
+    UpgradeConsensusState(UpgradePlaces),
+}
+
+// The cut text: where each of the first eight components starts, zero past the last, and how many there are. A count
+// of eight tells "more than seven".
+pub struct Cut {
+    pub starts: [usize; 8],
+    pub count: usize,
+}
+
+pub enum PathAnswer {
+    Found(Path),
+    Nothing,
+}
+
+pub enum Refusal {
+    TooLong,
+    NotAscii,
+    NotAPath,
+}
+
+// What a text reads as; exact where its rendering is the text itself.
+pub enum Reading {
+    Read { path: Path, exact: bool },
+    Refused(Refusal),
+}
+
+// A path as its kind's number, places and numbers. What the kind lacks is the empty part at the start, or 0.
+pub struct PathView {
+    pub kind: u8,
+    pub one: Place,
+    pub two: Place,
+    pub a: u64,
+    pub b: u64,
+}
+
+// What a path shows.
+pub fn view(p: Path) -> PathView
+    ensures { λ r. ⌜ r ≡ viewOf p ⌝ }
+{
+    match p {
+        Path::NextClientSequence(_) => carried::bare(1),
+        Path::NextConnectionSequence(_) => carried::bare(2),
+        Path::NextChannelSequence(_) => carried::bare(3),
+        Path::ClientState(x) => carried::client(4, x),
+        Path::ClientConsensusState(x) => carried::consensus(5, x),
+        Path::ClientUpdateTime(x) => carried::consensus(6, x),
+        Path::ClientUpdateHeight(x) => carried::consensus(7, x),
+        Path::ClientConnection(x) => carried::client(8, x),
+        Path::Connection(x) => carried::connection(9, x),
+        Path::Ports(x) => carried::port(10, x),
+        Path::ChannelEnd(x) => carried::channel(11, x),
+        Path::SeqSend(x) => carried::channel(12, x),
+        Path::SeqRecv(x) => carried::channel(13, x),
+        Path::SeqAck(x) => carried::channel(14, x),
+        Path::Commitment(x) => carried::packet(15, x),
+        Path::Ack(x) => carried::packet(16, x),
+        Path::Receipt(x) => carried::packet(17, x),
+        Path::UpgradeClientState(x) => carried::upgrade(18, x),
+        Path::UpgradeConsensusState(x) => carried::upgrade(19, x),
+    }
+}
+
+// Whether the path is provable: all kinds but 8 and 10 are.
+pub fn is_provable(p: Path) -> bool
+    ensures { λ r. ⌜ r ≡ provable (kindOf p) ⌝ }
+{
+    let v = view(p);
+    let kind = v.kind;
+    if kind == 8 {
+        return false;
+    }
+    kind != 10
+}
+
+// The number of a refusal.
+pub fn refusal_number(why: Refusal) -> u8
+    ensures { λ r. ⌜ r ≡ refusalOf why ⌝ }
+{
+    match why {
+        Refusal::TooLong => TOO_LONG,
+        Refusal::NotAscii => NOT_ASCII,
+        Refusal::NotAPath => NOT_A_PATH,
+    }
+}

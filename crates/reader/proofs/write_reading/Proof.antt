@@ -1,0 +1,57 @@
+-- `write_reading` meets its contract.
+-- Assumes nothing.
+use mathlib.Core.Path.{sym, ap, _∙_}
+use lib.ListN.{length}
+use Rattle.text.specs.Put.{Wanted, answer, left}
+use Rattle.reader.specs.EncodeLaws.{bytes-read, bytes-refused}
+use borrow.Author.Needs.{needs}
+use Rattle.reader.proofs.write_reading.Statement.{statement}
+use Rattle.reader.proofs.write_reading.Tie as tie
+
+read-path-requires : tie.Need-read-path-requires
+read-path-requires c κs = search needs
+
+enum-known-path : tie.Need-enum-known-path
+enum-known-path c = search needs
+
+view-requires : tie.Need-view-requires
+view-requires c κs = search needs
+
+write-view-requires : tie.Need-write-view-requires
+write-view-requires c κs = search needs
+
+enum-known-why : tie.Need-enum-known-why
+enum-known-why c = search needs
+
+refusal-number-requires : tie.Need-refusal-number-requires
+refusal-number-requires c κs = search needs
+
+same-length : tie.Need-same-length
+same-length c = search needs
+
+returns : tie.Need-returns
+returns c =
+    let out = c .before .before .before .before .before .before .before .before .before .before .before .args .out .now in
+    let w = c .before .before .write-view .ensures in
+    let e = bytes-read _ _ _ _ (sym (c .before .before .before .before .before .before .path .given .1) ∙ c .before .before .before .before .before .before .before .before .read-path .ensures) (c .before .before .before .before .view .ensures) in
+    (w .0 ∙ ap (λ (x : Wanted). answer x (length out)) e, w .1 ∙ ap (λ (x : Wanted). left x out) e)
+
+returns-2 : tie.Need-returns-2
+unfolding answer left
+returns-2 c =
+    let e = bytes-refused _ _ _ (sym (c .before .before .why .given .1) ∙ c .before .before .before .before .read-path .ensures) (c .refusal-number .ensures) in
+    (rw (← e), rw (← e))
+
+pub write-reading-spec : {M : Type 1} → statement M
+write-reading-spec =
+    tie.close
+    (tie.spec
+    read-path-requires
+    enum-known-path
+    view-requires
+    write-view-requires
+    enum-known-why
+    refusal-number-requires
+    same-length
+    returns
+    returns-2)

@@ -1,0 +1,64 @@
+-- The lengths of what is encoded, and one writer after the other.
+-- Assumes nothing.
+use Prim.Native.Nat.{ℕ, _+_, _≤_}
+use mathlib.Core.Path.{_≡_, refl, sym, ap, _∙_}
+use mathlib.Core.Bool.{Bool, cond}
+use mathlib.Core.List.{List, [], _∷_}
+use native.Mathlib.Omega.{arith}
+use lib.ListN.{length, length-append}
+use Rattle.text.specs.Put.{put, text, refused}
+use Rattle.text.specs.PutLaws.{put-next, length-put}
+use Rattle.path.specs.declared.Place.{Place}
+use Rattle.path.specs.declared.PathView.{PathView}
+use Rattle.path.specs.declared.Path.{Path}
+use Rattle.path.specs.declared.Refusal.{Refusal}
+use Rattle.path.specs.declared.Reading.the-variants.{Read, Refused}
+use Rattle.path.specs.Read.{placeBytes, refusalOf, readPath, readingBytes}
+use Rattle.text.specs.Number.{bigEndian}
+use Rattle.path.specs.View.{viewOf}
+use Rattle.text.specs.NumberLaws.{length-big}
+use Rattle.reader.specs.Encode.{viewBytes}
+
+pub length-place : (p : Place) → length (placeBytes p) ≡ 4
+length-place p = simp (length-append, length-big)
+
+pub length-view : (v : PathView) (e : Bool) → length (viewBytes v e) ≡ 26
+unfolding viewBytes
+length-view v e = simp (length-append, length-big)
+
+-- what is written leaves the length
+kept : (o o′ a : List ℕ) (p : ℕ) → p + length a ≤ length o → o′ ≡ put o p a → length o′ ≡ length o
+kept o o′ a p h e = ap length e ∙ length-put o p a h
+
+-- one writer after the other
+pub put-view : (v : PathView) (x : Bool) (m : ℕ) (o o1 o2 o3 o4 o5 o6 : List ℕ) → 26 ≤ length o → m ≡ cond x 1 0
+    → o1 ≡ put o 0 (v .kind ∷ []) → o2 ≡ put o1 1 (m ∷ []) → o3 ≡ put o2 2 (placeBytes (v .one)) → o4 ≡ put o3 6 (placeBytes (v .two))
+    → o5 ≡ put o4 10 (bigEndian 8 (v .a)) → o6 ≡ put o5 18 (bigEndian 8 (v .b)) → o6 ≡ put o 0 (viewBytes v x)
+unfolding viewBytes
+put-view v x m o o1 o2 o3 o4 o5 o6 h i e1 e2 e3 e4 e5 e6 =
+    let n3 = length-place (v .one) in
+    let n4 = length-place (v .two) in
+    let n5 = length-big 8 (v .a) in
+    let l1 = kept o o1 (v .kind ∷ []) 0 (omega arith) e1 in
+    let l2 = kept o1 o2 (m ∷ []) 1 (omega arith) e2 in
+    let l3 = kept o2 o3 (placeBytes (v .one)) 2 (omega arith) e3 in
+    let l4 = kept o3 o4 (placeBytes (v .two)) 6 (omega arith) e4 in
+    sym (
+    rw (← i)
+    (put-next o 0 (v .kind ∷ []) _ o1 1 (omega arith) refl e1
+    ∙ put-next o1 1 (m ∷ []) _ o2 2 (omega arith) refl e2
+    ∙ put-next o2 2 (placeBytes (v .one)) _ o3 6 (omega arith) (omega arith) e3
+    ∙ put-next o3 6 (placeBytes (v .two)) _ o4 10 (omega arith) (omega arith) e4
+    ∙ put-next o4 10 (bigEndian 8 (v .a)) _ o5 18 (omega arith) (omega arith) e5
+    ∙ sym e6)
+    )
+
+-- ---- the reading's bytes: those of what a path shows, or a refusal
+module _ (t : List ℕ) where
+  pub bytes-read : (p : Path) (x : Bool) (v : PathView) → Read p x ≡ readPath t → v ≡ viewOf p → text (viewBytes v x) ≡ readingBytes t
+  unfolding viewBytes viewOf readingBytes
+  bytes-read p x v h e = rw (← h, e)
+
+  pub bytes-refused : (w : Refusal) (n : ℕ) → Refused w ≡ readPath t → n ≡ refusalOf w → refused n ≡ readingBytes t
+  unfolding readingBytes
+  bytes-refused w n h e = rw (← h, e)

@@ -1,0 +1,88 @@
+// The reader of path texts.
+mod encode;
+
+use path::PathAnswer;
+use path::Place;
+use path::Reading;
+use path::Refusal;
+use text::Written;
+ghost use mathlib.Core.Path.{_≡_};
+ghost use lib.ListN.{length};
+ghost use Rattle.text.specs.Put.{answer, left};
+ghost use Rattle.path.specs.Read.{readPath, readingBytes};
+ghost use Rattle.path.specs.View.{Shows, firstPlace, secondPlace};
+
+// What stands at a place, as a part of the text: the empty part at the start where the place does not lie in the text.
+pub fn part(text: &[u8], p: Place) -> &[u8]
+    ensures { λ r. ⌜ Shows r (text .entry) p ⌝ }
+{
+    let start = p.start;
+    let len = p.len;
+    if text.len() < start {
+        return &text[0..0];
+    }
+    if text.len() - start < len {
+        return &text[0..0];
+    }
+    &text[start..start + len]
+}
+
+// The first identifier of a reading, or U, as a part of the text that was read, no copy: the empty part at its start on
+// a refusal, or where the kind has none.
+pub fn first_identifier(text: &[u8], reading: Reading) -> &[u8]
+    ensures { λ r. ⌜ Shows r (text .entry) (firstPlace reading) ⌝ }
+{
+    let Reading::Read { path, exact: _ } = reading else {
+        return part(text, Place { start: 0, len: 0 });
+    };
+    let v = path::view(path);
+    let one = v.one;
+    part(text, one)
+}
+
+// The second identifier, likewise.
+pub fn second_identifier(text: &[u8], reading: Reading) -> &[u8]
+    ensures { λ r. ⌜ Shows r (text .entry) (secondPlace reading) ⌝ }
+{
+    let Reading::Read { path, exact: _ } = reading else {
+        return part(text, Place { start: 0, len: 0 });
+    };
+    let v = path::view(path);
+    let two = v.two;
+    part(text, two)
+}
+
+// Reads a text as a path. The mark goes by length, since a rendering that is as long as its text is that text.
+pub fn read_path(text: &[u8]) -> Reading
+    ensures { λ r. ⌜ r ≡ readPath (now (text .entry)) ⌝ }
+{
+    if 4096 < text.len() {
+        return Reading::Refused(Refusal::TooLong);
+    }
+    if !text::part::all_ascii(text) {
+        return Reading::Refused(Refusal::NotAscii);
+    }
+    let PathAnswer::Found(path) = parse::parse_path(text) else {
+        return Reading::Refused(Refusal::NotAPath);
+    };
+    let v = path::view(path);
+    let length = path::measure::render_length(v.kind, v.one.len, v.two.len, v.a, v.b);
+    Reading::Read {
+        path,
+        exact: length == text.len(),
+    }
+}
+
+// The reading of a text as 26 bytes, for the node.
+pub fn write_reading(text: &[u8], out: &mut [u8]) -> Written
+    ensures { λ r. ⌜ r ≡ answer (readingBytes (now (text .entry))) (length (now (out .entry))) ⌝ }
+    ensures { λ _. ⌜ now (out .exit) ≡ left (readingBytes (now (text .entry))) (now (out .entry)) ⌝ }
+{
+    match read_path(text) {
+        Reading::Read { path, exact } => encode::write_view(path::view(path), exact, out),
+        Reading::Refused(why) => Written {
+            refusal: path::refusal_number(why),
+            length: 0,
+        },
+    }
+}

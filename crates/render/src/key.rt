@@ -1,0 +1,44 @@
+// The key of a text: the rendering of what it reads as.
+use crate::fit_row;
+use crate::write_row;
+use path::PathView;
+use path::Reading;
+use reader::part;
+use text::Written;
+ghost use mathlib.Core.Path.{_≡_};
+ghost use Prim.Native.Nat.{_+_, _≤_};
+ghost use lib.ListN.{length};
+ghost use Rattle.text.specs.Put.{put, answer, left};
+ghost use Rattle.path.specs.Read.{keyOf, render, partsOf};
+ghost use Rattle.path.specs.Text.{shownOf};
+ghost use Rattle.render.specs.Rows.{carried};
+
+// Writes the rendering of a path whose places are in the text, and returns the place after it.
+pub fn write_view(out: &mut [u8], at: usize, text: &[u8], v: PathView) -> usize
+    requires { ⌜ (1 ≤ v .kind) × (v .kind ≤ 19) ⌝ }
+    requires { ⌜ at + length (render (partsOf (v .kind)) (carried (shownOf (now text) (v .one)) (shownOf (now text) (v .two)) (v .a) (v .b))) ≤ length (now out) ⌝ }
+    ensures { λ r. ⌜ r ≡ at + length (render (partsOf (v .kind)) (carried (shownOf (now (text .entry)) (v .one)) (shownOf (now (text .entry)) (v .two)) (v .a) (v .b))) ⌝ }
+    ensures { λ _. ⌜ now (out .exit) ≡ put (now (out .entry)) at (render (partsOf (v .kind)) (carried (shownOf (now (text .entry)) (v .one)) (shownOf (now (text .entry)) (v .two)) (v .a) (v .b))) ⌝ }
+{
+    let kind = v.kind;
+    let row = kind as usize - 1;
+    write_row(out, at, row, part(text, v.one), part(text, v.two), v.a, v.b)
+}
+
+// Writes the key of a text: 1, 2, 3, then 4.
+pub fn write_key(text: &[u8], out: &mut [u8]) -> Written
+    ensures { λ r. ⌜ r ≡ answer (keyOf (now (text .entry))) (length (now (out .entry))) ⌝ }
+    ensures { λ _. ⌜ now (out .exit) ≡ left (keyOf (now (text .entry))) (now (out .entry)) ⌝ }
+{
+    let reading = reader::read_path(text);
+    let Reading::Read { path, exact: _ } = reading else {
+        return Written {
+            refusal: path::number::refusal_of(reading),
+            length: 0,
+        };
+    };
+    let v = path::view(path);
+    let kind = v.kind;
+    let row = kind as usize - 1;
+    fit_row(out, row, part(text, v.one), part(text, v.two), v.a, v.b)
+}
