@@ -1,15 +1,15 @@
 -- The tables of the code hold the parts: one computed test for each table, and what it says at each row.
 -- Assumes nothing.
-use Prim.Native.Nat.{ℕ, zero, suc, _+_, _*_, _-_, _/_, _%_, _≤_, _<_}
+use Prim.Native.Nat.{ℕ, zero, suc, _+_, _*_, _-_, _/_, _%_, _^_, _≤_, _<_}
 use mathlib.Core.Path.{_≡_, refl, sym, _∙_}
 use mathlib.Core.Bool.{Bool, true, false, cond, _&&_}
 use mathlib.Core.List.{List, [], _∷_, _++_, map}
 use native.Mathlib.Omega.{arith}
 use native.Mathlib.Nat.{add-zero, zero-add}
 use native.Mathlib.Numerals.{add-one}
-use lib.Dec.{eqb, leb}
+use lib.Dec.{eqb, ltb, leb}
 use borrow.Author.Tests.{lt-ltb, le-ltb, ne-eqb, leb-true, eqb-true}
-use lib.ListN.{length, getD, take, drop, length-append, drop-of-length-le}
+use lib.ListN.{length, getD, drop, length-append, drop-of-length-le}
 use lib.Seq.{drop-cons}
 use Rattle.text.specs.Number.{decimal}
 use Rattle.text.specs.Part.{same}
@@ -17,11 +17,20 @@ use Rattle.path.specs.Text.{joinBy, join}
 use Rattle.path.specs.Kinds.{client, connection, port, channel, upgrade, Carried, kinds, kind1, kind2, kind3, kind4, kind5, kind6, kind7, kind8, kind9, kind10, kind11, kind12, kind13, kind14, kind15, kind16, kind17, kind18, kind19}
 use Rattle.identifiers.specs.Check.{first}
 use Rattle.path.specs.Read.{show, shown, render, partsOf, nameFault, namesFault}
-use Rattle.render.specs.Pieces.{words, pieceOf, rowOf, codesOf, joined, wordStart, groups, groupFault}
+use Rattle.render.specs.Pieces.{words, pieceOf, rowOf, codesOf, groups, groupFault}
 
 both-true : (v w : Bool) → (v && w) ≡ true → (v ≡ true) × (w ≡ true)
 both-true true w e = (refl, e)
 both-true false w e = let z : _≡_ {A = ℕ} 0 1 = cc in absurd (omega arith)
+
+-- what is none of the first n numbers is past them: the last arm of a `match`
+abbrev pub NoneOf : ℕ → ℕ → Type 0
+NoneOf zero x = Unit
+NoneOf (suc n) x = NoneOf n x × (x ≡ n → ⊥)
+
+pub past : (n x : ℕ) → NoneOf n x → n ≤ x
+past zero x h = omega arith
+past (suc n) x h = let l = past n x (h .0) in let k = h .1 in omega arith
 
 -- ---- what holds of each of the numbers from i on, as one list of n
 abbrev pub from : ℕ → ℕ → List ℕ
@@ -59,19 +68,37 @@ kind-row k h l =
     let q : suc (k - 1) ≡ k = omega arith in
     rw q at (at-row (λ r. rowOf r) (λ r. partsOf (suc r)) 19 kinds-hold (k - 1) (omega arith))
 
--- how many pieces a row has, and which stands where among eight to a row
-unfoldable pub countAt : ℕ → ℕ
-countAt r = length (codesOf r)
+-- what a row has, as one number: its codes, the first of them lowest, then how many there are, then the group of its identifiers
+abbrev pub pack : List ℕ → ℕ
+pack [] = 0
+pack (c ∷ cs) = c + 256 * pack cs
 
-unfoldable pub codeAt : ℕ → ℕ
-codeAt p = getD (codesOf (p / 8)) (p % 8) 25
+unfoldable pub packOf : ℕ → ℕ
+packOf r = pack (codesOf r) + 2 ^ 56 * (length (codesOf r) + 16 * getD groups r 0)
 
-pub code-at : (r i : ℕ) → i < 8 → codeAt (r * 8 + i) ≡ getD (codesOf r) i 25
-unfolding codeAt
-code-at r i h =
+pub pack-count : (r : ℕ) → r < 26 → packOf r / 2 ^ 56 % 16 ≡ length (codesOf r)
+unfolding packOf codesOf rowOf same kinds kind1 kind2 kind3 kind4 kind5 kind6 kind7 kind8 kind9 kind10 kind11 kind12 kind13 kind14 kind15 kind16 kind17 kind18 kind19
+pack-count = at-row (λ r. packOf r / 2 ^ 56 % 16) (λ r. length (codesOf r)) 26 refl
+
+pub pack-group : (r : ℕ) → r < 26 → packOf r / 2 ^ 60 ≡ getD groups r 0
+unfolding packOf codesOf rowOf same kinds kind1 kind2 kind3 kind4 kind5 kind6 kind7 kind8 kind9 kind10 kind11 kind12 kind13 kind14 kind15 kind16 kind17 kind18 kind19
+pack-group = at-row (λ r. packOf r / 2 ^ 60) (λ r. getD groups r 0) 26 refl
+
+-- the code at a place below eight, 25 where there is none
+unfoldable codeIn : ℕ → ℕ → ℕ
+codeIn r i = cond (ltb i (length (codesOf r))) (packOf r / 2 ^ (i * 8) % 256) 25
+
+codes-hold : map (λ p. codeIn (p / 8) (p % 8)) (from 0 208) ≡ map (λ p. getD (codesOf (p / 8)) (p % 8) 25) (from 0 208)
+unfolding codeIn packOf codesOf rowOf same kinds kind1 kind2 kind3 kind4 kind5 kind6 kind7 kind8 kind9 kind10 kind11 kind12 kind13 kind14 kind15 kind16 kind17 kind18 kind19
+codes-hold = refl
+
+pub pack-code : (r i : ℕ) → r < 26 → i < 8 → i < length (codesOf r) → packOf r / 2 ^ (i * 8) % 256 ≡ getD (codesOf r) i 25
+unfolding codeIn
+pack-code r i h l k =
     let q : (r * 8 + i) / 8 ≡ r = omega arith in
     let m : (r * 8 + i) % 8 ≡ i = omega arith in
-    rw (q, m)
+    let e = at-row (λ p. codeIn (p / 8) (p % 8)) (λ p. getD (codesOf (p / 8)) (p % 8) 25) 208 codes-hold (r * 8 + i) (omega arith) in
+    rw (q, m, lt-ltb i (length (codesOf r)) k) at e
 
 row-short : (r : ℕ) → r < 26 → (leb 1 (length (codesOf r)) && leb (length (codesOf r)) 8) ≡ true
 unfolding codesOf rowOf same kinds kind1 kind2 kind3 kind4 kind5 kind6 kind7 kind8 kind9 kind10 kind11 kind12 kind13 kind14 kind15 kind16 kind17 kind18 kind19
@@ -81,28 +108,6 @@ pub row-some : (r : ℕ) → r < 26 → (1 ≤ length (codesOf r)) × (length (c
 row-some r h =
     let b = both-true (leb 1 (length (codesOf r))) (leb (length (codesOf r)) 8) (row-short r h) in
     (leb-true 1 (length (codesOf r)) (b .0), leb-true (length (codesOf r)) 8 (b .1))
-
--- ---- the words
--- a word stands among all of them from its start to the next one's
-words-stand : (c : ℕ) → c < 21 → take (wordStart (c + 1) - wordStart c) (drop (wordStart c) (joined words)) ≡ getD words c []
-unfolding wordStart
-words-stand = at-row (λ c. take (wordStart (c + 1) - wordStart c) (drop (wordStart c) (joined words))) (λ c. getD words c []) 21 refl
-
-pub word-part : (c s e : ℕ) → c < 21 → s ≡ wordStart c → e ≡ wordStart (c + 1) → take (e - s) (drop s (joined words)) ≡ getD words c []
-word-part c s e h p q = rw (p, q) (words-stand c h)
-
-words-rise : (c : ℕ) → c < 21 → (leb (wordStart c) (wordStart (c + 1)) && leb (wordStart (c + 1)) 265) ≡ true
-unfolding wordStart
-words-rise = at-row (λ c. leb (wordStart c) (wordStart (c + 1)) && leb (wordStart (c + 1)) 265) (λ c. true) 21 refl
-
-pub word-within : (c : ℕ) → c < 21 → (wordStart c ≤ wordStart (c + 1)) × (wordStart (c + 1) ≤ 265)
-word-within c h =
-    let b = both-true (leb (wordStart c) (wordStart (c + 1))) (leb (wordStart (c + 1)) 265) (words-rise c h) in
-    (leb-true (wordStart c) (wordStart (c + 1)) (b .0), leb-true (wordStart (c + 1)) 265 (b .1))
-
-pub word-length : (c : ℕ) → c < 21 → length (getD words c []) ≡ wordStart (c + 1) - wordStart c
-unfolding wordStart
-word-length = at-row (λ c. length (getD words c [])) (λ c. wordStart (c + 1) - wordStart c) 21 refl
 
 -- what the codes stand for
 module _ (v : Carried (List ℕ)) where

@@ -5,7 +5,7 @@ use Prim.Native.Nat.{ℕ, suc}
 use mathlib.Core.Bool.{cond}
 use mathlib.Core.List.{List, [], _∷_, _++_, map}
 use lib.Dec.{eqb, ltb}
-use lib.ListN.{length, getD, take}
+use lib.ListN.{getD}
 use Rattle.text.specs.Bytes.{bytes}
 use Rattle.text.specs.Number.{decimal}
 use Rattle.text.specs.Part.{same}
@@ -81,14 +81,6 @@ codeOf pair = 24
 
 unfoldable pub codesOf : ℕ → List ℕ
 codesOf r = map codeOf (rowOf r)
-
--- the words, one after the other, and where each starts
-abbrev pub joined : List (List ℕ) → List ℕ
-joined [] = []
-joined (w ∷ ws) = w ++ joined ws
-
-unfoldable pub wordStart : ℕ → ℕ
-wordStart c = length (joined (take c words))
 
 -- which identifiers each row has: 0 none, 1 a client, 2 a connection, 3 a port, 4 a port and a channel, 5 an upgrade path
 abbrev pub groups : List ℕ

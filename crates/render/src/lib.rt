@@ -21,339 +21,118 @@ ghost use Rattle.text.specs.Part.{every};
 ghost use Rattle.path.specs.Kinds.{upgrade};
 ghost use Rattle.path.specs.Read.{render, limited, renderOf, nameFault, namesFault};
 ghost use Rattle.render.specs.Rows.{carried, short};
-ghost use Rattle.render.specs.Pieces.{pieceOf, codesOf, rowOf, words, wordStart, groups};
+ghost use Rattle.render.specs.Pieces.{pieceOf, codesOf, rowOf, words, groups};
+ghost use Rattle.render.specs.PieceLaws.{packOf};
 
-// The words, one after the other, and where each starts.
-const WORDS: [u8; 265] =
-    *b"nextClientSequencenextConnectionSequencenextChannelSequenceclientsclientStateconsensusStatesprocessedTimeprocessedHeightconnectionsportschannelEndschannelsnextSequenceSendnextSequenceRecvnextSequenceAckcommitmentsacksreceiptssequencesupgradedClientupgradedConsState";
-
-const STARTS: [usize; 22] = [
-    0,
-    18,
-    40,
-    59,
-    66,
-    77,
-    92,
-    105,
-    120,
-    131,
-    136,
-    147,
-    155,
-    171,
-    187,
-    202,
-    213,
-    217,
-    225,
-    234,
-    248,
-    265,
-];
-
-// The pieces of each row, eight to a row, and how many there are.
-const PIECES: [u8; 208] = [
-    0,
-    25,
-    25,
-    25,
-    25,
-    25,
-    25,
-    25,
-    1,
-    25,
-    25,
-    25,
-    25,
-    25,
-    25,
-    25,
-    2,
-    25,
-    25,
-    25,
-    25,
-    25,
-    25,
-    25,
-    3,
-    21,
-    4,
-    25,
-    25,
-    25,
-    25,
-    25,
-    3,
-    21,
-    5,
-    24,
-    25,
-    25,
-    25,
-    25,
-    3,
-    21,
-    5,
-    24,
-    6,
-    25,
-    25,
-    25,
-    3,
-    21,
-    5,
-    24,
-    7,
-    25,
-    25,
-    25,
-    3,
-    21,
-    8,
-    25,
-    25,
-    25,
-    25,
-    25,
-    8,
-    21,
-    25,
-    25,
-    25,
-    25,
-    25,
-    25,
-    9,
-    21,
-    25,
-    25,
-    25,
-    25,
-    25,
-    25,
-    10,
-    9,
-    21,
-    11,
-    22,
-    25,
-    25,
-    25,
-    12,
-    9,
-    21,
-    11,
-    22,
-    25,
-    25,
-    25,
-    13,
-    9,
-    21,
-    11,
-    22,
-    25,
-    25,
-    25,
-    14,
-    9,
-    21,
-    11,
-    22,
-    25,
-    25,
-    25,
-    15,
-    9,
-    21,
-    11,
-    22,
-    18,
-    23,
-    25,
-    16,
-    9,
-    21,
-    11,
-    22,
-    18,
-    23,
-    25,
-    17,
-    9,
-    21,
-    11,
-    22,
-    18,
-    23,
-    25,
-    21,
-    23,
-    19,
-    25,
-    25,
-    25,
-    25,
-    25,
-    21,
-    23,
-    20,
-    25,
-    25,
-    25,
-    25,
-    25,
-    3,
-    21,
-    5,
-    25,
-    25,
-    25,
-    25,
-    25,
-    5,
-    24,
-    25,
-    25,
-    25,
-    25,
-    25,
-    25,
-    5,
-    24,
-    6,
-    25,
-    25,
-    25,
-    25,
-    25,
-    5,
-    24,
-    7,
-    25,
-    25,
-    25,
-    25,
-    25,
-    15,
-    9,
-    21,
-    11,
-    22,
-    18,
-    25,
-    25,
-    16,
-    9,
-    21,
-    11,
-    22,
-    18,
-    25,
-    25,
-    17,
-    9,
-    21,
-    11,
-    22,
-    18,
-    25,
-    25,
-];
-
-const COUNTS: [usize; 26] = [
-    1,
-    1,
-    1,
-    3,
-    4,
-    5,
-    5,
-    3,
-    2,
-    2,
-    5,
-    5,
-    5,
-    5,
-    7,
-    7,
-    7,
-    3,
-    3,
-    3,
-    2,
-    3,
-    3,
-    6,
-    6,
-    6,
-];
-
-// Which identifiers a row has: none, a client, a connection, a port, a port and a channel, an upgrade path.
-const NAMES: [u8; 26] = [
-    0,
-    0,
-    0,
-    1,
-    1,
-    1,
-    1,
-    1,
-    2,
-    3,
-    4,
-    4,
-    4,
-    4,
-    4,
-    4,
-    4,
-    5,
-    5,
-    1,
-    0,
-    0,
-    0,
-    4,
-    4,
-    4,
-];
+// What a row has, by its hexadecimal digits: the group of its identifiers, how many pieces there are, and two digits for
+// each piece, the first piece last. A `match` is one load from a table, where a `const` array is laid out at each use.
+fn row_codes(row: usize) -> u64
+    requires { ⌜ row < 26 ⌝ }
+    ensures { λ r. ⌜ r ≡ packOf row ⌝ }
+{
+    match row {
+        0 => 0x0100000000000000,
+        1 => 0x0100000000000001,
+        2 => 0x0100000000000002,
+        3 => 0x1300000000041503,
+        4 => 0x1400000018051503,
+        5 => 0x1500000618051503,
+        6 => 0x1500000718051503,
+        7 => 0x1300000000081503,
+        8 => 0x2200000000001508,
+        9 => 0x3200000000001509,
+        10 => 0x450000160b15090a,
+        11 => 0x450000160b15090c,
+        12 => 0x450000160b15090d,
+        13 => 0x450000160b15090e,
+        14 => 0x471712160b15090f,
+        15 => 0x471712160b150910,
+        16 => 0x471712160b150911,
+        17 => 0x5300000000131715,
+        18 => 0x5300000000141715,
+        19 => 0x1300000000051503,
+        20 => 0x0200000000001805,
+        21 => 0x0300000000061805,
+        22 => 0x0300000000071805,
+        23 => 0x460012160b15090f,
+        24 => 0x460012160b150910,
+        _ => 0x460012160b150911,
+    }
+}
 
 // How many pieces a row has: one or more.
 fn piece_count(row: usize) -> usize
     requires { ⌜ row < 26 ⌝ }
     ensures { λ r. ⌜ r ≡ length (codesOf row) ⌝ }
 {
-    COUNTS[row]
+    (row_codes(row) >> 56) as usize % 16
 }
 
 fn piece_at(row: usize, i: usize) -> u8
     requires { ⌜ (row < 26) × (i < length (codesOf row)) ⌝ }
     ensures { λ r. ⌜ r ≡ getD (codesOf row) i 25 ⌝ }
 {
-    PIECES[row * 8 + i]
+    ((row_codes(row) >> (i * 8)) % 256) as u8
 }
 
-fn word_start(word: usize) -> usize
-    requires { ⌜ word < 22 ⌝ }
-    ensures { λ r. ⌜ r ≡ wordStart word ⌝ }
+fn word_length(word: usize) -> usize
+    requires { ⌜ word < 21 ⌝ }
+    ensures { λ r. ⌜ r ≡ length (getD words word []) ⌝ }
 {
-    STARTS[word]
+    match word {
+        0 => 18,
+        1 => 22,
+        2 => 19,
+        3 => 7,
+        4 => 11,
+        5 => 15,
+        6 => 13,
+        7 => 15,
+        8 => 11,
+        9 => 5,
+        10 => 11,
+        11 => 8,
+        12 => 16,
+        13 => 16,
+        14 => 15,
+        15 => 11,
+        16 => 4,
+        17 => 8,
+        18 => 9,
+        19 => 14,
+        _ => 17,
+    }
 }
 
-// Writes a word, and returns the place after it.
+// Writes a word, and returns the place after it. Each word is a literal of its own, so that its bytes are stored at once.
 fn write_word(out: &mut [u8], at: usize, word: usize) -> usize
     requires { ⌜ (word < 21) × (at + length (getD words word []) ≤ length (now out)) ⌝ }
     ensures { λ r. ⌜ r ≡ at + length (getD words word []) ⌝ }
     ensures { λ _. ⌜ now (out .exit) ≡ put (now (out .entry)) at (getD words word []) ⌝ }
 {
-    let start = word_start(word);
-    let end = word_start(word + 1);
-    text::put::write_text(out, at, &WORDS[start..end])
+    match word {
+        0 => text::put::write_text(out, at, b"nextClientSequence"),
+        1 => text::put::write_text(out, at, b"nextConnectionSequence"),
+        2 => text::put::write_text(out, at, b"nextChannelSequence"),
+        3 => text::put::write_text(out, at, b"clients"),
+        4 => text::put::write_text(out, at, b"clientState"),
+        5 => text::put::write_text(out, at, b"consensusStates"),
+        6 => text::put::write_text(out, at, b"processedTime"),
+        7 => text::put::write_text(out, at, b"processedHeight"),
+        8 => text::put::write_text(out, at, b"connections"),
+        9 => text::put::write_text(out, at, b"ports"),
+        10 => text::put::write_text(out, at, b"channelEnds"),
+        11 => text::put::write_text(out, at, b"channels"),
+        12 => text::put::write_text(out, at, b"nextSequenceSend"),
+        13 => text::put::write_text(out, at, b"nextSequenceRecv"),
+        14 => text::put::write_text(out, at, b"nextSequenceAck"),
+        15 => text::put::write_text(out, at, b"commitments"),
+        16 => text::put::write_text(out, at, b"acks"),
+        17 => text::put::write_text(out, at, b"receipts"),
+        18 => text::put::write_text(out, at, b"sequences"),
+        19 => text::put::write_text(out, at, b"upgradedClient"),
+        _ => text::put::write_text(out, at, b"upgradedConsState"),
+    }
 }
 
 // How many bytes a piece has.
@@ -361,8 +140,7 @@ fn piece_length(code: u8, one: &[u8], two: &[u8], a: u64, b: u64) -> usize
     ensures { λ r. ⌜ r ≡ length (pieceOf (carried (now (one .entry)) (now (two .entry)) a b) code) ⌝ }
 {
     if code < 21 {
-        let word = code as usize;
-        return word_start(word + 1) - word_start(word);
+        return word_length(code as usize);
     }
     if code == 21 {
         return one.len();
@@ -514,7 +292,7 @@ fn names_of(row: usize) -> u8
     requires { ⌜ row < 26 ⌝ }
     ensures { λ r. ⌜ r ≡ getD groups row 0 ⌝ }
 {
-    NAMES[row]
+    (row_codes(row) >> 60) as u8
 }
 
 // The first refusal of the identifiers that a row has.

@@ -1,27 +1,23 @@
-use Rattle.text.specs.TableLaws.{table-at}
-use Rattle.text.specs.Part.{same}
-use Rattle.path.specs.Kinds.{kinds, kind1, kind2, kind3, kind4, kind5, kind6, kind7, kind8, kind9, kind10, kind11, kind12, kind13, kind14, kind15, kind16, kind17, kind18, kind19}
-use mathlib.Core.Path.{_∙_}
-use Prim.Native.Nat.{_+_, _*_}
-use Rattle.render.specs.Pieces.{codesOf, rowOf}
-use Rattle.render.specs.PieceLaws.{codeAt, code-at, row-some}
+use Rattle.render.specs.PieceLaws.{row-some, pack-code}
 use native.Mathlib.Omega.{arith}
 use borrow.Author.Needs.{needs}
 use Rattle.render.proofs.piece_at.Statement.{statement}
 use Rattle.render.proofs.piece_at.Tie as tie
 
+row-codes-requires : tie.Need-row-codes-requires
+row-codes-requires c κs = search needs
+
 mul-result : tie.Need-mul-result
-mul-result c = search needs
+mul-result c = let s = row-some (c .before .args .row) (c .before .pre .0) in omega arith
 
-add-result : tie.Need-add-result
-add-result c = let r = row-some (c .args .row) (c .pre .0) in omega arith
+shr-result : tie.Need-shr-result
+shr-result c = let s = row-some (c .before .args .row) (c .before .pre .0) in omega arith
 
-array-read-result : tie.Need-array-read-result
-array-read-result c = let r = row-some (c .args .row) (c .pre .0) in omega arith
+cast-result : tie.Need-cast-result
+cast-result c = search needs
 
 returns : tie.Need-returns
-unfolding codeAt codesOf rowOf same kinds kind1 kind2 kind3 kind4 kind5 kind6 kind7 kind8 kind9 kind10 kind11 kind12 kind13 kind14 kind15 kind16 kind17 kind18 kind19
-returns c = let r = row-some (c .args .row) (c .pre .0) in table-at codeAt 208 (c .args .row * 8 + c .args .i) (omega arith) ∙ code-at (c .args .row) (c .args .i) (omega arith)
+returns c = let s = row-some (c .before .args .row) (c .before .pre .0) in rw (c .row-codes .ensures) (pack-code (c .before .args .row) (c .before .args .i) (c .before .pre .0) (omega arith) (c .before .pre .1))
 
 pub piece-at-spec : {M : Type 1} → statement M
-piece-at-spec = tie.close (tie.spec mul-result add-result array-read-result returns)
+piece-at-spec = tie.close (tie.spec row-codes-requires mul-result shr-result cast-result returns)

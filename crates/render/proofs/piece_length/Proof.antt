@@ -1,30 +1,19 @@
 use mathlib.Core.Path.{sym, ap, _∙_}
 use lib.ListN.{length}
 use Rattle.text.specs.NumberLaws.{length-decimal, width-u64}
-use Rattle.render.specs.PieceLaws.{piece-word, piece-one, piece-two, piece-count, piece-pair, word-within, word-length, length-pair}
-use Prim.Native.Nat.{_<_}
+use Rattle.render.specs.PieceLaws.{piece-word, piece-one, piece-two, piece-count, piece-pair, length-pair}
 use Rattle.render.specs.Rows.{carried}
 use native.Mathlib.Omega.{arith}
 use borrow.Author.Needs.{needs}
 use Rattle.render.proofs.piece_length.Statement.{statement}
 use Rattle.render.proofs.piece_length.Tie as tie
 
-add-word-start : tie.Need-add-word-start
-add-word-start c = search needs
-
-word-start-requires : tie.Need-word-start-requires
-word-start-requires c κs = search needs
-
-word-start-requires-2 : tie.Need-word-start-requires-2
-word-start-requires-2 c κs = search needs
-
-sub-result : tie.Need-sub-result
-sub-result c = let w = word-within (c .before .before .before .before .before .args .code) (omega arith) in omega (arith, c .before .word-start .ensures, c .word-start2 .ensures)
+word-length-requires : tie.Need-word-length-requires
+word-length-requires c κs = search needs
 
 returns : tie.Need-returns
-returns c = let x = c .before .before .before .before .before .args in
-    let h : x .code < 21 = omega arith in
-    omega (arith, word-length (x .code) h, ap length (piece-word (carried (x .one .now) (x .two .now) (x .a) (x .b)) (x .code) h), c .before .word-start .ensures, c .word-start2 .ensures)
+returns c = let x = c .before .before .before .before .args in
+    c .word-length .ensures ∙ sym (ap length (piece-word (carried (x .one .now) (x .two .now) (x .a) (x .b)) (x .code) (omega arith)))
 
 returns-2 : tie.Need-returns-2
 returns-2 c = sym (ap length (piece-one _ _ (c .if2 .taken)))
@@ -59,10 +48,7 @@ pub piece-length-spec : {M : Type 1} → statement M
 piece-length-spec =
     tie.close
     (tie.spec
-    add-word-start
-    word-start-requires
-    word-start-requires-2
-    sub-result
+    word-length-requires
     returns
     returns-2
     returns-3
