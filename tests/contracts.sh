@@ -1,12 +1,7 @@
 #!/bin/sh
 # Holds docs/CONTRACTS.md to the source: every public function of every listed library has a row, every row is of such a
 # function, and each definition and lemma that a row names exists. Last line: 'N passed, M failed'.
-set -u
-cd "$(dirname "$0")/.." || exit 2
-work=$(mktemp -d) || exit 2
-trap 'rm -rf "$work"' EXIT
-passed=0
-failed=0
+. "$(dirname "$0")/lib/start.sh"
 
 fail() {
     echo "contracts: $1"

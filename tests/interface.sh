@@ -1,12 +1,7 @@
 #!/bin/sh
 # Holds the three places that name the C interface to each other: what crates/node exports, what include/hostpath.h
 # declares, and what rust/hostpath declares. Last line: 'N passed, M failed'.
-set -u
-cd "$(dirname "$0")/.." || exit 2
-work=$(mktemp -d) || exit 2
-trap 'rm -rf "$work"' EXIT
-passed=0
-failed=0
+. "$(dirname "$0")/lib/start.sh"
 
 sed -n 's/^pub extern "C" fn \(hp_[a-z0-9_]*\)(.*/\1/p' crates/node/src/lib.rt | sort >"$work/node"
 grep -o '^[a-z][a-z0-9_ ]* hp_[a-z0-9_]*(' include/hostpath.h | grep -o 'hp_[a-z0-9_]*(' | tr -d '(' | sort >"$work/hostpath.h"

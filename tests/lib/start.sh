@@ -1,0 +1,7 @@
+# What every test begins with: the repository's top, a folder of its own that goes away, and the two counts.
+set -u
+cd "$(dirname "$0")/.." || exit 2
+work=$(mktemp -d) || exit 2
+trap 'rm -rf "$work"' EXIT
+passed=0
+failed=0
