@@ -21,7 +21,7 @@ use Rattle.path.specs.View.{kindOf, viewOf}
 use Rattle.path.specs.ReadLaws.{made-range}
 use Rattle.path.specs.BackLaws.{read-reads}
 use Rattle.path.specs.LengthLaws.{rendering-short}
-use Rattle.render.specs.Rows.{carried}
+use Rattle.rows.specs.Rows.{carried}
 use Rattle.render.specs.ViewLaws.{view-parts}
 use Rattle.ask.specs.Answer.{mark, head, printed, lineAnswer}
 

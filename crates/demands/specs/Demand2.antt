@@ -23,7 +23,8 @@ use Rattle.path.specs.Valid.{only, ReadsAs}
 use Rattle.path.specs.ReadLaws.{kindAt, fits-one}
 use Rattle.path.specs.BackLaws.{render-read, rendered-valid, read-again, key-read, key-exact}
 use Rattle.path.specs.LengthLaws.{longest}
-use Rattle.render.specs.Rows.{carried, iterationKey}
+use Rattle.rows.specs.Rows.{carried}
+use Rattle.render.specs.Iteration.{iterationKey}
 use Rattle.render.specs.KeyLaws.{key-compare}
 use Rattle.demands.specs.Written.{Proper, accepted-proper, Wrote, wrote}
 use Rattle.reader.proofs.read_path.Reads as read-path

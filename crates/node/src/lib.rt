@@ -16,7 +16,8 @@ ghost use Rattle.identifiers.specs.Owned.{newClient, newChannel};
 ghost use Rattle.path.specs.Kinds.{word};
 ghost use Rattle.path.specs.Read.{readingBytes, keyOf, renderOf};
 ghost use Rattle.path.specs.View.{provableFlag};
-ghost use Rattle.render.specs.Rows.{carried, textOf, consensusParent, consensusLeaf, packetsPath, iterationKey};
+ghost use Rattle.rows.specs.Rows.{carried, textOf, consensusParent, consensusLeaf, packetsPath};
+ghost use Rattle.render.specs.Iteration.{iterationKey};
 
 #[no_mangle]
 pub extern "C" fn hp_validate_identifier_chars(id: &[u8]) -> u8

@@ -1,7 +1,5 @@
 -- What the contracts of `render` cite. Files that end in `Laws` hold consequences, which a reader may skip.
-pub mod Rows
-pub mod Pieces
-pub mod PieceLaws
+pub mod Iteration
 pub mod RenderLaws
 pub mod KeyLaws
 pub mod ViewLaws

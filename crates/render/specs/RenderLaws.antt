@@ -8,31 +8,14 @@ use native.Mathlib.Omega.{arith}
 use lib.Dec.{leb}
 use lib.ListN.{length, getD}
 use borrow.Author.Tests.{le-leb, lt-leb, leb-true, ne-eqb}
-use Rattle.text.specs.Put.{refused, text, refusal, accepted, answer, left}
+use Rattle.text.specs.Put.{refused, accepted}
 use Rattle.identifiers.specs.Check.{first, unless}
 use Rattle.path.specs.Kinds.{port, channel, Part, Carried, kinds, kind1, kind2, kind3, kind4, kind5, kind6, kind7, kind8, kind9, kind10, kind11, kind12, kind13, kind14, kind15, kind16, kind17, kind18, kind19}
 use Rattle.path.specs.LengthLaws.{mostOf, rendered-most}
 use Rattle.path.specs.Read.{render, nameFault, namesFault, limited, partsOf, renderOf}
-use Rattle.render.specs.Rows.{carried, short, textOf}
-use Rattle.render.specs.Pieces.{texts, rowOf, groups, groupFault}
-use Rattle.render.specs.PieceLaws.{from, at-row, kind-row, row-fault}
-
-pub answer-refused : (n room : ℕ) → answer (refused n) room ≡ refusal n
-unfolding answer
-answer-refused n room = refl
-
-pub left-refused : (n : ℕ) (out : List ℕ) → left (refused n) out ≡ out
-unfolding left
-left-refused n out = refl
-
-module _ (w : List ℕ) where
-  pub short-long : 4096 < length w → short w ≡ refused 1
-  unfolding short
-  short-long h = rw (lt-leb (length w) 4096 h)
-
-  pub short-fits : length w ≤ 4096 → short w ≡ text w
-  unfolding short
-  short-fits h = rw (le-leb (length w) 4096 h)
+use Rattle.rows.specs.Rows.{carried, short, textOf}
+use Rattle.rows.specs.Pieces.{texts, rowOf, groups, groupFault}
+use Rattle.rows.specs.PieceLaws.{from, at-row, kind-row, row-fault}
 
 module _ (ps : List Part) (v : Carried (List ℕ)) where
   pub limited-fault : (n : ℕ) → n ≡ namesFault ps v → (n ≡ 0 → ⊥) → limited ps v ≡ refused n

@@ -17,9 +17,10 @@ use Rattle.path.specs.ReadLaws.{made-range}
 use Rattle.path.specs.BackLaws.{read-reads}
 use Rattle.path.specs.LengthLaws.{rendering-short}
 use Rattle.path.specs.PlaceLaws.{shown-read}
-use Rattle.render.specs.Rows.{carried, short}
-use Rattle.render.specs.Pieces.{rowOf}
-use Rattle.render.specs.RenderLaws.{short-fits, row-view}
+use Rattle.rows.specs.Rows.{carried, short}
+use Rattle.rows.specs.Pieces.{rowOf}
+use Rattle.rows.specs.PieceLaws.{short-fits}
+use Rattle.render.specs.RenderLaws.{row-view}
 
 -- a refusal is the key's too
 pub key-refused : (t : List ℕ) (r : Reading) (w : Refusal) → r ≡ Refused w → r ≡ readPath t → keyOf t ≡ refused (numberOf r)

@@ -6,7 +6,7 @@ use text::refusal::NO_ROOM;
 ghost use mathlib.Core.Path.{_≡_};
 ghost use lib.ListN.{length};
 ghost use Rattle.text.specs.Put.{text, answer, left};
-ghost use Rattle.render.specs.Rows.{iterationKey};
+ghost use Rattle.render.specs.Iteration.{iterationKey};
 
 // Writes the iteration key of a consensus state, 38 bytes.
 pub fn iteration_key(number: RevisionNumber, height: RevisionHeight, out: &mut [u8]) -> Written

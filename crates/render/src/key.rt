@@ -1,9 +1,9 @@
 // The key of a text: the rendering of what it reads as.
-use crate::fit_row;
-use crate::write_row;
 use path::PathView;
 use path::Reading;
 use reader::part;
+use rows::fit_row;
+use rows::write_row;
 use text::Written;
 ghost use mathlib.Core.Path.{_≡_};
 ghost use Prim.Native.Nat.{_+_, _≤_};
@@ -11,7 +11,7 @@ ghost use lib.ListN.{length};
 ghost use Rattle.text.specs.Put.{put, answer, left};
 ghost use Rattle.path.specs.Read.{keyOf, render, partsOf};
 ghost use Rattle.path.specs.Text.{shownOf};
-ghost use Rattle.render.specs.Rows.{carried};
+ghost use Rattle.rows.specs.Rows.{carried};
 
 // Writes the rendering of a path whose places are in the text, and returns the place after it.
 pub fn write_view(out: &mut [u8], at: usize, text: &[u8], v: PathView) -> usize

@@ -7,11 +7,11 @@ ghost use mathlib.Core.Path.{_≡_};
 ghost use mathlib.Core.List.{List, _∷_, []};
 ghost use Prim.Native.Nat.{_<_};
 ghost use lib.ListN.{length, getD};
-ghost use Rattle.render.specs.Pieces.{texts};
+ghost use Rattle.rows.specs.Pieces.{texts};
 ghost use Rattle.text.specs.Bytes.{bytes};
 ghost use Rattle.text.specs.Put.{text, answer, left};
 ghost use Rattle.path.specs.Kinds.{word};
-ghost use Rattle.render.specs.Rows.{carried, textOf, consensusParent, consensusLeaf, packetsPath};
+ghost use Rattle.rows.specs.Rows.{carried, textOf, consensusParent, consensusLeaf, packetsPath};
 
 // Checks the identifiers of a text that is no path, then writes it.
 fn text_row(out: &mut [u8], which: usize, one: &[u8], two: &[u8], a: u64, b: u64) -> Written

@@ -1,9 +1,10 @@
 use lib.ListN.{length}
 use mathlib.Core.Path.{refl, sym, ap, _∙_}
 use Rattle.text.specs.Put.{answer, left}
-use Rattle.render.specs.Rows.{carried}
-use Rattle.render.specs.Pieces.{rowOf}
-use Rattle.render.specs.RenderLaws.{answer-refused, left-refused, limited-fault, limited-none, names-alone}
+use Rattle.rows.specs.Rows.{carried}
+use Rattle.rows.specs.Pieces.{rowOf}
+use Rattle.text.specs.PutLaws.{answer-refused, left-refused}
+use Rattle.render.specs.RenderLaws.{limited-fault, limited-none, names-alone}
 use borrow.Author.Needs.{needs}
 use Rattle.render.proofs.checked_row.Statement.{statement}
 use Rattle.render.proofs.checked_row.Tie as tie

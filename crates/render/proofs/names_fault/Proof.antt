@@ -1,8 +1,8 @@
 use mathlib.Core.Path.{sym, _∙_}
 use borrow.Author.Tests.{ne-eqb}
 use Rattle.path.specs.Read.{nameFault}
-use Rattle.render.specs.Rows.{carried}
-use Rattle.render.specs.Pieces.{groupFault}
+use Rattle.rows.specs.Rows.{carried}
+use Rattle.rows.specs.Pieces.{groupFault}
 use Rattle.render.specs.RenderLaws.{group-is, group-last}
 use borrow.Author.Needs.{needs}
 use Rattle.render.proofs.names_fault.Statement.{statement}

@@ -1,8 +1,9 @@
 use lib.ListN.{length}
 use mathlib.Core.Path.{sym, ap, _∙_}
 use Rattle.text.specs.Put.{answer, left}
-use Rattle.render.specs.Rows.{carried}
-use Rattle.render.specs.RenderLaws.{answer-refused, left-refused, render-low, render-high, render-kind}
+use Rattle.rows.specs.Rows.{carried}
+use Rattle.text.specs.PutLaws.{answer-refused, left-refused}
+use Rattle.render.specs.RenderLaws.{render-low, render-high, render-kind}
 use native.Mathlib.Omega.{arith}
 use borrow.Author.Needs.{needs}
 use Rattle.render.proofs.render.Statement.{statement}

@@ -6,7 +6,7 @@ use Rattle.text.specs.Number.{bigEndian}
 use Rattle.text.specs.NumberLaws.{length-big}
 use Rattle.text.specs.Put.{done}
 use Rattle.text.specs.PutLaws.{put-then, put-next, length-put, answer-fits, answer-short, left-fits, left-short}
-use Rattle.render.specs.Rows.{iterationKey}
+use Rattle.render.specs.Iteration.{iterationKey}
 use Rattle.render.specs.KeyLaws.{key-length}
 use native.Mathlib.Omega.{arith}
 use borrow.Author.Needs.{needs}

@@ -1,7 +1,7 @@
 use mathlib.Core.Path.{sym, ap, _∙_}
 use lib.ListN.{length}
 use Rattle.text.specs.Put.{refusal, answer, left}
-use Rattle.render.specs.RenderLaws.{answer-refused, left-refused}
+use Rattle.text.specs.PutLaws.{answer-refused, left-refused}
 use Rattle.render.specs.ViewLaws.{key-refused, view-kind, view-key}
 use native.Mathlib.Omega.{arith}
 use borrow.Author.Needs.{needs}

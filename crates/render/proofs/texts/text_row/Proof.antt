@@ -1,7 +1,7 @@
 use mathlib.Core.Path.{ap, _∙_}
 use lib.ListN.{length}
 use Rattle.text.specs.Put.{answer, left}
-use Rattle.render.specs.Rows.{carried}
+use Rattle.rows.specs.Rows.{carried}
 use Rattle.render.specs.RenderLaws.{text-limited}
 use native.Mathlib.Omega.{arith}
 use borrow.Author.Needs.{needs}
