@@ -1,16 +1,15 @@
 -- The length of a rendering by three sums, and the tables of the code.
 -- Assumes nothing.
-use Prim.Native.Nat.{ℕ, zero, suc, _+_, _-_, _≤_}
+use Prim.Native.Nat.{ℕ, zero, suc, _+_, _*_, _/_, _%_, _≤_}
 use mathlib.Core.Path.{_≡_, refl, _∙_}
 use mathlib.Core.Bool.{true}
 use mathlib.Core.List.{List, [], _∷_, map}
 use native.Mathlib.Omega.{arith}
 use lib.Dec.{leb}
-use lib.ListN.{length, getD, length-append}
+use lib.ListN.{length, length-append}
 use borrow.Author.Tests.{leb-true}
 use Rattle.text.specs.Number.{width, decimal}
 use Rattle.text.specs.NumberLaws.{length-decimal}
-use Rattle.text.specs.TableLaws.{valuesFrom, table-at}
 use Rattle.path.specs.Text.{joinBy}
 use Rattle.path.specs.Kinds.{Name, client, connection, port, channel, upgrade, Part, word, name, count, pair, Carried, kinds, kind1, kind2, kind3, kind4, kind5, kind6, kind7, kind8, kind9, kind10, kind11, kind12, kind13, kind14, kind15, kind16, kind17, kind18, kind19}
 use Rattle.path.specs.Read.{nameIn, show, render, partsOf}
@@ -86,8 +85,28 @@ first-of-most zero x y = omega arith
 first-of-most (suc zero) x y = omega arith
 first-of-most (suc (suc n)) x y = omega arith
 
--- a table of the code: what stands at the place of kind k
-pub at-kind : (g : List Part → ℕ) (k : ℕ) → 1 ≤ k → k ≤ 19 → getD (valuesFrom (λ j. g (partsOf (j + 1))) 0 19) (k - 1) 0 ≡ g (partsOf k)
-at-kind g k low high =
-    let e : k - 1 + 1 ≡ k = omega arith in
-    table-at (λ j. g (partsOf (j + 1))) 19 (k - 1) (omega arith) ∙ rw e
+-- ---- the table of the code: what a kind has, as one number
+unfoldable pub sizes : List Part → ℕ
+sizes ps = fixed ps + 256 * (nameCount ps + 16 * numberCount ps)
+
+fixed-held : map (λ e. sizes (e .parts) % 256) kinds ≡ map (λ e. fixed (e .parts)) kinds
+unfolding sizes fixed nameCount numberCount kinds kind1 kind2 kind3 kind4 kind5 kind6 kind7 kind8 kind9 kind10 kind11 kind12 kind13 kind14 kind15 kind16 kind17 kind18 kind19
+fixed-held = refl
+
+names-held : map (λ e. sizes (e .parts) / 256 % 16) kinds ≡ map (λ e. nameCount (e .parts)) kinds
+unfolding sizes fixed nameCount numberCount kinds kind1 kind2 kind3 kind4 kind5 kind6 kind7 kind8 kind9 kind10 kind11 kind12 kind13 kind14 kind15 kind16 kind17 kind18 kind19
+names-held = refl
+
+numbers-held : map (λ e. sizes (e .parts) / 4096) kinds ≡ map (λ e. numberCount (e .parts)) kinds
+unfolding sizes fixed nameCount numberCount kinds kind1 kind2 kind3 kind4 kind5 kind6 kind7 kind8 kind9 kind10 kind11 kind12 kind13 kind14 kind15 kind16 kind17 kind18 kind19
+numbers-held = refl
+
+module _ (k : ℕ) (low : 1 ≤ k) (high : k ≤ 19) where
+  pub sizes-fixed : sizes (partsOf k) % 256 ≡ fixed (partsOf k)
+  sizes-fixed = rw (kind-parts k low high) (has-both (λ e. sizes (e .parts) % 256) (λ e. fixed (e .parts)) (kind-has k low high) fixed-held)
+
+  pub sizes-names : sizes (partsOf k) / 256 % 16 ≡ nameCount (partsOf k)
+  sizes-names = rw (kind-parts k low high) (has-both (λ e. sizes (e .parts) / 256 % 16) (λ e. nameCount (e .parts)) (kind-has k low high) names-held)
+
+  pub sizes-numbers : sizes (partsOf k) / 4096 ≡ numberCount (partsOf k)
+  sizes-numbers = rw (kind-parts k low high) (has-both (λ e. sizes (e .parts) / 4096) (λ e. numberCount (e .parts)) (kind-has k low high) numbers-held)

@@ -2,54 +2,57 @@
 ghost use mathlib.Core.Path.{_≡_};
 ghost use Prim.Native.Nat.{_+_, _^_, _≤_, _<_};
 ghost use Rattle.path.specs.Read.{partsOf};
+ghost use Rattle.path.specs.MeasureLaws.{sizes};
 ghost use Rattle.path.specs.Length.{renderLength, fixed, nameCount, numberCount, firstOf};
 
-// Of each kind: the bytes of its words, slashes and dashes, how many identifiers it has, and how many numbers.
-const FIXED: [usize; 19] = [
-    18,
-    22,
-    19,
-    20,
-    26,
-    40,
-    42,
-    20,
-    12,
-    6,
-    28,
-    33,
-    33,
-    32,
-    39,
-    32,
-    36,
-    16,
-    19,
-];
-
-const NAMES: [usize; 19] = [0, 0, 0, 1, 1, 1, 1, 1, 1, 1, 2, 2, 2, 2, 2, 2, 2, 1, 1];
-
-const NUMBERS: [usize; 19] = [0, 0, 0, 0, 2, 2, 2, 0, 0, 0, 0, 0, 0, 0, 1, 1, 1, 1, 1];
+// What a kind has, by hexadecimal digits: how many numbers, how many identifiers, and in two digits the bytes of its words,
+// slashes and dashes. A `match` is one load from a table, where a `const` array is laid out at each use.
+fn sizes_of(kind: u8) -> usize
+    requires { ⌜ (1 ≤ kind) × (kind ≤ 19) ⌝ }
+    ensures { λ r. ⌜ r ≡ sizes (partsOf kind) ⌝ }
+{
+    match kind {
+        1 => 0x0012,
+        2 => 0x0016,
+        3 => 0x0013,
+        4 => 0x0114,
+        5 => 0x211a,
+        6 => 0x2128,
+        7 => 0x212a,
+        8 => 0x0114,
+        9 => 0x010c,
+        10 => 0x0106,
+        11 => 0x021c,
+        12 => 0x0221,
+        13 => 0x0221,
+        14 => 0x0220,
+        15 => 0x1227,
+        16 => 0x1220,
+        17 => 0x1224,
+        18 => 0x1110,
+        _ => 0x1113,
+    }
+}
 
 fn fixed_bytes(kind: u8) -> usize
     requires { ⌜ (1 ≤ kind) × (kind ≤ 19) ⌝ }
     ensures { λ r. ⌜ r ≡ fixed (partsOf kind) ⌝ }
 {
-    FIXED[kind as usize - 1]
+    sizes_of(kind) % 256
 }
 
 fn name_count(kind: u8) -> usize
     requires { ⌜ (1 ≤ kind) × (kind ≤ 19) ⌝ }
     ensures { λ r. ⌜ r ≡ nameCount (partsOf kind) ⌝ }
 {
-    NAMES[kind as usize - 1]
+    sizes_of(kind) / 256 % 16
 }
 
 fn number_count(kind: u8) -> usize
     requires { ⌜ (1 ≤ kind) × (kind ≤ 19) ⌝ }
     ensures { λ r. ⌜ r ≡ numberCount (partsOf kind) ⌝ }
 {
-    NUMBERS[kind as usize - 1]
+    sizes_of(kind) / 4096
 }
 
 // The sum of the first n of two.

@@ -25,15 +25,6 @@ both-true : (v w : Bool) → (v && w) ≡ true → (v ≡ true) × (w ≡ true)
 both-true true w e = (refl, e)
 both-true false w e = let z : _≡_ {A = ℕ} 0 1 = cc in absurd (omega arith)
 
--- what is none of the n numbers from i on, and not below them, is past them: the last arm of a `match`
-abbrev pub NoneOf : ℕ → ℕ → ℕ → Type 0
-NoneOf i zero x = Unit
-NoneOf i (suc n) x = NoneOf i n x × (x ≡ i + n → ⊥)
-
-pub past : (i n x : ℕ) → NoneOf i n x → i ≤ x → i + n ≤ x
-past i zero x h l = omega arith
-past i (suc n) x h l = let m = past i n x (h .0) l in let k = h .1 in omega arith
-
 -- how many bytes a word has
 abbrev pub long : ℕ → ℕ
 long w = length (getD words w [])

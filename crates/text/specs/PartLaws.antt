@@ -1,7 +1,7 @@
 -- Laws of `Part`: one turn of each loop, and how the largest value of a text answers a test on each of its bytes.
 -- Assumes nothing.
 use mathlib.Core.Path.{_≡_, refl, sym, ap, _∙_}
-use mathlib.Core.Bool.{Bool, true, false, _&&_, and-true, and-false, and-assoc}
+use mathlib.Core.Bool.{Bool, true, false, cond, _&&_, and-true, and-false, and-assoc}
 use Prim.Native.Nat.{ℕ, zero, suc, max, _+_, _-_, _≤_, _<_}
 use native.Mathlib.Nat.{add-zero, add-suc, le-refl}
 use native.Mathlib.Numerals.{add-one}
@@ -133,13 +133,19 @@ module _ (w s : List ℕ) (at i : ℕ) where
     unfolding startsWith
     starts-more e = rw (drop-cons w i 0 h, drop-cons s (at + i) 0 k, eq-eqb (getD s (at + i) 0) (getD w i 0) e, add-one, add-suc)
 
--- ---- texts of one length are the same where one starts with the other
-pub same-starts : (a b : List ℕ) → length a ≡ length b → same a b ≡ startsWith b a
-unfolding same startsWith
-same-starts [] [] h = refl
-same-starts [] (y ∷ b) h = absurd (omega arith)
-same-starts (x ∷ a) [] h = absurd (omega arith)
-same-starts (x ∷ a) (y ∷ b) h = rw (same-starts a b (omega arith))
+-- ---- two texts of one length from i on, where d is 0 unless they differed before
+module _ (a b : List ℕ) (i d : ℕ) where
+  pub same-none : length a ≤ i → length b ≤ i → (eqb d 0 && same (drop i a) (drop i b)) ≡ eqb d 0
+  unfolding same
+  same-none h k = rw (drop-of-length-le a h, drop-of-length-le b k) (and-true (eqb d 0))
+
+  pub same-more : i < length a → i < length b → (eqb d 0 && same (drop i a) (drop i b)) ≡ (eqb (cond (eqb (getD a i 0) (getD b i 0)) d 1) 0 && same (drop (i + 1) a) (drop (i + 1) b))
+  unfolding same
+  same-more h k = rw (drop-cons a i 0 h, drop-cons b i 0 k, add-one) (go (eqb (getD a i 0) (getD b i 0)) (same (drop (suc i) a) (drop (suc i) b)))
+    where
+      go : (v w : Bool) → (eqb d 0 && (v && w)) ≡ (eqb (cond v d 1) 0 && w)
+      go true w = refl
+      go false w = and-false (eqb d 0)
 
 pub same-is : (a b : List ℕ) → same a b ≡ true → a ≡ b
 unfolding same

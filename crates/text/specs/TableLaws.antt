@@ -2,7 +2,7 @@
 -- Assumes nothing.
 use mathlib.Core.Path.{_≡_, _∙_}
 use mathlib.Core.List.{List, [], _∷_}
-use Prim.Native.Nat.{ℕ, zero, suc, _+_, _<_}
+use Prim.Native.Nat.{ℕ, zero, suc, _+_, _≤_, _<_}
 use native.Mathlib.Nat.{add-zero, zero-add, add-suc, suc-add}
 use native.Mathlib.Omega.{arith}
 use lib.ListN.{getD}
@@ -21,3 +21,12 @@ module _ (g : ℕ → ℕ) where
   -- what stands at each of its places
   pub table-at : (n k : ℕ) → k < n → getD (valuesFrom g 0 n) k 0 ≡ g k
   table-at n k h = from n 0 k h ∙ rw zero-add
+
+-- what is none of the n numbers from i on, and not below them, is past them: the last arm of a `match`
+abbrev pub NoneOf : ℕ → ℕ → ℕ → Type 0
+NoneOf i zero x = Unit
+NoneOf i (suc n) x = NoneOf i n x × (x ≡ i + n → ⊥)
+
+pub past : (i n x : ℕ) → NoneOf i n x → i ≤ x → i + n ≤ x
+past i zero x h l = omega arith
+past i (suc n) x h l = let m = past i n x (h .0) l in let k = h .1 in omega arith

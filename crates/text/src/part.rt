@@ -1,6 +1,8 @@
 // Tests on a text.
 ghost use mathlib.Core.Path.{_≡_};
+ghost use mathlib.Core.Bool.{cond};
 ghost use Prim.Native.Nat.{_≤_, max};
+ghost use lib.Dec.{eqb};
 ghost use lib.ListN.{length, drop};
 ghost use Rattle.text.specs.Part.{ascii, startsWith, same};
 
@@ -42,12 +44,25 @@ pub fn same_at(s: &[u8], at: usize, w: &[u8]) -> bool
     true
 }
 
-// Whether two texts are the same.
+// 1 where two bytes differ, and where they do not, what was known.
+fn unlike(known: u8, a: u8, b: u8) -> u8
+    ensures { λ r. ⌜ r ≡ cond (eqb a b) known 1 ⌝ }
+{
+    if a == b { known } else { 1 }
+}
+
+// Whether two texts are the same. The loop has no early exit, so that it can take many bytes at a time.
 pub fn equal(a: &[u8], b: &[u8]) -> bool
     ensures { λ r. ⌜ r ≡ same (now (a .entry)) (now (b .entry)) ⌝ }
 {
     if a.len() != b.len() {
         return false;
     }
-    same_at(a, 0, b)
+    let mut differ: u8 = 0;
+    let mut i = 0;
+    while i < a.len() {
+        differ = unlike(differ, a[i], b[i]);
+        i += 1;
+    }
+    differ == 0
 }

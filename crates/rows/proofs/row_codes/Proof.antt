@@ -1,8 +1,9 @@
 use mathlib.Core.Path.{_≡_}
 use Rattle.text.specs.Part.{same}
 use Rattle.path.specs.Kinds.{kinds, kind1, kind2, kind3, kind4, kind5, kind6, kind7, kind8, kind9, kind10, kind11, kind12, kind13, kind14, kind15, kind16, kind17, kind18, kind19}
+use Rattle.text.specs.TableLaws.{past}
 use Rattle.rows.specs.Pieces.{codesOf, rowOf}
-use Rattle.rows.specs.PieceLaws.{packOf, past}
+use Rattle.rows.specs.PieceLaws.{packOf}
 use native.Mathlib.Omega.{arith}
 use Rattle.rows.proofs.row_codes.Statement.{statement}
 use Rattle.rows.proofs.row_codes.Tie as tie

@@ -1,25 +1,17 @@
--- `measure::fixed_bytes` meets its contract: antt computes the table from that of the kinds, and compares.
+-- `measure::fixed_bytes` meets its contract.
 -- Assumes nothing.
-use Rattle.path.specs.Kinds.{kinds, kind1, kind2, kind3, kind4, kind5, kind6, kind7, kind8, kind9, kind10, kind11, kind12, kind13, kind14, kind15, kind16, kind17, kind18, kind19}
-use Rattle.path.specs.Read.{partsOf}
-use Rattle.path.specs.Length.{fixed}
-use Rattle.path.specs.MeasureLaws.{at-kind}
+use Prim.Native.Nat.{_%_}
+use mathlib.Core.Path.{ap, _∙_}
+use Rattle.path.specs.MeasureLaws.{sizes-fixed}
 use borrow.Author.Needs.{needs}
 use Rattle.path.proofs.measure.fixed_bytes.Statement.{statement}
 use Rattle.path.proofs.measure.fixed_bytes.Tie as tie
 
-sub-result : tie.Need-sub-result
-sub-result c = search needs
-
-mul-result : tie.Need-mul-result
-mul-result c = search needs
-
-array-read-result : tie.Need-array-read-result
-array-read-result c = search needs
+sizes-of-requires : tie.Need-sizes-of-requires
+sizes-of-requires c κs = search needs
 
 returns : tie.Need-returns
-unfolding partsOf fixed kinds kind1 kind2 kind3 kind4 kind5 kind6 kind7 kind8 kind9 kind10 kind11 kind12 kind13 kind14 kind15 kind16 kind17 kind18 kind19
-returns c = at-kind fixed (c .args .kind) (c .pre .0) (c .pre .1)
+returns c = let s = c .before in ap (λ n. n % 256) (c .sizes-of .ensures) ∙ sizes-fixed (s .args .kind) (s .pre .0) (s .pre .1)
 
 pub fixed-bytes-spec : {M : Type 1} → statement M
-fixed-bytes-spec = tie.close (tie.spec sub-result mul-result array-read-result returns)
+fixed-bytes-spec = tie.close (tie.spec sizes-of-requires returns)

@@ -1,7 +1,7 @@
 use mathlib.Core.Path.{_≡_}
-use Rattle.rows.specs.PieceLaws.{past}
 use native.Mathlib.Omega.{arith}
 use borrow.Author.Needs.{needs}
+use Rattle.text.specs.TableLaws.{past}
 use Rattle.rows.proofs.words.word_length.Statement.{statement}
 use Rattle.rows.proofs.words.word_length.Tie as tie
 

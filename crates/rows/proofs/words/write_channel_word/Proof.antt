@@ -1,5 +1,6 @@
 use mathlib.Core.Path.{_≡_, ap}
-use Rattle.rows.specs.PieceLaws.{past, long, written}
+use Rattle.text.specs.TableLaws.{past}
+use Rattle.rows.specs.PieceLaws.{long, written}
 use native.Mathlib.Omega.{arith}
 use borrow.Author.Needs.{needs}
 use Rattle.rows.proofs.words.write_channel_word.Statement.{statement}
