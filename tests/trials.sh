@@ -25,8 +25,8 @@ for file in trials/*.edits; do basename "$file" .edits; done >"$work/crates"
 sed 's/::.*//' "$work/rows" >>"$work/crates"
 : >"$work/edits"
 for crate in $(sort -u "$work/crates"); do
-    lay_out "$crate" "$work/$crate"
-    for record in "$work/$crate"/*; do
+    lay_out "$crate" "$work/records/$crate"
+    for record in "$work/records/$crate"/*; do
         [ -f "$record" ] || continue
         title=$(title_of "$record")
         echo "$title" >>"$work/edits"
