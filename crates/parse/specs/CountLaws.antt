@@ -1,14 +1,16 @@
--- The number of components decides which kinds can be read.
+-- The number of components decides which kinds can be read, and the first word between two readers.
 -- Assumes nothing.
 use Prim.Native.Nat.{ℕ, _<_}
 use mathlib.Core.Path.{_≡_, refl, sym, _∙_}
-use mathlib.Core.Bool.{Bool, true, false, _&&_}
+use mathlib.Core.Bool.{Bool, true, false, cond, _&&_, and-false}
 use mathlib.Core.List.{List, [], _∷_, _++_}
 use native.Mathlib.Omega.{arith}
 use lib.Dec.{eqb, lit<}
 use lib.ListN.{length}
 use borrow.Author.Tests.{eqb-true, ne-eqb}
-use Rattle.text.specs.PartLaws.{and-left, and-right}
+use Rattle.text.specs.Bytes.{bytes}
+use Rattle.text.specs.Part.{same}
+use Rattle.text.specs.PartLaws.{and-left, and-right, same-is}
 use Rattle.identifiers.specs.Check.{among}
 use Rattle.path.specs.declared.Path.{Path}
 use Rattle.path.specs.declared.PathAnswer.{PathAnswer}
@@ -17,8 +19,9 @@ use Rattle.path.specs.declared.Cut.{Cut}
 use Rattle.path.specs.TextLaws.{count-components}
 use Rattle.path.specs.Cut.{cutOf}
 use Rattle.parse.specs.CutLaws.{cut-count}
-use Rattle.path.specs.Kinds.{Kind, kinds, kind1, kind2, kind3, kind4, kind5, kind6, kind7, kind8, kind9, kind10, kind11, kind12, kind13, kind14, kind15, kind16, kind17, kind18, kind19}
-use Rattle.path.specs.Read.{componentCount, fitsKind, readKind, orElse, readFirst}
+use Rattle.path.specs.Text.{component}
+use Rattle.path.specs.Kinds.{Part, Kind, kinds, kind1, kind2, kind3, kind4, kind5, kind6, kind7, kind8, kind9, kind10, kind11, kind12, kind13, kind14, kind15, kind16, kind17, kind18, kind19}
+use Rattle.path.specs.Read.{componentCount, fits, fitFrom, carriedFrom, fitsKind, readKind, orElse, readFirst}
 
 abbrev keep : Bool → Kind → List Kind → List Kind
 keep true e es = e ∷ es
@@ -110,3 +113,50 @@ module _ (t : List ℕ) (n : ℕ) (h : componentCount t ≡ n) where
 
     pub read-second : (a : PathAnswer) → Nothing ≡ readFirst es t → a ≡ readFirst fs t → a ≡ readFirst kinds t
     read-second a e f = read-all (es ++ fs) a g (f ∙ sym (read-append es fs t ∙ rw (← e)))
+
+    or-nothing : (a : PathAnswer) → orElse a Nothing ≡ a
+    or-nothing (Found p) = refl
+    or-nothing Nothing = refl
+
+    pub read-only : (a : PathAnswer) → a ≡ readFirst es t → Nothing ≡ readFirst fs t → a ≡ readFirst kinds t
+    read-only a e f = read-all (es ++ fs) a g (e ∙ sym (read-append es fs t ∙ rw (← f) (or-nothing (readFirst es t))))
+
+-- ---- the first word decides between two readers of one number of components
+abbrev headFits : List Part → List ℕ → Bool
+headFits [] c = true
+headFits (p ∷ ps) c = fits p c
+
+abbrev NoHead : List Kind → List ℕ → Type 0
+NoHead [] c = Unit
+NoHead (e ∷ es) c = (headFits (e .parts) c ≡ false) × NoHead es c
+
+-- a kind whose first part is something else reads nothing
+other-head : (e : Kind) (t : List ℕ) → headFits (e .parts) (component t 0) ≡ false → readKind e t ≡ Nothing
+unfolding readKind fitsKind
+other-head e t h = go (e .parts) h
+  where
+    go : (ps : List Part) → headFits ps (component t 0) ≡ false → cond (eqb (componentCount t) (length ps) && fitFrom 0 ps t) (Found (e .make (carriedFrom 0 (e .parts) t))) Nothing ≡ Nothing
+    go [] k = let z : _≡_ {A = ℕ} 0 1 = cc in absurd (omega arith)
+    go (p ∷ ps) k = rw (k, and-false)
+
+no-head : (es : List Kind) (t : List ℕ) → NoHead es (component t 0) → Nothing ≡ readFirst es t
+unfolding readFirst
+no-head [] t h = refl
+no-head (e ∷ es) t h = rw (other-head e t (h .0)) (no-head es t (h .1))
+
+module _ (t : List ℕ) where
+  pub no-port : same (component t 0) (bytes "connections") ≡ true → Nothing ≡ readFirst (kind10 ∷ []) t
+  unfolding fits same kind10
+  no-port h = no-head (kind10 ∷ []) t (rw (same-is (component t 0) (bytes "connections") h) (refl, tt))
+
+  pub no-connection : same (component t 0) (bytes "connections") ≡ false → Nothing ≡ readFirst (kind9 ∷ []) t
+  unfolding fits kind9
+  no-connection h = no-head (kind9 ∷ []) t (h, tt)
+
+  pub no-ends : same (component t 0) (bytes "clients") ≡ true → Nothing ≡ readFirst (kind11 ∷ kind12 ∷ kind13 ∷ kind14 ∷ []) t
+  unfolding fits same kind11 kind12 kind13 kind14
+  no-ends h = no-head (kind11 ∷ kind12 ∷ kind13 ∷ kind14 ∷ []) t (rw (same-is (component t 0) (bytes "clients") h) (refl, (refl, (refl, (refl, tt)))))
+
+  pub no-update : same (component t 0) (bytes "clients") ≡ false → Nothing ≡ readFirst (kind6 ∷ kind7 ∷ []) t
+  unfolding fits kind6 kind7
+  no-update h = no-head (kind6 ∷ kind7 ∷ []) t (h, (h, tt))

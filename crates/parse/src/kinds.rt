@@ -188,9 +188,8 @@ pub(crate) fn parse_components(text: &[u8], cut: Cut) -> PathAnswer
         return parse_next_sequence(text, cut);
     }
     if count == 2 {
-        let connection = parse_connections(text, cut);
-        if let PathAnswer::Found(_) = connection {
-            return connection;
+        if is_word(text, cut, 0, b"connections") {
+            return parse_connections(text, cut);
         }
         return parse_ports(text, cut);
     }
@@ -205,9 +204,8 @@ pub(crate) fn parse_components(text: &[u8], cut: Cut) -> PathAnswer
         return parse_consensus_states(text, cut);
     }
     if count == 5 {
-        let update = parse_updates(text, cut);
-        if let PathAnswer::Found(_) = update {
-            return update;
+        if is_word(text, cut, 0, b"clients") {
+            return parse_updates(text, cut);
         }
         return parse_channel_ends(text, cut);
     }

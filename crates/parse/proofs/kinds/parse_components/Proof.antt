@@ -1,11 +1,11 @@
--- `kinds::parse_components` meets its contract: the number of components picks the group, and the group is the kinds with that many parts.
+-- `kinds::parse_components` meets its contract: the number of components picks the group, which is the kinds with that many parts, and the first word picks between two readers.
 -- Assumes nothing.
 use mathlib.Core.Path.{sym, _∙_}
 use mathlib.Core.List.{[], _∷_}
 use lib.Dec.{lit<}
 use Rattle.parse.specs.CutLaws.{cut-components}
 use Rattle.path.specs.Kinds.{kind4, kind6, kind7, kind8, kind9, kind10, kind11, kind12, kind13, kind14, kind18, kind19}
-use Rattle.parse.specs.CountLaws.{groups, read-all, read-first, read-second, read-none}
+use Rattle.parse.specs.CountLaws.{groups, read-all, read-only, read-first, read-second, read-none, no-port, no-connection, no-ends, no-update}
 use borrow.Author.Needs.{needs}
 use Rattle.parse.proofs.kinds.parse_components.Statement.{statement}
 use Rattle.parse.proofs.kinds.parse_components.Tie as tie
@@ -19,20 +19,20 @@ returns c =
     let n = cut-components (s .args .text .now) (s .args .cut) 1 (s .pre .0) (c .before .if1 .taken) (lit< tt) in
     read-all _ 1 n _ _ (groups .0) (c .parse-next-sequence .ensures)
 
+slice-aggregate-is-word : tie.Need-slice-aggregate-is-word
+slice-aggregate-is-word c = search needs
+
+is-word-requires : tie.Need-is-word-requires
+is-word-requires c κs = search needs
+
 parse-connections-requires : tie.Need-parse-connections-requires
 parse-connections-requires c κs = search needs
 
-enum-told : tie.Need-enum-told
-enum-told c = search needs
-
 returns-2 : tie.Need-returns-2
 returns-2 c =
-    let s = c .before .before .before .before .before .before in
-    let n = cut-components (s .args .text .now) (s .args .cut) 2 (s .pre .0) (c .before .before .before .if2 .taken) (lit< tt) in
-    read-first _ 2 n (kind9 ∷ []) (kind10 ∷ []) (groups .1) _ _ (c .enum-told .given .1) (c .before .before .parse-connections .ensures)
-
-enum-told-2 : tie.Need-enum-told-2
-enum-told-2 c = search needs
+    let s = c .before .before .before .before .before .before .before in
+    let n = cut-components (s .args .text .now) (s .args .cut) 2 (s .pre .0) (c .before .before .before .before .if2 .taken) (lit< tt) in
+    read-only _ 2 n (kind9 ∷ []) (kind10 ∷ []) (groups .1) _ (c .parse-connections .ensures) (no-port _ (sym (c .before .before .is-word .ensures) ∙ c .before .if3 .taken))
 
 parse-ports-requires : tie.Need-parse-ports-requires
 parse-ports-requires c κs = search needs
@@ -41,22 +41,22 @@ returns-3 : tie.Need-returns-3
 returns-3 c =
     let s = c .before .before .before .before .before .before .before in
     let n = cut-components (s .args .text .now) (s .args .cut) 2 (s .pre .0) (c .before .before .before .before .if2 .taken) (lit< tt) in
-    read-second _ 2 n (kind9 ∷ []) (kind10 ∷ []) (groups .1) _ (sym (c .before .enum-told2 .given .1) ∙ c .before .before .before .parse-connections .ensures) (c .parse-ports .ensures)
+    read-second _ 2 n (kind9 ∷ []) (kind10 ∷ []) (groups .1) _ (no-connection _ (sym (c .before .before .is-word .ensures) ∙ c .before .if3 .left)) (c .parse-ports .ensures)
 
 parse-clients-requires : tie.Need-parse-clients-requires
 parse-clients-requires c κs = search needs
 
-enum-told-3 : tie.Need-enum-told-3
-enum-told-3 c = search needs
+enum-told : tie.Need-enum-told
+enum-told c = search needs
 
 returns-4 : tie.Need-returns-4
 returns-4 c =
     let s = c .before .before .before .before .before .before .before in
-    let n = cut-components (s .args .text .now) (s .args .cut) 3 (s .pre .0) (c .before .before .before .if3 .taken) (lit< tt) in
-    read-first _ 3 n (kind4 ∷ kind8 ∷ []) (kind18 ∷ kind19 ∷ []) (groups .2) _ _ (c .enum-told3 .given .1) (c .before .before .parse-clients .ensures)
+    let n = cut-components (s .args .text .now) (s .args .cut) 3 (s .pre .0) (c .before .before .before .if4 .taken) (lit< tt) in
+    read-first _ 3 n (kind4 ∷ kind8 ∷ []) (kind18 ∷ kind19 ∷ []) (groups .2) _ _ (c .enum-told .given .1) (c .before .before .parse-clients .ensures)
 
-enum-told-4 : tie.Need-enum-told-4
-enum-told-4 c = search needs
+enum-told-2 : tie.Need-enum-told-2
+enum-told-2 c = search needs
 
 parse-upgrades-requires : tie.Need-parse-upgrades-requires
 parse-upgrades-requires c κs = search needs
@@ -64,8 +64,8 @@ parse-upgrades-requires c κs = search needs
 returns-5 : tie.Need-returns-5
 returns-5 c =
     let s = c .before .before .before .before .before .before .before .before in
-    let n = cut-components (s .args .text .now) (s .args .cut) 3 (s .pre .0) (c .before .before .before .before .if3 .taken) (lit< tt) in
-    read-second _ 3 n (kind4 ∷ kind8 ∷ []) (kind18 ∷ kind19 ∷ []) (groups .2) _ (sym (c .before .enum-told4 .given .1) ∙ c .before .before .before .parse-clients .ensures) (c .parse-upgrades .ensures)
+    let n = cut-components (s .args .text .now) (s .args .cut) 3 (s .pre .0) (c .before .before .before .before .if4 .taken) (lit< tt) in
+    read-second _ 3 n (kind4 ∷ kind8 ∷ []) (kind18 ∷ kind19 ∷ []) (groups .2) _ (sym (c .before .enum-told2 .given .1) ∙ c .before .before .before .parse-clients .ensures) (c .parse-upgrades .ensures)
 
 parse-consensus-states-requires : tie.Need-parse-consensus-states-requires
 parse-consensus-states-requires c κs = search needs
@@ -73,23 +73,23 @@ parse-consensus-states-requires c κs = search needs
 returns-6 : tie.Need-returns-6
 returns-6 c =
     let s = c .before .before .before .before .before .before in
-    let n = cut-components (s .args .text .now) (s .args .cut) 4 (s .pre .0) (c .before .if4 .taken) (lit< tt) in
+    let n = cut-components (s .args .text .now) (s .args .cut) 4 (s .pre .0) (c .before .if5 .taken) (lit< tt) in
     read-all _ 4 n _ _ (groups .3) (c .parse-consensus-states .ensures)
+
+slice-aggregate-is-word-2 : tie.Need-slice-aggregate-is-word-2
+slice-aggregate-is-word-2 c = search needs
+
+is-word-requires-2 : tie.Need-is-word-requires-2
+is-word-requires-2 c κs = search needs
 
 parse-updates-requires : tie.Need-parse-updates-requires
 parse-updates-requires c κs = search needs
 
-enum-told-5 : tie.Need-enum-told-5
-enum-told-5 c = search needs
-
 returns-7 : tie.Need-returns-7
 returns-7 c =
-    let s = c .before .before .before .before .before .before .before .before .before in
-    let n = cut-components (s .args .text .now) (s .args .cut) 5 (s .pre .0) (c .before .before .before .if5 .taken) (lit< tt) in
-    read-first _ 5 n (kind6 ∷ kind7 ∷ []) (kind11 ∷ kind12 ∷ kind13 ∷ kind14 ∷ []) (groups .4) _ _ (c .enum-told5 .given .1) (c .before .before .parse-updates .ensures)
-
-enum-told-6 : tie.Need-enum-told-6
-enum-told-6 c = search needs
+    let s = c .before .before .before .before .before .before .before .before .before .before in
+    let n = cut-components (s .args .text .now) (s .args .cut) 5 (s .pre .0) (c .before .before .before .before .if6 .taken) (lit< tt) in
+    read-only _ 5 n (kind6 ∷ kind7 ∷ []) (kind11 ∷ kind12 ∷ kind13 ∷ kind14 ∷ []) (groups .4) _ (c .parse-updates .ensures) (no-ends _ (sym (c .before .before .is-word2 .ensures) ∙ c .before .if7 .taken))
 
 parse-channel-ends-requires : tie.Need-parse-channel-ends-requires
 parse-channel-ends-requires c κs = search needs
@@ -97,8 +97,8 @@ parse-channel-ends-requires c κs = search needs
 returns-8 : tie.Need-returns-8
 returns-8 c =
     let s = c .before .before .before .before .before .before .before .before .before .before in
-    let n = cut-components (s .args .text .now) (s .args .cut) 5 (s .pre .0) (c .before .before .before .before .if5 .taken) (lit< tt) in
-    read-second _ 5 n (kind6 ∷ kind7 ∷ []) (kind11 ∷ kind12 ∷ kind13 ∷ kind14 ∷ []) (groups .4) _ (sym (c .before .enum-told6 .given .1) ∙ c .before .before .before .parse-updates .ensures) (c .parse-channel-ends .ensures)
+    let n = cut-components (s .args .text .now) (s .args .cut) 5 (s .pre .0) (c .before .before .before .before .if6 .taken) (lit< tt) in
+    read-second _ 5 n (kind6 ∷ kind7 ∷ []) (kind11 ∷ kind12 ∷ kind13 ∷ kind14 ∷ []) (groups .4) _ (no-update _ (sym (c .before .before .is-word2 .ensures) ∙ c .before .if7 .left)) (c .parse-channel-ends .ensures)
 
 parse-packets-requires : tie.Need-parse-packets-requires
 parse-packets-requires c κs = search needs
@@ -106,11 +106,12 @@ parse-packets-requires c κs = search needs
 returns-9 : tie.Need-returns-9
 returns-9 c =
     let s = c .before .before .before .before .before .before .before .before in
-    let n = cut-components (s .args .text .now) (s .args .cut) 7 (s .pre .0) (c .before .if6 .taken) (lit< tt) in
+    let n = cut-components (s .args .text .now) (s .args .cut) 7 (s .pre .0) (c .before .if8 .taken) (lit< tt) in
     read-all _ 7 n _ _ (groups .5) (c .parse-packets .ensures)
 
 returns-10 : tie.Need-returns-10
-returns-10 c = read-none _ _ (c .before .before .before .before .before .before .before .pre .0) (c .before .before .before .before .before .if1 .left) (c .before .before .before .before .if2 .left) (c .before .before .before .if3 .left) (c .before .before .if4 .left) (c .before .if5 .left) (c .if6 .left)
+returns-10 c =
+    read-none _ _ (c .before .before .before .before .before .before .before .pre .0) (c .before .before .before .before .before .if1 .left) (c .before .before .before .before .if2 .left) (c .before .before .before .if4 .left) (c .before .before .if5 .left) (c .before .if6 .left) (c .if8 .left)
 
 pub parse-components-spec : {M : Type 1} → statement M
 parse-components-spec =
@@ -118,24 +119,24 @@ parse-components-spec =
     (tie.spec
     parse-next-sequence-requires
     returns
+    slice-aggregate-is-word
+    is-word-requires
     parse-connections-requires
-    enum-told
     returns-2
-    enum-told-2
     parse-ports-requires
     returns-3
     parse-clients-requires
-    enum-told-3
+    enum-told
     returns-4
-    enum-told-4
+    enum-told-2
     parse-upgrades-requires
     returns-5
     parse-consensus-states-requires
     returns-6
+    slice-aggregate-is-word-2
+    is-word-requires-2
     parse-updates-requires
-    enum-told-5
     returns-7
-    enum-told-6
     parse-channel-ends-requires
     returns-8
     parse-packets-requires
