@@ -21,7 +21,11 @@ function quoted(words,    at, rest) {
 function fact(    found, expected) {
     if (match(text, /the two types [a-z ]*differ [^`]*`[^`]*` \(expected\) and the other has `[^`]*` \(found\)/))
         return cut(substr(text, RSTART, RLENGTH), 320)
-    if (match(text, /the goal fails, at .*\. It read/)) return cut(substr(text, RSTART, RLENGTH - 9), 320)
+    if (match(text, /the goal fails, at .*/)) {
+        found = substr(text, RSTART)
+        sub(/\. It read.*/, "", found)
+        return cut(found, 320)
+    }
     if (quoted("Looked for") != "") return "not in the goal: `" cut(quoted("Looked for"), 280) "`"
     found = quoted("but this has type")
     expected = quoted("the expected one begins")
