@@ -178,9 +178,9 @@ fn parse_upgrades(text: &[u8], cut: Cut) -> PathAnswer
 }
 
 // The readers of the kinds that have as many components as the text. Where a `clients/..` text fails by its client,
-// kinds 18 and 19 still get their turn.
+// kinds 18 and 19 still get their turn. What fits one of the others is ASCII; only U has to be tested for it.
 pub(crate) fn parse_components(text: &[u8], cut: Cut) -> PathAnswer
-    requires { ⌜ (cut ≡ cutOf (now text)) × (ascii (now text) ≡ true) ⌝ }
+    requires { ⌜ cut ≡ cutOf (now text) ⌝ }
     ensures { λ r. ⌜ r ≡ readFirst kinds (now (text .entry)) ⌝ }
 {
     let count = cut.count;
@@ -197,6 +197,9 @@ pub(crate) fn parse_components(text: &[u8], cut: Cut) -> PathAnswer
         let client = parse_clients(text, cut);
         if let PathAnswer::Found(_) = client {
             return client;
+        }
+        if !text::part::all_ascii(text) {
+            return PathAnswer::Nothing;
         }
         return parse_upgrades(text, cut);
     }

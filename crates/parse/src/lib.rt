@@ -5,14 +5,11 @@ mod pieces;
 
 use path::PathAnswer;
 ghost use mathlib.Core.Path.{_≡_};
-ghost use mathlib.Core.Bool.{true};
-ghost use Rattle.text.specs.Part.{ascii};
 ghost use Rattle.path.specs.Kinds.{kinds};
 ghost use Rattle.path.specs.Read.{readFirst};
 
-// Reads an ASCII text as one of the nineteen kinds.
+// Reads a text as one of the nineteen kinds.
 pub fn parse_path(text: &[u8]) -> PathAnswer
-    requires { ⌜ ascii (now text) ≡ true ⌝ }
     ensures { λ r. ⌜ r ≡ readFirst kinds (now (text .entry)) ⌝ }
 {
     kinds::parse_components(text, cutter::cut_text(text))

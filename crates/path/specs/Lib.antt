@@ -1,4 +1,5 @@
 -- What the contracts of `path` cite. Files that end in `Laws` hold consequences, which a reader may skip.
+pub mod AsciiLaws
 pub mod BackLaws
 pub mod Cut
 pub mod ExactLaws

@@ -1,35 +1,32 @@
--- What is read has a kind, its places lie in the text, and the exact mark goes by the length of the rendering.
+-- What is read has a kind, its places lie in the text, it is ASCII, and the exact mark goes by the length of the rendering.
 -- Assumes nothing.
 use Prim.Native.Nat.{ℕ, _+_, _≤_, _<_, _^_}
 use mathlib.Core.Path.{_≡_, refl, sym, ap, _∙_}
-use mathlib.Core.Bool.{true, _&&_}
-use mathlib.Core.List.{List, [], _∷_, map}
+use mathlib.Core.Bool.{Bool, true, false, cond}
+use mathlib.Core.List.{List, [], _∷_}
 use native.Mathlib.Omega.{arith}
-use lib.Dec.{eqb, leb}
+use lib.Dec.{eqb}
 use lib.ListN.{length, length-take, length-drop}
-use borrow.Author.Tests.{leb-true, le-ltb}
+use borrow.Author.Tests.{le-ltb}
 use Rattle.text.specs.Part.{ascii, same}
-use Rattle.text.specs.PartLaws.{and-left, and-right}
 use Rattle.path.specs.declared.Place.{Place}
 use Rattle.path.specs.declared.Path.{Path}
 use Rattle.path.specs.declared.PathView.{PathView}
-use Rattle.path.specs.declared.PathAnswer.the-variants.{Found}
-use Rattle.path.specs.declared.Reading.the-variants.{Read}
+use Rattle.path.specs.declared.PathAnswer.the-variants.{Found, Nothing}
+use Rattle.path.specs.declared.Refusal.the-variants.{NotAscii, NotAPath}
+use Rattle.path.specs.declared.Reading.the-variants.{Read, Refused}
 use Rattle.path.specs.Text.{placeAt, partOf}
 use Rattle.path.specs.TextLaws.{place-within}
-use Rattle.path.specs.Kinds.{Name, client, connection, port, channel, upgrade, Part, word, name, count, pair, Carried, kinds, kind1, kind2, kind3, kind4, kind5, kind6, kind7, kind8, kind9, kind10, kind11, kind12, kind13, kind14, kind15, kind16, kind17, kind18, kind19}
+use Rattle.path.specs.Kinds.{Name, client, connection, port, channel, upgrade, Part, word, name, count, pair, Carried, kinds}
 use Rattle.path.specs.Read.{partsOf, textsOf, renderPath, setName, carriedFrom, readFirst, readPath}
 use Rattle.path.specs.View.{kindOf, carriedOf, viewOf}
-use Rattle.path.specs.ReadLaws.{has-both, made-carried, Reads, is-reads}
+use Rattle.path.specs.AsciiLaws.{first-low, kinds-low}
+use Rattle.path.specs.ReadLaws.{made-range, made-carried, Reads, is-reads}
 use Rattle.path.specs.ExactLaws.{exact-by-length}
 use Rattle.path.specs.Length.{renderLength}
 use Rattle.path.specs.MeasureLaws.{render-length}
 
 -- ---- what is read has a kind, and its places lie in the text
-range-all : (v : Carried Place) → map (λ e. leb 1 (kindOf (e .make v)) && leb (kindOf (e .make v)) 19) kinds ≡ map (λ e. true) kinds
-unfolding kinds kind1 kind2 kind3 kind4 kind5 kind6 kind7 kind8 kind9 kind10 kind11 kind12 kind13 kind14 kind15 kind16 kind17 kind18 kind19
-range-all v = refl
-
 abbrev Lies : List ℕ → Place → Type 0
 Lies t p = p .start + p .len ≤ length t
 
@@ -57,14 +54,8 @@ module _ (t : List ℕ) (p : Path) (h : Found p ≡ readFirst kinds t) where
   abbrev read : Carried Place
   read = carriedFrom 0 (found .kind .parts) t
 
-  range : (leb 1 (kindOf (found .kind .make read)) && leb (kindOf (found .kind .make read)) 19) ≡ true
-  range = has-both (λ e. leb 1 (kindOf (e .make read)) && leb (kindOf (e .make read)) 19) (λ e. true) (found .listed) (range-all read)
-
-  found-low : 1 ≤ kindOf p
-  found-low = rw (found .made) (leb-true _ _ (and-left (leb 1 (kindOf (found .kind .make read))) _ range))
-
-  found-high : kindOf p ≤ 19
-  found-high = rw (found .made) (leb-true _ _ (and-right (leb 1 (kindOf (found .kind .make read))) _ range))
+  found-kind : (1 ≤ kindOf p) × (kindOf p ≤ 19)
+  found-kind = rw (found .made) (made-range (found .listed) read)
 
   carried-is : carriedOf p ≡ read
   carried-is = ap carriedOf (found .made) ∙ made-carried (found .listed) t
@@ -81,13 +72,21 @@ module _ (t : List ℕ) (p : Path) (h : Found p ≡ readFirst kinds t) where
       let l : n ≡ length (renderPath t p) = e ∙ sym (render-length (partsOf (kindOf p)) (textsOf t (carriedOf p)) ∙ rw (lies-length t (carriedOf p .one) found-one, lies-length t (carriedOf p .two) found-two)) in
       rw l (sym (exact-by-length found))
 
-  module _ (short : length t ≤ 4096) (low : ascii t ≡ true) where
-    -- its view may be measured
-    pub found-measured : (v : PathView) → v ≡ viewOf p → (1 ≤ v .kind) × (v .kind ≤ 19) × (v .one .len + v .two .len < 2 ^ 63)
-    unfolding viewOf
-    found-measured v e = rw e (found-low, found-high, omega (arith, found-one, found-two))
+  -- its view may be measured
+  pub found-measured : length t ≤ 4096 → (v : PathView) → v ≡ viewOf p → (1 ≤ v .kind) × (v .kind ≤ 19) × (v .one .len + v .two .len < 2 ^ 63)
+  unfolding viewOf
+  found-measured short v e = rw e (found-kind .0, found-kind .1, omega (arith, found-one, found-two))
 
-    -- and the mark goes by the length
-    pub found-read : (v : PathView) → v ≡ viewOf p → (n : ℕ) → n ≡ renderLength (partsOf (v .kind)) (record { one = v .one .len; two = v .two .len; a = v .a; b = v .b }) → Read p (eqb n (length t)) ≡ readPath t
-    unfolding viewOf readPath
-    found-read v e n l = rw (le-ltb 4096 (length t) short, low, ← h, exact-mark n (l ∙ rw e))
+  -- it is ASCII, and the mark goes by the length
+  pub found-read : length t ≤ 4096 → (v : PathView) → v ≡ viewOf p → (n : ℕ) → n ≡ renderLength (partsOf (v .kind)) (record { one = v .one .len; two = v .two .len; a = v .a; b = v .b }) → Read p (eqb n (length t)) ≡ readPath t
+  unfolding viewOf readPath
+  found-read short v e n l = rw (le-ltb 4096 (length t) short, first-low kinds t p kinds-low (sym h), ← h, exact-mark n (l ∙ rw e))
+
+-- ---- what is not read
+pub no-path : (t : List ℕ) → length t ≤ 4096 → Nothing ≡ readFirst kinds t → Refused (cond (ascii t) NotAPath NotAscii) ≡ readPath t
+unfolding readPath
+no-path t short h = rw (le-ltb 4096 (length t) short, ← h) (go (ascii t))
+  where
+    go : (v : Bool) → Refused (cond v NotAPath NotAscii) ≡ cond v (Refused NotAPath) (Refused NotAscii)
+    go true = refl
+    go false = refl

@@ -7,8 +7,11 @@ use path::Reading;
 use path::Refusal;
 use text::Written;
 ghost use mathlib.Core.Path.{_≡_};
+ghost use mathlib.Core.Bool.{cond};
 ghost use lib.ListN.{length};
+ghost use Rattle.text.specs.Part.{ascii};
 ghost use Rattle.text.specs.Put.{answer, left};
+ghost use Rattle.path.specs.declared.Refusal.the-variants.{NotAscii, NotAPath};
 ghost use Rattle.path.specs.Read.{readPath, readingBytes};
 ghost use Rattle.path.specs.View.{Shows, firstPlace, secondPlace};
 
@@ -52,18 +55,27 @@ pub fn second_identifier(text: &[u8], reading: Reading) -> &[u8]
     part(text, two)
 }
 
-// Reads a text as a path. The mark goes by length, since a rendering that is as long as its text is that text.
+// Why a text of at most 4,096 bytes is no path.
+fn fault(text: &[u8]) -> Refusal
+    ensures { λ r. ⌜ r ≡ cond (ascii (now (text .entry))) NotAPath NotAscii ⌝ }
+{
+    if text::part::all_ascii(text) {
+        Refusal::NotAPath
+    } else {
+        Refusal::NotAscii
+    }
+}
+
+// Reads a text as a path. What is read is ASCII, so only another text is tested for it. The mark goes by length, since a
+// rendering that is as long as its text is that text.
 pub fn read_path(text: &[u8]) -> Reading
     ensures { λ r. ⌜ r ≡ readPath (now (text .entry)) ⌝ }
 {
     if 4096 < text.len() {
         return Reading::Refused(Refusal::TooLong);
     }
-    if !text::part::all_ascii(text) {
-        return Reading::Refused(Refusal::NotAscii);
-    }
     let PathAnswer::Found(path) = parse::parse_path(text) else {
-        return Reading::Refused(Refusal::NotAPath);
+        return Reading::Refused(fault(text));
     };
     let v = path::view(path);
     let length = path::measure::render_length(v.kind, v.one.len, v.two.len, v.a, v.b);
