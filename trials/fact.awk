@@ -18,6 +18,12 @@ function quoted(words,    at, rest) {
     return at ? substr(rest, 1, index(rest, "`") - 1) : ""
 }
 
+# One of two types that begin alike, from a little before the place where they differ.
+function from_difference(s, other,    i) {
+    for (i = 1; i <= length(s) && substr(s, i, 1) == substr(other, i, 1); i++) continue
+    return i > 60 ? ".. " substr(s, i - 20) : s
+}
+
 function fact(    found, expected) {
     if (match(text, /the two types [a-z ]*differ [^`]*`[^`]*` \(expected\) and the other has `[^`]*` \(found\)/))
         return cut(substr(text, RSTART, RLENGTH), 320)
@@ -30,7 +36,7 @@ function fact(    found, expected) {
     found = quoted("but this has type")
     expected = quoted("the expected one begins")
     if (expected == "") expected = quoted("expected type")
-    if (found != "") return "expected `" cut(expected, 140) "`, found `" cut(found, 140) "`"
+    if (found != "") return "expected `" cut(from_difference(expected, found), 140) "`, found `" cut(from_difference(found, expected), 140) "`"
     return ""
 }
 

@@ -8,13 +8,14 @@ use native.Mathlib.Omega.{arith}
 use lib.Dec.{leb}
 use lib.ListN.{length, getD}
 use borrow.Author.Tests.{le-leb, lt-leb, leb-true, ne-eqb}
-use Rattle.text.specs.Put.{refused, accepted}
+use Rattle.text.specs.Put.{refused, text, accepted}
 use Rattle.identifiers.specs.Check.{first, unless}
 use Rattle.path.specs.Kinds.{port, channel, Part, Carried, kinds, kind1, kind2, kind3, kind4, kind5, kind6, kind7, kind8, kind9, kind10, kind11, kind12, kind13, kind14, kind15, kind16, kind17, kind18, kind19}
 use Rattle.path.specs.LengthLaws.{mostOf, rendered-most}
-use Rattle.path.specs.Read.{render, nameFault, namesFault, limited, partsOf, renderOf}
+use Rattle.path.specs.Read.{show, render, nameFault, namesFault, limited, partsOf, renderOf}
+use Rattle.path.specs.Text.{joinBy}
 use Rattle.rows.specs.Rows.{carried, short, textOf}
-use Rattle.rows.specs.Pieces.{texts, rowOf, groups, groupFault}
+use Rattle.rows.specs.Pieces.{words, texts, rowOf, groups, groupFault}
 use Rattle.rows.specs.PieceLaws.{from, at-row, kind-row, row-fault}
 
 module _ (ps : List Part) (v : Carried (List ℕ)) where
@@ -37,6 +38,16 @@ module _ (k : ℕ) (v : Carried (List ℕ)) where
   pub render-kind : 1 ≤ k → k ≤ 19 → renderOf k v ≡ limited (rowOf (k - 1)) v
   unfolding renderOf
   render-kind h l = rw (le-leb 1 k h, le-leb k 19 l, kind-row k h l)
+
+-- the first three kinds are one word each
+words-hold : (v : Carried (List ℕ)) → map (λ r. text (getD words r [])) (from 0 3) ≡ map (λ r. renderOf (suc r) v) (from 0 3)
+unfolding renderOf partsOf namesFault render joinBy show kinds kind1 kind2 kind3
+words-hold v = refl
+
+pub render-word : (k : ℕ) (v : Carried (List ℕ)) → 1 ≤ k → k - 1 < 3 → text (getD words (k - 1) []) ≡ renderOf k v
+render-word k v h l =
+    let q : suc (k - 1) ≡ k = omega arith in
+    rw q at (at-row (λ r. text (getD words r [])) (λ r. renderOf (suc r) v) 3 (words-hold v) (k - 1) l)
 
 -- which identifiers are checked: by the number of the row's group
 module _ (v : Carried (List ℕ)) (r n : ℕ) (h : r < 26) (e : n ≡ getD groups r 0) where

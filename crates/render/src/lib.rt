@@ -87,7 +87,7 @@ fn checked_row(out: &mut [u8], row: usize, one: &[u8], two: &[u8], a: u64, b: u6
     rows::fit_row(out, row, one, two, a, b)
 }
 
-// Renders by kind and parts. Arguments that the kind lacks have no influence.
+// Renders by kind and parts. Arguments that the kind lacks have no influence. Kinds 1 to 3 are one word, the first three.
 pub fn render(kind: u8, first: &[u8], second: &[u8], a: u64, b: u64, out: &mut [u8]) -> Written
     ensures { λ r. ⌜ r ≡ answer (renderOf kind (carried (now (first .entry)) (now (second .entry)) a b)) (length (now (out .entry))) ⌝ }
     ensures { λ _. ⌜ now (out .exit) ≡ left (renderOf kind (carried (now (first .entry)) (now (second .entry)) a b)) (now (out .entry)) ⌝ }
@@ -105,5 +105,8 @@ pub fn render(kind: u8, first: &[u8], second: &[u8], a: u64, b: u64, out: &mut [
         };
     }
     let row = kind as usize - 1;
+    if row < 3 {
+        return rows::fit_word(out, row);
+    }
     checked_row(out, row, first, second, a, b)
 }

@@ -6,6 +6,7 @@ use Rattle.text.specs.Outcome.{One, OneWith}
 use Rattle.rows.proofs.names_of.Reads as names-of
 use Rattle.rows.proofs.write_row.Reads as write-row
 use Rattle.rows.proofs.fit_row.Reads as fit-row
+use Rattle.rows.proofs.fit_word.Reads as fit-word
 
 pub one-names-of : One names-of.Post
 one-names-of κs a r₁ r₂ s₁ s₂ p q = p ∙ sym q
@@ -15,3 +16,6 @@ one-write-row κs a r₁ r₂ s₁ s₂ p q = (p .0 ∙ sym (q .0), p .1 ∙ sym
 
 pub one-fit-row : OneWith fit-row.Post (λ κs s. now (s .0))
 one-fit-row κs a r₁ r₂ s₁ s₂ p q = (p .0 ∙ sym (q .0), p .1 ∙ sym (q .1))
+
+pub one-fit-word : OneWith fit-word.Post (λ κs s. now (s .0))
+one-fit-word κs a r₁ r₂ s₁ s₂ p q = (p .0 ∙ sym (q .0), p .1 ∙ sym (q .1))

@@ -9,10 +9,10 @@ ghost use mathlib.Core.List.{_∷_, [], _++_};
 ghost use Prim.Native.Nat.{min, _+_, _≤_, _<_};
 ghost use lib.ListN.{length, getD};
 ghost use Rattle.text.specs.Number.{decimal};
-ghost use Rattle.text.specs.Put.{put, answer, left};
+ghost use Rattle.text.specs.Put.{put, text, answer, left};
 ghost use Rattle.path.specs.Read.{render};
 ghost use Rattle.rows.specs.Rows.{carried, short};
-ghost use Rattle.rows.specs.Pieces.{pieceOf, codesOf, rowOf, groups};
+ghost use Rattle.rows.specs.Pieces.{words, pieceOf, codesOf, rowOf, groups};
 ghost use Rattle.rows.specs.PieceLaws.{packOf};
 
 // What a row has, by its hexadecimal digits: the group of its identifiers, how many pieces there are, and two digits for
@@ -194,6 +194,25 @@ pub fn fit_row(out: &mut [u8], row: usize, one: &[u8], two: &[u8], a: u64, b: u6
         };
     }
     let length = write_row(out, 0, row, one, two, a, b);
+    Written {
+        refusal: 0,
+        length: length as u64,
+    }
+}
+
+// Writes a word alone, or refuses where `out` is too short.
+pub fn fit_word(out: &mut [u8], word: usize) -> Written
+    requires { ⌜ word < 21 ⌝ }
+    ensures { λ r. ⌜ r ≡ answer (text (getD words word [])) (length (now (out .entry))) ⌝ }
+    ensures { λ _. ⌜ now (out .exit) ≡ left (text (getD words word [])) (now (out .entry)) ⌝ }
+{
+    if out.len() < words::word_length(word) {
+        return Written {
+            refusal: NO_ROOM,
+            length: 0,
+        };
+    }
+    let length = words::write_word(out, 0, word);
     Written {
         refusal: 0,
         length: length as u64,
