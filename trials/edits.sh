@@ -22,7 +22,8 @@ title_of() {
 # Prints the record's file with its edits made. The status is 1 where a place is not found, or is one of several.
 make_edit() {
     awk '
-        # The line that holds the old text: the first in the function, or the only one in the file; 0 where there is none.
+        # The line that holds the old text: the first in the function, its contract left out, or the only one in the file;
+        # 0 where there is none.
         function place(old,    i, inside, last, found) {
             for (i = 1; i <= lines; i++) {
                 if (fn != "" && !inside && index(line[i], "fn " fn "(")) {
@@ -32,6 +33,7 @@ make_edit() {
                 }
                 if (inside && line[i] == last) return 0
                 if ((fn != "" && !inside) || !index(line[i], old)) continue
+                if (inside && line[i] ~ /^ *(requires|ensures) /) continue
                 if (inside) return i
                 if (found || index(substr(line[i], index(line[i], old) + 1), old)) return 0
                 found = i
