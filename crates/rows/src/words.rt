@@ -37,7 +37,7 @@ pub(crate) fn word_length(word: usize) -> usize
 }
 
 // Writes a word of kinds 1 to 8, and returns the place after it. Each word is a literal of its own, so that its bytes are
-// stored at once; the words stand in three functions, as the check of a `match` grows with the square of its arms.
+// stored at once; the words stand in three functions, as the check of a `match` grows faster than its arms.
 fn write_client_word(out: &mut [u8], at: usize, word: usize) -> usize
     requires { ⌜ (word < 8) × (at + length (getD words word []) ≤ length (now out)) ⌝ }
     ensures { λ r. ⌜ r ≡ at + length (getD words word []) ⌝ }
