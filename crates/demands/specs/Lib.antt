@@ -1,4 +1,18 @@
--- The demands as theorems over the contracts that the sources have. `Written` holds what they share.
+-- The demands as theorems over the contracts that the sources have. `Written` holds what demands 1 and 2 share. Demand 3 is `Demand3`, in
+-- the words of `Held`, `Refusals` and `BookCalls`; `Useless` shows which line each useless book breaks. Files that end in `Laws` may be
+-- skipped.
 pub mod Demand1
 pub mod Demand2
 pub mod Written
+pub mod Held
+pub mod HeldLaws
+pub mod Refusals
+pub mod PermittedLaws
+pub mod KeepsLaws
+pub mod CountLaws
+pub mod MachineLaws
+pub mod Demand3
+pub mod Demand3Laws
+pub mod Useless
+pub mod BookCalls
+pub mod ExistsLaws

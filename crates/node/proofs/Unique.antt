@@ -3,6 +3,8 @@
 use mathlib.Core.Path.{sym, _∙_}
 use denote.Ref.{now}
 use Rattle.text.specs.Outcome.{One, OneWith}
+use Rattle.book.specs.OutcomeLaws.{one-changed, one-found, one-made}
+use Rattle.book.specs.OldestLaws.{one-oldest}
 use Rattle.node.proofs.hp_validate_identifier_chars.Reads as hp-validate-identifier-chars
 use Rattle.node.proofs.hp_validate_identifier_length.Reads as hp-validate-identifier-length
 use Rattle.node.proofs.hp_validate_prefix_length.Reads as hp-validate-prefix-length
@@ -33,6 +35,11 @@ use Rattle.node.proofs.hp_receipts_path.Reads as hp-receipts-path
 use Rattle.node.proofs.hp_commitment_prefix.Reads as hp-commitment-prefix
 use Rattle.node.proofs.hp_ack_prefix.Reads as hp-ack-prefix
 use Rattle.node.proofs.hp_receipt_prefix.Reads as hp-receipt-prefix
+use Rattle.node.proofs.hp_book_new.Reads as hp-book-new
+use Rattle.node.proofs.hp_book_write.Reads as hp-book-write
+use Rattle.node.proofs.hp_book_remove.Reads as hp-book-remove
+use Rattle.node.proofs.hp_book_lookup.Reads as hp-book-lookup
+use Rattle.node.proofs.hp_book_oldest.Reads as hp-book-oldest
 
 pub one-hp-validate-identifier-chars : One hp-validate-identifier-chars.Post
 one-hp-validate-identifier-chars κs a r₁ r₂ s₁ s₂ p q = p ∙ sym q
@@ -123,3 +130,18 @@ one-hp-ack-prefix κs a r₁ r₂ s₁ s₂ p q = (p .0 ∙ sym (q .0), p .1 ∙
 
 pub one-hp-receipt-prefix : OneWith hp-receipt-prefix.Post (λ κs s. now (s .0))
 one-hp-receipt-prefix κs a r₁ r₂ s₁ s₂ p q = (p .0 ∙ sym (q .0), p .1 ∙ sym (q .1))
+
+pub one-hp-book-new : OneWith hp-book-new.Post (λ κs s. now (s .0))
+one-hp-book-new κs a r₁ r₂ s₁ s₂ p q = one-made _ _ _ _ _ p q
+
+pub one-hp-book-write : OneWith hp-book-write.Post (λ κs s. now (s .0))
+one-hp-book-write κs a r₁ r₂ s₁ s₂ p q = one-changed p q
+
+pub one-hp-book-remove : OneWith hp-book-remove.Post (λ κs s. now (s .0))
+one-hp-book-remove κs a r₁ r₂ s₁ s₂ p q = one-changed p q
+
+pub one-hp-book-lookup : OneWith hp-book-lookup.Post (λ κs s. now (s .1 .1 .0))
+one-hp-book-lookup κs a r₁ r₂ s₁ s₂ p q = one-found p q
+
+pub one-hp-book-oldest : One hp-book-oldest.Post
+one-hp-book-oldest κs a r₁ r₂ s₁ s₂ p q = one-oldest _ _ _ _ p q

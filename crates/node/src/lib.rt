@@ -1,4 +1,5 @@
 // The C interface: what a program that is not Rattle's calls. Each function only hands its arguments on.
+use book::oldest::Pair;
 use identifiers::channel_id::write_channel_id;
 use identifiers::client_id::write_client_id;
 use identifiers::validate;
@@ -18,6 +19,8 @@ ghost use Rattle.path.specs.Read.{readingBytes, keyOf, renderOf};
 ghost use Rattle.path.specs.View.{provableFlag};
 ghost use Rattle.rows.specs.Rows.{carried, textOf, consensusParent, consensusLeaf, packetsPath};
 ghost use Rattle.render.specs.Iteration.{iterationKey};
+ghost use Rattle.book.specs.Outcome.{Wrote, Removed, Looked, Made};
+ghost use Rattle.book.specs.Oldest.{Oldest};
 
 #[no_mangle]
 pub extern "C" fn hp_validate_identifier_chars(id: &[u8]) -> u8
@@ -256,4 +259,39 @@ pub extern "C" fn hp_receipt_prefix(out: &mut [u8]) -> Written
     ensures { λ _. ⌜ now (out .exit) ≡ left (text (bytes "receipts")) (now (out .entry)) ⌝ }
 {
     render::texts::receipt_prefix(out)
+}
+
+#[no_mangle]
+pub extern "C" fn hp_book_new(book: &mut [u8]) -> u8
+    ensures { λ r. ⌜ Made (now (book .entry)) r (now (book .exit)) ⌝ }
+{
+    book::new_book(book)
+}
+
+#[no_mangle]
+pub extern "C" fn hp_book_write(book: &mut [u8], text: &[u8], value: &[u8]) -> u8
+    ensures { λ r. ⌜ Wrote (now (book .entry)) (now (text .entry)) (now (value .entry)) r (now (book .exit)) ⌝ }
+{
+    book::write(book, text, value)
+}
+
+#[no_mangle]
+pub extern "C" fn hp_book_remove(book: &mut [u8], text: &[u8]) -> u8
+    ensures { λ r. ⌜ Removed (now (book .entry)) (now (text .entry)) r (now (book .exit)) ⌝ }
+{
+    book::remove(book, text)
+}
+
+#[no_mangle]
+pub extern "C" fn hp_book_lookup(book: &[u8], text: &[u8], out: &mut [u8]) -> u8
+    ensures { λ r. ⌜ Looked (now (book .entry)) (now (text .entry)) (now (out .entry)) r (now (out .exit)) ⌝ }
+{
+    book::lookup(book, text, out)
+}
+
+#[no_mangle]
+pub extern "C" fn hp_book_oldest(book: &[u8], client: &[u8]) -> Pair
+    ensures { λ r. ⌜ Oldest (now (book .entry)) (now (client .entry)) r ⌝ }
+{
+    book::oldest::oldest(book, client)
 }

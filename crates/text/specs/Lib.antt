@@ -7,6 +7,7 @@ pub mod OrderLaws
 pub mod Outcome
 pub mod Part
 pub mod PartLaws
+pub mod PlaceLaws
 pub mod Put
 pub mod PutLaws
 pub mod TableLaws

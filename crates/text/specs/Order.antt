@@ -1,5 +1,6 @@
 -- The byte order of texts: the first byte that differs decides, and a text comes before its longer continuations.
 -- Assumes nothing.
+use mathlib.Core.Path.{_≡_}
 use Prim.Native.Nat.{ℕ, compare, Ordering, Ordering·lt, Ordering·eq, Ordering·gt}
 use mathlib.Core.List.{List, [], _∷_}
 
@@ -18,3 +19,7 @@ cmp [] [] = Ordering·eq
 cmp [] (y ∷ b) = Ordering·lt
 cmp (x ∷ a) [] = Ordering·gt
 cmp (x ∷ a) (y ∷ b) = then (compare x y) (cmp a b)
+
+-- a stands before b
+abbrev pub Before : List ℕ → List ℕ → Type 0
+Before a b = cmp a b ≡ Ordering·lt

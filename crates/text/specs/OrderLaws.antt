@@ -7,7 +7,7 @@ use native.Mathlib.Nat.{not-suc-le-zero, le-of-suc-le-suc}
 use native.Mathlib.Decide.{decLt}
 use native.Mathlib.Omega.{arith}
 use lib.ListN.{length}
-use Rattle.text.specs.Order.{by, then, cmp}
+use Rattle.text.specs.Order.{by, then, cmp, Before}
 
 pub compare-lt : (x y : ℕ) → x < y → compare x y ≡ Ordering·lt
 compare-lt zero zero h = absurd (not-suc-le-zero h)
@@ -56,3 +56,102 @@ cmp-append [] [] c d h = refl
 cmp-append [] (y ∷ b) c d h = absurd (omega arith)
 cmp-append (x ∷ a) [] c d h = absurd (omega arith)
 cmp-append (x ∷ a) (y ∷ b) c d h = rw (cmp-append a b c d (omega arith)) (sym (then-assoc (compare x y) (cmp a b) (cmp c d)))
+
+pub cmp-eq : (a b : List ℕ) → cmp a b ≡ Ordering·eq → a ≡ b
+unfolding cmp
+cmp-eq [] [] e = refl
+cmp-eq [] (y ∷ b) e = cc
+cmp-eq (x ∷ a) [] e = cc
+cmp-eq (x ∷ a) (y ∷ b) e = go (tri x y) (cmp-eq a b)
+  where
+    go : Tri x y → (cmp a b ≡ Ordering·eq → a ≡ b) → (x ∷ a) ≡ (y ∷ b)
+    go (below p) ih = let q = rw (compare-lt x y p) at e in cc
+    go (above p) ih = let q = rw (compare-gt x y p) at e in cc
+    go (equal p) ih =
+        let c : compare x y ≡ Ordering·eq = rw p (compare-same y) in
+        let q = ih (rw c at e) in
+        cc
+
+pub cmp-flip : (a b : List ℕ) → cmp b a ≡ by (cmp a b) Ordering·gt Ordering·eq Ordering·lt
+unfolding cmp
+cmp-flip [] [] = refl
+cmp-flip [] (y ∷ b) = refl
+cmp-flip (x ∷ a) [] = refl
+cmp-flip (x ∷ a) (y ∷ b) = go (tri x y) (cmp-flip a b)
+  where
+    go : Tri x y → cmp b a ≡ by (cmp a b) Ordering·gt Ordering·eq Ordering·lt → cmp (y ∷ b) (x ∷ a) ≡ by (cmp (x ∷ a) (y ∷ b)) Ordering·gt Ordering·eq Ordering·lt
+    go (below p) ih = rw (compare-lt x y p, compare-gt y x p)
+    go (above p) ih = rw (compare-gt x y p, compare-lt y x p)
+    go (equal p) ih = rw (p, compare-same y) ih
+
+pub before-trans : (a b c : List ℕ) → Before a b → Before b c → Before a c
+unfolding cmp
+before-trans [] [] c p q = q
+before-trans [] (y ∷ b) [] p q = cc
+before-trans [] (y ∷ b) (z ∷ c) p q = refl
+before-trans (x ∷ a) [] c p q = cc
+before-trans (x ∷ a) (y ∷ b) [] p q = cc
+before-trans (x ∷ a) (y ∷ b) (z ∷ c) p q = go (tri x y) (tri y z) (before-trans a b c)
+  where
+    go : Tri x y → Tri y z → (Before a b → Before b c → Before a c) → by (compare x z) Ordering·lt (cmp a c) Ordering·gt ≡ Ordering·lt
+    go (below i) (below j) ih = rw (compare-lt x z (omega arith))
+    go (below i) (equal j) ih = rw (compare-lt x z (omega arith))
+    go (below i) (above j) ih = let r = rw (compare-gt y z j) at q in cc
+    go (equal i) (below j) ih = rw (compare-lt x z (omega arith))
+    go (equal i) (equal j) ih =
+        let ij : compare x y ≡ Ordering·eq = rw i (compare-same y) in
+        let jk : compare y z ≡ Ordering·eq = rw j (compare-same z) in
+        let ik : compare x z ≡ Ordering·eq = rw (i, j) (compare-same z) in
+        rw ik (ih (rw ij at p) (rw jk at q))
+    go (equal i) (above j) ih = let r = rw (compare-gt y z j) at q in cc
+    go (above i) (below j) ih = let r = rw (compare-gt x y i) at p in cc
+    go (above i) (equal j) ih = let r = rw (compare-gt x y i) at p in cc
+    go (above i) (above j) ih = let r = rw (compare-gt x y i) at p in cc
+
+pub before-not-same : (a b : List ℕ) → Before a b → a ≡ b → ⊥
+before-not-same a b p e =
+    let r : cmp b b ≡ Ordering·lt = rw e at p in
+    let z : _≡_ {A = ℕ} 0 1 = cc (cmp-self b) in
+    omega arith
+
+pub flip-gt : (a b : List ℕ) → cmp a b ≡ Ordering·gt → Before b a
+flip-gt a b e = cmp-flip a b ∙ rw e
+
+-- what two texts are to each other
+pub data Keys (a b : List ℕ) : Type 0 where
+  key-lt : cmp a b ≡ Ordering·lt → Keys a b
+  key-eq : cmp a b ≡ Ordering·eq → Keys a b
+  key-gt : cmp a b ≡ Ordering·gt → Keys a b
+
+pub keys : (a b : List ℕ) → Keys a b
+keys a b = go (cmp a b) refl
+  where
+    go : (o : Ordering) → cmp a b ≡ o → Keys a b
+    go Ordering·lt e = key-lt e
+    go Ordering·eq e = key-eq e
+    go Ordering·gt e = key-gt e
+
+-- the order of two texts by their first bytes
+pub cmp-cons-lt : (x y : ℕ) (a b : List ℕ) → x < y → cmp (x ∷ a) (y ∷ b) ≡ Ordering·lt
+unfolding cmp
+cmp-cons-lt x y a b h = rw (compare-lt x y h)
+
+pub cmp-cons-gt : (x y : ℕ) (a b : List ℕ) → y < x → cmp (x ∷ a) (y ∷ b) ≡ Ordering·gt
+unfolding cmp
+cmp-cons-gt x y a b h = rw (compare-gt x y h)
+
+pub cmp-cons-eq : (x y : ℕ) (a b : List ℕ) → x ≡ y → cmp (x ∷ a) (y ∷ b) ≡ cmp a b
+unfolding cmp
+cmp-cons-eq x y a b h = rw (h, compare-same y)
+
+pub cmp-nil : cmp [] [] ≡ Ordering·eq
+unfolding cmp
+cmp-nil = refl
+
+pub cmp-nil-cons : (y : ℕ) (b : List ℕ) → cmp [] (y ∷ b) ≡ Ordering·lt
+unfolding cmp
+cmp-nil-cons y b = refl
+
+pub cmp-cons-nil : (x : ℕ) (a : List ℕ) → cmp (x ∷ a) [] ≡ Ordering·gt
+unfolding cmp
+cmp-cons-nil x a = refl

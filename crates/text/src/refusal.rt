@@ -17,6 +17,14 @@ pub const BAD_PREFIX: u8 = 7;
 
 pub const BAD_NUMBER: u8 = 8;
 
+pub const BAD_BOOK: u8 = 9;
+
+pub const KEY_TOO_LONG: u8 = 10;
+
+pub const FULL: u8 = 11;
+
+pub const ABSENT: u8 = 12;
+
 pub const BAD_SEGMENT: u8 = 13;
 
 pub const BAD_KIND: u8 = 14;

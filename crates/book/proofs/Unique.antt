@@ -1,0 +1,32 @@
+-- The contract of each public function, as the source has it, leaves one outcome: the answer, and the content of the buffer that is lent.
+-- Assumes nothing.
+use mathlib.Core.Path.{_≡_, sym, _∙_}
+use denote.Ref.{now}
+use Rattle.text.specs.Outcome.{One, OneWith}
+use Rattle.book.specs.BookLaws.{one-judged}
+use Rattle.book.specs.OutcomeLaws.{one-changed, one-found, one-made}
+use Rattle.book.specs.OldestLaws.{one-oldest}
+use Rattle.book.proofs.check.check_book.Reads as check-book
+use Rattle.book.proofs.new_book.Reads as new-book
+use Rattle.book.proofs.write.Reads as write
+use Rattle.book.proofs.remove.Reads as remove
+use Rattle.book.proofs.lookup.Reads as lookup
+use Rattle.book.proofs.oldest.oldest.Reads as oldest
+
+pub one-check-book : One check-book.Post
+one-check-book κs a r₁ r₂ s₁ s₂ p q = one-judged _ _ _ p q
+
+pub one-new-book : OneWith new-book.Post (λ κs s. now (s .0))
+one-new-book κs a r₁ r₂ s₁ s₂ p q = one-made _ _ _ _ _ p q
+
+pub one-write : OneWith write.Post (λ κs s. now (s .0))
+one-write κs a r₁ r₂ s₁ s₂ p q = one-changed p q
+
+pub one-remove : OneWith remove.Post (λ κs s. now (s .0))
+one-remove κs a r₁ r₂ s₁ s₂ p q = one-changed p q
+
+pub one-lookup : OneWith lookup.Post (λ κs s. now (s .1 .1 .0))
+one-lookup κs a r₁ r₂ s₁ s₂ p q = one-found p q
+
+pub one-oldest-call : One oldest.Post
+one-oldest-call κs a r₁ r₂ s₁ s₂ p q = one-oldest _ _ _ _ p q

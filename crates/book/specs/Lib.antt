@@ -1,0 +1,10 @@
+pub mod Book
+pub mod BookLaws
+pub mod Outcome
+pub mod OutcomeLaws
+pub mod WayLaws
+pub mod CheckLaws
+pub mod FindLaws
+pub mod RecordLaws
+pub mod Oldest
+pub mod OldestLaws

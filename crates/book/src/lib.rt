@@ -1,0 +1,96 @@
+// The record book: new, write, remove, lookup. Each call checks the book once.
+pub mod check;
+pub mod find;
+pub mod key;
+pub mod oldest;
+pub mod record;
+
+use check::BookAnswer;
+use check::check_book;
+use form::clear;
+use form::put_header;
+use key::key_into;
+use record::look_record;
+use record::put_record;
+use record::take_record;
+use text::refusal::BAD_BOOK;
+use text::refusal::BAD_LENGTH;
+use text::refusal::NO_ROOM;
+ghost use mathlib.Core.Path.{_≡_};
+ghost use Rattle.book.specs.Outcome.{Wrote, Removed, Looked, Made};
+
+// Copies what the path of a text holds: 9, 1, 2, 3, 10, 4, 12.
+pub fn lookup(book: &[u8], text: &[u8], out: &mut [u8]) -> u8
+    ensures { λ r. ⌜ Looked (now (book .entry)) (now (text .entry)) (now (out .entry)) r (now (out .exit)) ⌝ }
+{
+    let BookAnswer::Count(n) = check_book(book) else {
+        return BAD_BOOK;
+    };
+    let mut field = [0u8; 255];
+    let w = key_into(text, &mut field);
+    let refusal = w.refusal;
+    if refusal != 0 {
+        return refusal;
+    }
+    if out.len() < 32 {
+        return NO_ROOM;
+    }
+    let len = w.length as usize;
+    look_record(book, n, &field[0..len], out)
+}
+
+// Adds or replaces what the path of a text holds: 9, 1, 2, 3, 10, 6, 11.
+pub fn write(book: &mut [u8], text: &[u8], value: &[u8]) -> u8
+    ensures { λ r. ⌜ Wrote (now (book .entry)) (now (text .entry)) (now (value .entry)) r (now (book .exit)) ⌝ }
+{
+    let BookAnswer::Count(n) = check_book(book) else {
+        return BAD_BOOK;
+    };
+    let mut field = [0u8; 255];
+    let w = key_into(text, &mut field);
+    let refusal = w.refusal;
+    if refusal != 0 {
+        return refusal;
+    }
+    if value.len() != 32 {
+        return BAD_LENGTH;
+    }
+    let len = w.length as usize;
+    put_record(book, n, &field[0..len], value)
+}
+
+// Removes what the path of a text holds: 9, 1, 2, 3, 10, 12.
+pub fn remove(book: &mut [u8], text: &[u8]) -> u8
+    ensures { λ r. ⌜ Removed (now (book .entry)) (now (text .entry)) r (now (book .exit)) ⌝ }
+{
+    let BookAnswer::Count(n) = check_book(book) else {
+        return BAD_BOOK;
+    };
+    let mut field = [0u8; 255];
+    let w = key_into(text, &mut field);
+    let refusal = w.refusal;
+    if refusal != 0 {
+        return refusal;
+    }
+    let len = w.length as usize;
+    take_record(book, n, &field[0..len])
+}
+
+// Makes a book of a buffer, with no records: 9 where the length is no book's.
+pub fn new_book(book: &mut [u8]) -> u8
+    ensures { λ r. ⌜ Made (now (book .entry)) r (now (book .exit)) ⌝ }
+{
+    let size = book.len();
+    if size < 296 {
+        return BAD_BOOK;
+    }
+    if 57608 < size {
+        return BAD_BOOK;
+    }
+    if (size - 8) % 288 != 0 {
+        return BAD_BOOK;
+    }
+    clear(book, 0, size);
+    put_header(book, 0);
+    0
+}

@@ -1,0 +1,79 @@
+// Calls on the key of a book.
+use crate::find::Spot;
+use crate::find::find;
+use form::insert;
+use form::put_slot;
+use form::take_out;
+use text::put::write_text;
+use text::refusal::ABSENT;
+use text::refusal::FULL;
+ghost use mathlib.Core.Path.{_≡_};
+ghost use Prim.Native.Nat.{_+_, _*_, _≤_, _<_};
+ghost use lib.ListN.{length};
+ghost use Rattle.keys.specs.Act.{writes, removes, looks};
+ghost use Rattle.book.specs.Book.{Counts};
+ghost use Rattle.book.specs.Outcome.{Changed, Found};
+ghost use Rattle.book.specs.FindLaws.{Spotted};
+ghost use Rattle.book.specs.declared.find.Spot.the-variants.{Taken, Free};
+
+// Copies the value of `key` to the start of `out`.
+pub(crate) fn look_record(book: &[u8], n: usize, key: &[u8], out: &mut [u8]) -> u8
+    requires { ⌜ Counts (now book) n ⌝ }
+    requires { ⌜ 32 ≤ length (now out) ⌝ }
+    ensures { λ r. ⌜ Found (now (book .entry)) (looks (now (key .entry))) (now (out .entry)) r (now (out .exit)) ⌝ }
+{
+    let Spot::Taken(p) = find(book, n, key) else {
+        return ABSENT;
+    };
+    let start = 8 + 288 * p + 256;
+    let end = start + 32;
+    write_text(out, 0, &book[start..end]);
+    0
+}
+
+// Writes over the record in slot p.
+pub(crate) fn replace(book: &mut [u8], n: usize, p: usize, key: &[u8], value: &[u8]) -> u8
+    requires { ⌜ Counts (now book) n × Spotted (now book) (now key) n (Taken p) ⌝ }
+    requires { ⌜ (length (now key) ≤ 255) × (length (now value) ≡ 32) ⌝ }
+    ensures { λ r. ⌜ Changed (now (book .entry)) (writes (now (key .entry)) (now (value .entry))) r (now (book .exit)) ⌝ }
+{
+    put_slot(book, 8 + 288 * p, key, value);
+    0
+}
+
+// Puts a record in at slot p, where there is room.
+pub(crate) fn add(book: &mut [u8], n: usize, p: usize, key: &[u8], value: &[u8]) -> u8
+    requires { ⌜ Counts (now book) n × Spotted (now book) (now key) n (Free p) ⌝ }
+    requires { ⌜ (length (now key) ≤ 255) × (length (now value) ≡ 32) ⌝ }
+    ensures { λ r. ⌜ Changed (now (book .entry)) (writes (now (key .entry)) (now (value .entry))) r (now (book .exit)) ⌝ }
+{
+    if book.len() < 8 + 288 * (n + 1) {
+        return FULL;
+    }
+    insert(book, p, n, key, value);
+    0
+}
+
+// Adds or replaces the value of `key`.
+pub(crate) fn put_record(book: &mut [u8], n: usize, key: &[u8], value: &[u8]) -> u8
+    requires { ⌜ Counts (now book) n ⌝ }
+    requires { ⌜ (length (now key) ≤ 255) × (length (now value) ≡ 32) ⌝ }
+    ensures { λ r. ⌜ Changed (now (book .entry)) (writes (now (key .entry)) (now (value .entry))) r (now (book .exit)) ⌝ }
+{
+    match find(book, n, key) {
+        Spot::Taken(p) => replace(book, n, p, key, value),
+        Spot::Free(p) => add(book, n, p, key, value),
+    }
+}
+
+// Removes the record of `key`.
+pub(crate) fn take_record(book: &mut [u8], n: usize, key: &[u8]) -> u8
+    requires { ⌜ Counts (now book) n ⌝ }
+    ensures { λ r. ⌜ Changed (now (book .entry)) (removes (now (key .entry))) r (now (book .exit)) ⌝ }
+{
+    let Spot::Taken(p) = find(book, n, key) else {
+        return ABSENT;
+    };
+    take_out(book, p, n - 1);
+    0
+}

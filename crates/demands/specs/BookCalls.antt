@@ -1,0 +1,120 @@
+-- Demand 3 of the generated contracts of `hp_book_write`, `hp_book_remove` and `hp_book_lookup`: what they may do, as their sources have
+-- it, is what `calls` permits.
+-- Assumes nothing.
+use mathlib.Core.Path.{_≡_, subst}
+use mathlib.Core.Bool.{cond}
+use mathlib.Core.List.{List, []}
+use Prim.Native.Nat.{ℕ}
+use lib.Dec.{eqb}
+use lib.ListN.{length, take}
+use contract.Lifetimes.{Lfts}
+use denote.Ref.{now}
+use borrow.Fn.World.{ArgsD, ResD}
+use borrow.Fn.Kinds.{endedOf}
+use denote.Triple.Clauses.{AtExit}
+use Rattle.keys.specs.Act.{Seen}
+use Rattle.keys.specs.Calls.{Asked, to-write, to-remove, to-look, Call, look, meaning}
+use Rattle.book.specs.Outcome.{Found, Wrote, Removed, Looked}
+use Rattle.demands.specs.Held.{Permitted}
+use Rattle.demands.specs.KeepsLaws.{changed-keeps, found-keeps}
+use Rattle.demands.specs.Demand3.{Taken, Demand3}
+use Rattle.demands.specs.Demand3Laws as laws
+use Rattle.node.proofs.hp_book_write as w
+use Rattle.node.proofs.hp_book_write.Kinds as wk
+use Rattle.node.proofs.hp_book_write.Reads as wr
+use Rattle.node.proofs.hp_book_remove as d
+use Rattle.node.proofs.hp_book_remove.Kinds as dk
+use Rattle.node.proofs.hp_book_remove.Reads as dr
+use Rattle.node.proofs.hp_book_lookup as l
+use Rattle.node.proofs.hp_book_lookup.Kinds as lk
+use Rattle.node.proofs.hp_book_lookup.Reads as lr
+
+-- one call of each function: its buffers before and after, its result, and what its contract ensures
+pub record Writes (b t v : List ℕ) (r : ℕ) (b₁ : List ℕ) : Type 0 where
+  pub lifetimes : Lfts 3
+  pub args : ArgsD w.signature lifetimes
+  pub result : ResD w.signature lifetimes
+  pub exits : AtExit (endedOf 3 wk.ps wk.r) lifetimes
+  pub book-in : now (args .0) ≡ b
+  pub text-in : now (args .1 .0) ≡ t
+  pub value-in : now (args .1 .1 .0) ≡ v
+  pub number-out : result ≡ r
+  pub book-out : now (exits .0) ≡ b₁
+  pub ensures : wr.Post lifetimes args result exits
+
+pub record Removes (b t : List ℕ) (r : ℕ) (b₁ : List ℕ) : Type 0 where
+  pub lifetimes : Lfts 2
+  pub args : ArgsD d.signature lifetimes
+  pub result : ResD d.signature lifetimes
+  pub exits : AtExit (endedOf 2 dk.ps dk.r) lifetimes
+  pub book-in : now (args .0) ≡ b
+  pub text-in : now (args .1 .0) ≡ t
+  pub number-out : result ≡ r
+  pub book-out : now (exits .0) ≡ b₁
+  pub ensures : dr.Post lifetimes args result exits
+
+pub record Looks (b t out : List ℕ) (r : ℕ) (out₁ : List ℕ) : Type 0 where
+  pub lifetimes : Lfts 3
+  pub args : ArgsD l.signature lifetimes
+  pub result : ResD l.signature lifetimes
+  pub exits : AtExit (endedOf 3 lk.ps lk.r) lifetimes
+  pub book-in : now (args .0) ≡ b
+  pub text-in : now (args .1 .0) ≡ t
+  pub out-in : now (args .1 .1 .0) ≡ out
+  pub number-out : result ≡ r
+  pub out-out : now (exits .1 .1 .0) ≡ out₁
+  pub ensures : lr.Post lifetimes args result exits
+
+pub wrote : (b t v : List ℕ) (r : ℕ) (b₁ : List ℕ) → Writes b t v r b₁ → Wrote b t v r b₁
+wrote b t v r b₁ x =
+    let p : Wrote (now (x .args .0)) (now (x .args .1 .0)) (now (x .args .1 .1 .0)) (x .result) (now (x .exits .0)) = x .ensures in
+    rw (x .book-in, x .text-in, x .value-in, x .number-out, x .book-out) at p
+
+pub removed : (b t : List ℕ) (r : ℕ) (b₁ : List ℕ) → Removes b t r b₁ → Removed b t r b₁
+removed b t r b₁ x =
+    let p : Removed (now (x .args .0)) (now (x .args .1 .0)) (x .result) (now (x .exits .0)) = x .ensures in
+    rw (x .book-in, x .text-in, x .number-out, x .book-out) at p
+
+pub looked : (b t out : List ℕ) (r : ℕ) (out₁ : List ℕ) → Looks b t out r out₁ → Looked b t out r out₁
+looked b t out r out₁ x =
+    let p : Looked (now (x .args .0)) (now (x .args .1 .0)) (now (x .args .1 .1 .0)) (x .result) (now (x .exits .1 .1 .0)) = x .ensures in
+    rw (x .book-in, x .text-in, x .out-in, x .number-out, x .out-out) at p
+
+-- ---- demand 1 of the three functions: a refusal changes no byte
+pub write-keeps : {b t v : List ℕ} {r : ℕ} {b₁ : List ℕ} → Writes b t v r b₁ → (r ≡ 0 → ⊥) → b₁ ≡ b
+write-keeps x z = changed-keeps (wrote _ _ _ _ _ x) z
+
+pub remove-keeps : {b t : List ℕ} {r : ℕ} {b₁ : List ℕ} → Removes b t r b₁ → (r ≡ 0 → ⊥) → b₁ ≡ b
+remove-keeps x z = changed-keeps (removed _ _ _ _ x) z
+
+pub look-keeps : {b t out : List ℕ} {r : ℕ} {out₁ : List ℕ} → Looks b t out r out₁ → (r ≡ 0 → ⊥) → out₁ ≡ out
+look-keeps x z = found-keeps (looked _ _ _ _ _ x) z
+
+-- ---- demand 3
+-- a lookup with that much room, in some buffer, and what it gives
+pub record LooksIn (b t : List ℕ) (room : ℕ) (a : Seen) : Type 0 where
+  pub out : List ℕ
+  pub out₁ : List ℕ
+  pub size : length out ≡ room
+  pub looks : Looks b t out (a .number) out₁
+  pub gives : a .value ≡ cond (eqb (a .number) 0) (take 32 out₁) []
+
+abbrev pub DoesTo : Asked → List ℕ → List ℕ → Seen → List ℕ → Type 0
+DoesTo (to-write v) b t a b₁ = Writes b t v (a .number) b₁ × (a .value ≡ [])
+DoesTo to-remove b t a b₁ = Removes b t (a .number) b₁ × (a .value ≡ [])
+DoesTo (to-look room) b t a b₁ = LooksIn b t room a × (b₁ ≡ b)
+
+abbrev pub Does : List ℕ → Call → Seen → List ℕ → Type 0
+Does b c a b₁ = DoesTo (c .asked) b (c .text) a b₁
+
+permits-to : (q : Asked) (b t : List ℕ) (a : Seen) (b₁ : List ℕ) → DoesTo q b t a b₁ → Permitted b (record { text = t; asked = q }) a b₁
+permits-to (to-write v) b t a b₁ x = (wrote b t v (a .number) b₁ (x .0), x .1)
+permits-to to-remove b t a b₁ x = (removed b t (a .number) b₁ (x .0), x .1)
+permits-to (to-look room) b t a b₁ x =
+    let y = x .0 in
+    let f : Looked b t (y .out) (a .number) (y .out₁) = looked b t (y .out) (a .number) (y .out₁) (y .looks) in
+    (record { out = y .out; out₁ = y .out₁; size = y .size; found = subst (λ (n : ℕ). Found b (meaning (look t n)) (y .out) (a .number) (y .out₁)) (y .size) f; gives = y .gives }, x .1)
+
+-- THE THEOREM: demand 3 of the three functions
+pub demand3 : (x : Taken Does) → Demand3 Does x
+demand3 x = laws.demand3 Does (λ b c a b₁ y. permits-to (c .asked) b (c .text) a b₁ y) x

@@ -1,0 +1,121 @@
+-- Laws of `Book`: the bytes tell the book, a call has one outcome, and a book stays a book.
+-- Assumes nothing.
+use Prim.Native.Nat.{ℕ, _≤_}
+use mathlib.Core.Path.{_≡_, refl, sym, ap, _∙_}
+use mathlib.Core.Bool.{Bool, true, false}
+use mathlib.Core.List.{List, [], _∷_}
+use mathlib.Core.Option.{Option, none, some}
+use native.Mathlib.Omega.{arith}
+use lib.ListN.{length}
+use borrow.Author.Tests.{eqb-true, eq-eqb}
+use Rattle.text.specs.Order.{by, cmp}
+use Rattle.text.specs.Put.{text}
+use Rattle.path.specs.Read.{keyOf}
+use Rattle.path.specs.BackLaws.{key-exact}
+use Rattle.form.specs.Layout.{AllFit, length-layout}
+use Rattle.form.specs.V1.{V1}
+use Rattle.keys.specs.Records.{Key, get, put, del}
+use Rattle.text.specs.OrderLaws.{Keys, key-lt, key-eq, key-gt, keys}
+use Rattle.keys.specs.Act.{Rec, Meaning, refuses, writes, removes, looks, addTo, takeFrom, lookIn, act}
+use Rattle.keys.specs.Calls.{Call, meaning}
+use Rattle.book.specs.Book.{AllExact, Book, bytesWith, fullIn}
+use Rattle.book.specs.BookLaws.{one-book}
+use Rattle.demands.specs.Held.{Fits, Full, Holds}
+use Rattle.keys.specs.CallLaws.{Means, declines, writing, removing, looking, means}
+
+-- ---- facts of every record, kept by each call
+module _ (All : List Rec → Type 0) (P : Rec → Type 0) (nil : All []) (cons : (r : Rec) (s : List Rec) → P r → All s → All (r ∷ s))
+    (head : (r : Rec) (s : List Rec) → All (r ∷ s) → P r) (tail : (r : Rec) (s : List Rec) → All (r ∷ s) → All s) where
+  all-put : (s : List Rec) (k : Key) (v : List ℕ) → All s → P (k, v) → All (put s k v)
+  unfolding put
+  all-put [] k v h p = cons (k, v) [] p nil
+  all-put (r ∷ s) k v h p = go (keys k (r .0)) (all-put s k v (tail r s h) p)
+    where
+      go : Keys k (r .0) → All (put s k v) → All (by (cmp k (r .0)) ((k, v) ∷ r ∷ s) ((k, v) ∷ s) (r ∷ put s k v))
+      go (key-lt e) ih = rw e (cons (k, v) (r ∷ s) p h)
+      go (key-eq e) ih = rw e (cons (k, v) s p (tail r s h))
+      go (key-gt e) ih = rw e (cons r (put s k v) (head r s h) ih)
+
+  all-del : (s : List Rec) (k : Key) → All s → All (del s k)
+  unfolding del
+  all-del [] k h = nil
+  all-del (r ∷ s) k h = go (keys k (r .0)) (all-del s k (tail r s h))
+    where
+      go : Keys k (r .0) → All (del s k) → All (by (cmp k (r .0)) (r ∷ del s k) s (r ∷ del s k))
+      go (key-lt e) ih = rw e (cons r (del s k) (head r s h) ih)
+      go (key-eq e) ih = rw e (tail r s h)
+      go (key-gt e) ih = rw e (cons r (del s k) (head r s h) ih)
+
+  pub all-get : (s : List Rec) (k : Key) (v : List ℕ) → All s → get s k ≡ some v → (r : Rec) × P r × (r .1 ≡ v)
+  unfolding get
+  all-get [] k v h e = let z : _≡_ {A = ℕ} 0 1 = cc in absurd (omega arith)
+  all-get (r ∷ s) k v h e = go (keys k (r .0)) (all-get s k v (tail r s h)) e
+    where
+      go : Keys k (r .0) → (get s k ≡ some v → (q : Rec) × P q × (q .1 ≡ v)) → by (cmp k (r .0)) (get s k) (some (r .1)) (get s k) ≡ some v → (q : Rec) × P q × (q .1 ≡ v)
+      go (key-lt w) ih f = ih (rw w at f)
+      go (key-eq w) ih f = let f₁ = rw w at f in (r, head r s h, (cc))
+      go (key-gt w) ih f = ih (rw w at f)
+
+  pub all-act : (full : Key → List Rec → Bool) (s : List Rec) (m : Meaning) → ((k : Key) (v : List ℕ) → m ≡ writes k v → P (k, v)) → All s → All (act full m s .1)
+  unfolding act
+  all-act full s (refuses n) w h = h
+  all-act full s (writes k v) w h = go (get s k) (full k s)
+    where
+      go : (x : Option (List ℕ)) (f : Bool) → All (addTo x f (put s k v) s .1)
+      go (some u) f = all-put s k v h (w k v refl)
+      go none true = h
+      go none false = all-put s k v h (w k v refl)
+  all-act full s (removes k) w h = go (get s k)
+    where
+      go : (x : Option (List ℕ)) → All (takeFrom x (del s k) s .1)
+      go none = h
+      go (some u) = all-del s k h
+  all-act full s (looks k) w h = go (get s k)
+    where
+      go : (x : Option (List ℕ)) → All (lookIn x s .1)
+      go none = h
+      go (some u) = h
+
+-- the value of a record that fits
+pub fit-get : (s : List Rec) (k : Key) (v : List ℕ) → Fits s → get s k ≡ some v → length v ≡ 32
+fit-get s k v h e =
+    let r = all-get (AllFit V1) (V1 .Fit) tt (λ r s p q. (p, q)) (λ r s q. q .0) (λ r s q. q .1) s k v h e in
+    ap length (sym (r .2)) ∙ r .1 .1
+
+-- what a call writes fits, and its key is exact
+wrote-by : {c : Call} {m : Meaning} → Means c m → (k : Key) (v : List ℕ) → m ≡ writes k v → V1 .Fit (k, v) × (keyOf k ≡ text k)
+wrote-by (declines d) k v e = let z : _≡_ {A = ℕ} 0 1 = cc in absurd (omega arith)
+wrote-by {c} (writing {k = j} {v = w} ok) k v e =
+    let p : j ≡ k = cc in
+    let q : w ≡ v = cc in
+    rw (← p, ← q) (((ok .key .fits, ok .size), key-exact (c .text) j (ok .key .path) .2))
+wrote-by (removing ok) k v e = let z : _≡_ {A = ℕ} 0 1 = cc in absurd (omega arith)
+wrote-by (looking ok) k v e = let z : _≡_ {A = ℕ} 0 1 = cc in absurd (omega arith)
+
+pub fit-act : (full : Key → List Rec → Bool) (s : List Rec) (c : Call) → Fits s → Fits (act full (meaning c) s .1)
+fit-act full s c h = all-act (AllFit V1) (V1 .Fit) tt (λ r s p q. (p, q)) (λ r s q. q .0) (λ r s q. q .1) full s (meaning c) (λ k v e. wrote-by (means c) k v e .0) h
+
+pub exact-act : (full : Key → List Rec → Bool) (s : List Rec) (c : Call) → AllExact s → AllExact (act full (meaning c) s .1)
+exact-act full s c h = all-act AllExact (λ r. keyOf (r .0) ≡ text (r .0)) tt (λ r s p q. (p, q)) (λ r s q. q .0) (λ r s q. q .1) full s (meaning c) (λ k v e. wrote-by (means c) k v e .1) h
+
+-- the test of FULL
+pub is-full : {b : List ℕ} (x : Book b) (k : Key) → fullIn x k (x .records) ≡ true → Full x k
+is-full x k e = eqb-true (length (x .records)) (x .slots) e
+
+pub full-is : {b : List ℕ} (x : Book b) (k : Key) → Full x k → fullIn x k (x .records) ≡ true
+full-is x k e = eq-eqb (length (x .records)) (x .slots) e
+
+-- the size of a book with other records in it
+pub length-with : {b : List ℕ} (x : Book b) (s : List Rec) → Fits s → length s ≤ x .slots → length (bytesWith x s) ≡ length b
+length-with x s f h = length-layout V1 (x .slots) s f h ∙ sym (ap length (x .bytes) ∙ length-layout V1 (x .slots) (x .records) (x .fit) (x .few))
+
+-- what a path holds in a book
+pub holds-in : {b : List ℕ} {k : Key} {o : Option (List ℕ)} → Holds b k o → (x : Book b) → get (x .records) k ≡ o
+holds-in {k = k} h x = ap (λ (s : List Rec). get s k) (one-book _ x (h .book) .1) ∙ h .is
+
+-- a book is full by its bytes
+pub full-as : {b : List ℕ} (x y : Book b) (k : Key) → Full y k → Full x k
+full-as x y k f = let o = one-book _ x y in rw (o .0, o .1) f
+
+pub one-held : {b : List ℕ} {k : Key} {o p : Option (List ℕ)} → Holds b k o → Holds b k p → o ≡ p
+one-held h g = sym (h .is) ∙ holds-in g (h .book)

@@ -1,0 +1,252 @@
+-- What demand 3 refuses: useless books, each with the line that it breaks. And that it is not empty: every list has a run.
+-- Assumes nothing.
+use Prim.Native.Nat.{ℕ, zero, suc, _-_, _*_, _≤_, _<_}
+use mathlib.Core.Path.{_≡_, refl, sym, ap, subst, _∙_}
+use mathlib.Core.Bool.{true}
+use mathlib.Core.List.{List, [], _∷_, _++_}
+use mathlib.Core.Option.{none, some}
+use native.Mathlib.Omega.{arith}
+use lib.ListN.{length, getD}
+use Rattle.text.specs.Bytes.{bytes}
+use Rattle.text.specs.Put.{text}
+use Rattle.path.specs.declared.Path.{Path}
+use Rattle.path.specs.declared.Path.the-variants.{Ports}
+use Rattle.path.specs.declared.Reading.the-variants.{Read, Refused as Unread}
+use Rattle.path.specs.declared.Refusal.the-variants.{NotAPath}
+use Rattle.path.specs.Read.{readPath, keyOf}
+use Rattle.path.specs.BackLaws.{exact-renders}
+use Rattle.path.specs.Cases.{cases}
+use Rattle.runs.specs.Runs.{Runs, stop, next, before}
+use Rattle.form.specs.Layout.{layout, slots, zeros, length-zeros}
+use Rattle.form.specs.V1.{V1, header}
+use Rattle.text.specs.OrderLaws.{cmp-self}
+use Rattle.keys.specs.Records.{Key, get, put}
+use Rattle.keys.specs.Act.{writes, act, done, Seen, seen}
+use Rattle.keys.specs.Calls.{Call, write, remove, look, meaning}
+use Rattle.book.specs.Book.{Book, acts}
+use Rattle.demands.specs.Held.{Holds, Permitted, isWrite}
+use Rattle.keys.specs.CallLaws.{writing-means, one-path}
+use Rattle.demands.specs.HeldLaws.{one-held}
+use Rattle.demands.specs.CountLaws.{count-right}
+use Rattle.demands.specs.PermittedLaws.{permitted-book, permitted-exists, row-says}
+use Rattle.demands.specs.MachineLaws.{keeps-book}
+use Rattle.demands.specs.Demand3.{Taken, AcceptedAt, Demand3}
+
+-- every list of calls on every book has a run
+pub run-exists : (b : List ℕ) → Book b → (cs : List Call) → (rs : List Seen) × (b₁ : List ℕ) × Runs Permitted b cs rs b₁
+run-exists b x [] = ([], b, stop)
+run-exists b x (c ∷ cs) =
+    let p = permitted-exists b c x in
+    let r = run-exists (p .1) (keeps-book b c (p .0) (p .1) (p .2) x) cs in
+    (p .0 ∷ r .0, r .1, next (p .2) (r .2))
+
+-- ---- a book of two slots without records, a path and a value
+abbrev two : List ℕ
+two = layout V1 2 []
+
+empty : Book two
+empty = record { slots = 2; records = []; least = omega arith; most = omega arith; fit = tt; exact = tt; sorted = tt; few = omega arith; bytes = refl }
+
+one-of-two : 1 ≤ empty .slots - length (empty .records)
+unfolding empty
+one-of-two = omega arith
+
+no-records : empty .records ≡ []
+unfolding empty
+no-records = refl
+
+abbrev port : List ℕ
+port = bytes "ports/ab"
+
+abbrev port-path : Path
+port-path = Ports (record { port = record { start = 6; len = 2 } })
+
+port-read : readPath port ≡ Read port-path true
+port-read = ap (λ l. getD l 7 (Unread NotAPath)) cases
+
+port-key : keyOf port ≡ text port
+unfolding keyOf
+port-key = rw (port-read, exact-renders port port-path port-read)
+
+abbrev value : List ℕ
+value = zeros 32
+
+-- the write of that value under that path, and what it does on the empty book
+abbrev W : Call
+W = write port value
+
+write-means : meaning W ≡ writes port value
+write-means = writing-means W port value (record { asked = refl; key = record { path = port-key; fits = omega arith }; size = length-zeros 32 })
+
+-- the write is accepted there, and the record then stands in the book
+abbrev filled : List ℕ
+filled = layout V1 2 ((port, value) ∷ [])
+
+acted : acts empty (meaning W) ≡ (done, (port, value) ∷ [])
+unfolding empty act get put
+acted = rw write-means
+
+pub writes-port : (a : Seen) (b₁ : List ℕ) → Permitted two W a b₁ → (a ≡ seen done) × (b₁ ≡ filled)
+unfolding empty
+writes-port a b₁ p =
+    let q = permitted-book two W a b₁ empty p in
+    let e = acted in
+    (q .0 ∙ ap (λ (y : _). seen (y .0)) e, q .1 ∙ ap (λ (y : _). layout V1 2 (y .1)) e)
+
+port-written : Permitted two W (seen done) filled
+port-written =
+    let p = permitted-exists two W empty in
+    let q = writes-port (p .0) (p .1) (p .2) in
+    subst (λ (a : Seen). Permitted two W a filled) (q .0) (subst (λ (b : List ℕ). Permitted two W (p .0) b) (q .1) (p .2))
+
+none-before : (k : Key) (v : List ℕ) → Holds two k (some v) → ⊥
+unfolding empty get
+none-before k v h = let e : none ≡ some v = one-held (record { book = empty; is = refl }) h in let z : _≡_ {A = ℕ} 0 1 = cc in omega arith
+
+-- ---- a book that ignores writes: it answers as it should, and leaves the bytes. It breaks `last-accepted`
+pub record Ignores (b : List ℕ) (c : Call) (a : Seen) (b₁ : List ℕ) : Type 0 where
+  pub meant : List ℕ
+  pub answered : Permitted b c a meant
+  pub write-ignored : isWrite c ≡ 1 → b₁ ≡ b
+  pub other-obeyed : isWrite c ≡ 0 → b₁ ≡ meant
+
+write-lost : Ignores two W (seen done) two
+write-lost = record { meant = filled; answered = port-written; write-ignored = λ e. refl; other-obeyed = λ e. absurd (omega (arith, e)) }
+
+abbrev ignored : Taken Ignores
+ignored =
+    record {
+      calls = W ∷ [];
+      start = two;
+      book = empty;
+      room = one-of-two;
+      answers = seen done ∷ [];
+      end = two;
+      run = next write-lost stop;
+    }
+
+pub ignores-refused : ((x : Taken Ignores) → Demand3 Ignores x) → ⊥
+ignores-refused h = none-before port value (h ignored .last-accepted port 0 here later)
+  where
+    here : AcceptedAt Ignores ignored port 0
+    here = record { made = record { call = W; answer = seen done; there = refl; said = refl }; path = port-key; accepted = (tt, refl) }
+
+    later : (j : ℕ) → 0 < j → AcceptedAt Ignores ignored port j → ⊥
+    later zero l u = omega arith
+    later (suc j) l u = let e = u .made .there in let z : _≡_ {A = ℕ} 0 1 = cc in omega arith
+
+-- ---- a book that refuses every write, with the number r. It breaks `refused-exactly`
+pub record Refuses (r : ℕ) (b : List ℕ) (c : Call) (a : Seen) (b₁ : List ℕ) : Type 0 where
+  pub write-refused : isWrite c ≡ 1 → (a .number ≡ r) × (b₁ ≡ b)
+  pub other-obeyed : isWrite c ≡ 0 → Permitted b c a b₁
+
+module _ (r : ℕ) (nz : r ≡ 0 → ⊥) where
+  abbrev no : Seen
+  no = record { number = r; value = [] }
+
+  write-away : Refuses r two W no two
+  write-away = record { write-refused = λ e. (refl, refl); other-obeyed = λ e. absurd (omega (arith, e)) }
+
+  abbrev turned-away : Taken (Refuses r)
+  turned-away =
+      record {
+        calls = W ∷ [];
+        start = two;
+        book = empty;
+        room = one-of-two;
+        answers = no ∷ [];
+        end = two;
+        run = next write-away stop;
+      }
+
+  pub refuses-refused : ((x : Taken (Refuses r)) → Demand3 (Refuses r) x) → ⊥
+  unfolding before
+  refuses-refused h =
+      let row = h turned-away .refused-exactly 0 (record { call = W; answer = no; there = refl; said = refl }) r nz .0 refl in
+      nz (sym (row-says empty W row) ∙ ap (λ (y : _). seen (y .0) .number) acted)
+
+-- ---- a book that obeys its first call, and later only says 0. It breaks `last-accepted`: the removal is not done
+pub data Once (b : List ℕ) (c : Call) (a : Seen) (b₁ : List ℕ) : Type 0 where
+  first-call : (x : Book b) → x .records ≡ [] → Permitted b c a b₁ → Once b c a b₁
+  later-call : (x : Book b) → (x .records ≡ [] → ⊥) → a ≡ seen done → b₁ ≡ b → Once b c a b₁
+
+one-record : Book filled
+one-record = record { slots = 2; records = (port, value) ∷ []; least = omega arith; most = omega arith; fit = ((omega arith, length-zeros 32), tt); exact = (port-key, tt); sorted = (tt, tt); few = omega arith; bytes = refl }
+
+has-record : one-record .records ≡ [] → ⊥
+unfolding one-record
+has-record e = let z : _≡_ {A = ℕ} 0 1 = cc in omega arith
+
+still-there : Holds filled port none → ⊥
+unfolding one-record get
+still-there h = let e : some value ≡ none = one-held (record { book = one-record; is = rw (cmp-self port) }) h in let z : _≡_ {A = ℕ} 0 1 = cc in omega arith
+
+not-empty : Holds filled port (some []) → ⊥
+unfolding one-record get
+not-empty h = let e : some value ≡ some [] = one-held (record { book = one-record; is = rw (cmp-self port) }) h in let z : _≡_ {A = ℕ} 0 1 = cc in omega arith
+
+abbrev obeyed-once : Taken Once
+obeyed-once =
+    record {
+      calls = W ∷ remove port ∷ [];
+      start = two;
+      book = empty;
+      room = one-of-two;
+      answers = seen done ∷ seen done ∷ [];
+      end = filled;
+      run = next (first-call empty no-records port-written) (next (later-call one-record has-record refl refl) stop);
+    }
+
+pub once-refused : ((x : Taken Once) → Demand3 Once x) → ⊥
+once-refused h = still-there (h obeyed-once .last-accepted port 1 here later)
+  where
+    here : AcceptedAt Once obeyed-once port 1
+    here = record { made = record { call = remove port; answer = seen done; there = refl; said = refl }; path = port-key; accepted = (tt, refl) }
+
+    later : (j : ℕ) → 1 < j → AcceptedAt Once obeyed-once port j → ⊥
+    later zero l u = omega arith
+    later (suc zero) l u = omega arith
+    later (suc (suc j)) l u = let e = u .made .there in let z : _≡_ {A = ℕ} 0 1 = cc in omega arith
+
+-- it breaks `lookup-gives` too: the lookup after the write gives nothing of what was written
+abbrev asked-once : Taken Once
+asked-once =
+    record {
+      calls = W ∷ look port 32 ∷ [];
+      start = two;
+      book = empty;
+      room = one-of-two;
+      answers = seen done ∷ seen done ∷ [];
+      end = filled;
+      run = next (first-call empty no-records port-written) (next (later-call one-record has-record refl refl) stop);
+    }
+
+pub once-gives-refused : ((x : Taken Once) → Demand3 Once x) → ⊥
+unfolding before
+once-gives-refused h =
+    let g = h asked-once .lookup-gives 1 (record { call = look port 32; answer = seen done; there = refl; said = refl }) tt refl in
+    not-empty (subst (λ (k : Key). Holds filled k (some [])) (one-path (look port 32) (g .0) port (g .1) port-key) (g .2))
+
+-- ---- a book whose count is not the number of its keys: the header says one more. It breaks `stays-a-book`
+pub record Miscounts (b : List ℕ) (c : Call) (a : Seen) (b₁ : List ℕ) : Type 0 where
+  pub meant : List ℕ
+  pub answered : Permitted b c a meant
+  pub book : Book meant
+  pub left : b₁ ≡ header (suc (length (book .records))) ++ (slots V1 (book .records) ++ zeros (288 * (book .slots - length (book .records))))
+
+abbrev miscounted : Taken Miscounts
+miscounted =
+    record {
+      calls = W ∷ [];
+      start = two;
+      book = empty;
+      room = one-of-two;
+      answers = seen done ∷ [];
+      end = header (suc (length (one-record .records))) ++ (slots V1 (one-record .records) ++ zeros (288 * (one-record .slots - length (one-record .records))));
+      run = next (record { meant = filled; answered = port-written; book = one-record; left = refl }) stop;
+    }
+
+pub miscounts-refused : ((x : Taken Miscounts) → Demand3 Miscounts x) → ⊥
+miscounts-refused h =
+    let e = count-right (suc (length (one-record .records))) (288 * (one-record .slots - length (one-record .records))) (one-record .records) (one-record .fit) (one-record .exact) (h miscounted .stays-a-book) in
+    omega (arith, e)

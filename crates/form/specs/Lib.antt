@@ -1,0 +1,5 @@
+pub mod Bytes
+pub mod Layout
+pub mod V1
+pub mod Search
+pub mod Slots

@@ -1,0 +1,154 @@
+-- A key compared with the key of a slot, byte by byte. Assumes nothing.
+use mathlib.Core.Path.{_≡_, refl, sym, ap, _∙_}
+use mathlib.Core.List.{List, [], _∷_, _++_}
+use Prim.Native.Nat.{ℕ, zero, suc, _+_, _*_, _-_, _<_, _≤_, Ordering, Ordering·lt, Ordering·eq, Ordering·gt}
+use native.Mathlib.Numerals.{add-one}
+use native.Mathlib.Decide.{decLt}
+use native.Mathlib.Omega.{arith}
+use lib.ListN.{length, take, drop, getD, length-take, length-drop, drop-of-length-le}
+use lib.Seq.{drop-cons, getD-take, getD-drop, length-take-le}
+use Rattle.text.specs.Order.{by, cmp}
+use Rattle.text.specs.OrderLaws.{cmp-cons-lt, cmp-cons-gt, cmp-cons-eq, cmp-nil, cmp-nil-cons, cmp-cons-nil}
+
+-- the number for an order: 0 below, 1 the same, 2 above
+abbrev pub code : Ordering → ℕ
+code o = by o 0 1 2
+
+-- the key in the slot at an offset
+unfoldable pub stored : List ℕ → ℕ → List ℕ
+stored b at = take (getD b at 0) (drop (at + 1) b)
+
+module _ (a b : List ℕ) (i : ℕ) where
+  -- the order of the rest of two keys
+  abbrev pub rest : Ordering
+  rest = cmp (drop i a) (drop i b)
+
+  pub rest-lt : i < length a → i < length b → getD a i 0 < getD b i 0 → rest ≡ Ordering·lt
+  rest-lt ha hb h = rw (drop-cons a i 0, drop-cons b i 0) (cmp-cons-lt (getD a i 0) (getD b i 0) _ _ h)
+
+  pub rest-gt : i < length a → i < length b → getD b i 0 < getD a i 0 → rest ≡ Ordering·gt
+  rest-gt ha hb h = rw (drop-cons a i 0, drop-cons b i 0) (cmp-cons-gt (getD a i 0) (getD b i 0) _ _ h)
+
+  pub rest-eq : i < length a → i < length b → getD a i 0 ≡ getD b i 0 → cmp (drop (i + 1) a) (drop (i + 1) b) ≡ rest
+  rest-eq ha hb h = rw (add-one i, drop-cons a i 0, drop-cons b i 0) (sym (cmp-cons-eq (getD a i 0) (getD b i 0) _ _ h))
+
+  pub rest-longer : i < length a → length b ≤ i → rest ≡ Ordering·gt
+  rest-longer ha hb = rw (drop-cons a i 0, drop-of-length-le b hb) (cmp-cons-nil (getD a i 0) _)
+
+  pub rest-shorter : length a ≤ i → i < length b → rest ≡ Ordering·lt
+  rest-shorter ha hb = rw (drop-of-length-le a ha, drop-cons b i 0) (cmp-nil-cons (getD b i 0) _)
+
+  pub rest-same : length a ≤ i → length b ≤ i → rest ≡ Ordering·eq
+  rest-same ha hb = rw (drop-of-length-le a ha, drop-of-length-le b hb) cmp-nil
+
+pub length-stored : (b : List ℕ) (at : ℕ) → at + 1 + getD b at 0 ≤ length b → length (stored b at) ≡ getD b at 0
+unfolding stored
+length-stored b at h = length-take-le (getD b at 0) (drop (at + 1) b) (omega (arith, length-drop (at + 1) b))
+
+pub getD-stored : (b : List ℕ) (at i : ℕ) → i < getD b at 0 → getD (stored b at) i 0 ≡ getD b (at + 1 + i) 0
+unfolding stored
+getD-stored b at i h = getD-take (getD b at 0) (drop (at + 1) b) i 0 h ∙ getD-drop (at + 1) b i 0
+
+-- The loop that compares: at i the rest decides, and each way out of the loop answers so.
+module _ (book key : List ℕ) (at n i : ℕ) (hb : at + 256 ≤ length book) (en : n ≡ getD book at 0) (hn : n ≤ 255)
+    (inv : rest key (stored book at) i ≡ cmp key (stored book at)) where
+  lb : length (stored book at) ≡ n
+  lb = length-stored book at (omega arith) ∙ sym en
+
+  xb : i < n → getD (stored book at) i 0 ≡ getD book (at + 1 + i) 0
+  xb h = getD-stored book at i (omega arith)
+
+  pub out-longer : i < length key → i ≡ n → _≡_ {A = ℕ} 2 (code (cmp key (stored book at)))
+  out-longer h e = ap code (sym (rest-longer key (stored book at) i h (omega (arith, lb))) ∙ inv)
+
+  pub out-lt : i < length key → i < n → getD key i 0 < getD book (at + 1 + i) 0 → _≡_ {A = ℕ} 0 (code (cmp key (stored book at)))
+  out-lt h k d = ap code (sym (rest-lt key (stored book at) i h (omega (arith, lb)) (omega (arith, xb k))) ∙ inv)
+
+  pub out-gt : i < length key → i < n → getD book (at + 1 + i) 0 < getD key i 0 → _≡_ {A = ℕ} 2 (code (cmp key (stored book at)))
+  out-gt h k d = ap code (sym (rest-gt key (stored book at) i h (omega (arith, lb)) (omega (arith, xb k))) ∙ inv)
+
+  pub out-same : i ≡ length key → i ≡ n → _≡_ {A = ℕ} 1 (code (cmp key (stored book at)))
+  out-same h k = ap code (sym (rest-same key (stored book at) i (omega arith) (omega (arith, lb))) ∙ inv)
+
+  pub out-shorter : i ≡ length key → i < n → _≡_ {A = ℕ} 0 (code (cmp key (stored book at)))
+  out-shorter h k = ap code (sym (rest-shorter key (stored book at) i (omega arith) (omega (arith, lb))) ∙ inv)
+
+  pub turn : i < length key → i < n → getD key i 0 ≡ getD book (at + 1 + i) 0 → rest key (stored book at) (i + 1) ≡ cmp key (stored book at)
+  turn h k d = rest-eq key (stored book at) i h (omega (arith, lb)) (d ∙ sym (xb k)) ∙ inv
+
+-- ---- a comparison that starts behind what two keys share
+pub record Agree (key book : List ℕ) (at start : ℕ) : Type 0 where
+  pub short : start ≤ length key
+  pub within : start ≤ getD book at 0
+  pub same : (j : ℕ) → j < start → getD key j 0 ≡ getD book (at + 1 + j) 0
+
+skip-same : (a b : List ℕ) (i : ℕ) → i ≤ length a → i ≤ length b → ((j : ℕ) → j < i → getD a j 0 ≡ getD b j 0) → rest a b i ≡ cmp a b
+skip-same a b zero ha hb h = refl
+skip-same a b (suc i) ha hb h =
+    let e : rest a b (i + 1) ≡ rest a b i = rest-eq a b i (omega arith) (omega arith) (h i (omega arith)) in
+    ap (λ (n : ℕ). rest a b n) (sym (add-one i)) ∙ e ∙ skip-same a b i (omega arith) (omega arith) (λ j l. h j (omega arith))
+
+pub agree-rest : (key book : List ℕ) (at start : ℕ) → at + 256 ≤ length book → getD book at 0 ≤ 255 → Agree key book at start → rest key (stored book at) start ≡ cmp key (stored book at)
+agree-rest key book at start hb hn g =
+    let lb : length (stored book at) ≡ getD book at 0 = length-stored book at (omega arith) in
+    skip-same key (stored book at) start (g .short) (omega (arith, g .within)) (λ j l. g .same j l ∙ sym (getD-stored book at j (omega (arith, g .within))))
+
+pub agree-none : (key book : List ℕ) (at : ℕ) → Agree key book at 0
+agree-none key book at = record { short = omega arith; within = omega arith; same = λ j l. absurd (let z : ⊥ = omega arith in z) }
+
+-- each is a byte
+abbrev pub Bytes : List ℕ → Type 0
+Bytes s = (i : ℕ) → getD s i 0 < 256
+
+-- the same bytes from a and from b on
+abbrev pub Alike : List ℕ → ℕ → ℕ → ℕ → Type 0
+Alike s a b n = (j : ℕ) → j < n → getD s (a + j) 0 ≡ getD s (b + j) 0
+
+-- eight bytes as a number, the first lowest
+unfoldable pub word : List ℕ → ℕ → ℕ
+word s at =
+    getD s at 0 + 256 * (getD s (at + 1) 0 + 256 * (getD s (at + 2) 0 + 256 * (getD s (at + 3) 0 + 256 * (getD s (at + 4) 0 + 256 * (getD s (at + 5) 0 + 256 * (getD s (at + 6) 0 + 256 * getD s (at + 7) 0))))))
+
+split : (x y m n : ℕ) → x < 256 → y < 256 → x + 256 * m ≡ y + 256 * n → (x ≡ y) × (m ≡ n)
+split x y m n h k e = (omega arith, omega arith)
+
+by-eight : (P : ℕ → Type 0) → P 0 → P 1 → P 2 → P 3 → P 4 → P 5 → P 6 → P 7 → (j : ℕ) → j < 8 → P j
+by-eight P a b c d e f g h zero l = a
+by-eight P a b c d e f g h (suc zero) l = b
+by-eight P a b c d e f g h (suc (suc zero)) l = c
+by-eight P a b c d e f g h (suc (suc (suc zero))) l = d
+by-eight P a b c d e f g h (suc (suc (suc (suc zero)))) l = e
+by-eight P a b c d e f g h (suc (suc (suc (suc (suc zero))))) l = f
+by-eight P a b c d e f g h (suc (suc (suc (suc (suc (suc zero)))))) l = g
+by-eight P a b c d e f g h (suc (suc (suc (suc (suc (suc (suc zero))))))) l = h
+by-eight P a b c d e f g h (suc (suc (suc (suc (suc (suc (suc (suc j)))))))) l = absurd (let z : ⊥ = omega arith in z)
+
+pub word-alike : (s : List ℕ) (a b : ℕ) → ((i : ℕ) → getD s i 0 < 256) → word s a ≡ word s b → Alike s a b 8
+unfolding word
+word-alike s a b h e =
+    let p0 = split _ _ _ _ (h a) (h b) e in
+    let p1 = split _ _ _ _ (h (a + 1)) (h (b + 1)) (p0 .1) in
+    let p2 = split _ _ _ _ (h (a + 2)) (h (b + 2)) (p1 .1) in
+    let p3 = split _ _ _ _ (h (a + 3)) (h (b + 3)) (p2 .1) in
+    let p4 = split _ _ _ _ (h (a + 4)) (h (b + 4)) (p3 .1) in
+    let p5 = split _ _ _ _ (h (a + 5)) (h (b + 5)) (p4 .1) in
+    let p6 = split _ _ _ _ (h (a + 6)) (h (b + 6)) (p5 .1) in
+    by-eight (λ j. getD s (a + j) 0 ≡ getD s (b + j) 0) (ap (λ (q : ℕ). getD s q 0) (let q : a + 0 ≡ a = omega arith in q) ∙ p0 .0 ∙ ap (λ (q : ℕ). getD s q 0) (let q : b ≡ b + 0 = omega arith in q)) (p1 .0) (p2 .0) (p3 .0) (p4 .0) (p5 .0) (p6 .0) (p6 .1)
+
+pub alike-more : (s : List ℕ) (a b i : ℕ) → Bytes s → Alike s a b i → word s (a + i) ≡ word s (b + i) → Alike s a b (i + 8)
+alike-more s a b i h g e j l = go (decLt j i)
+  where
+    go : Dec (j < i) → getD s (a + j) 0 ≡ getD s (b + j) 0
+    go (yes q) = g j q
+    go (no q) =
+        ap (λ (m : ℕ). getD s m 0) (let w : a + j ≡ a + i + (j - i) = omega arith in w)
+        ∙ word-alike s (a + i) (b + i) h e (j - i) (omega arith)
+        ∙ ap (λ (m : ℕ). getD s m 0) (let w : b + i + (j - i) ≡ b + j = omega arith in w)
+
+pub alike-agree : (s key : List ℕ) (at n r : ℕ) → at + 576 ≤ length s → getD s at 0 ≤ 255 → getD s (at + 288) 0 ≤ 255 → key ≡ stored s at → n ≤ getD s at 0 → n ≤ getD s (at + 288) 0 → r ≤ n → Alike s (at + 1) (at + 289) r → Agree key s (at + 288) r
+alike-agree s key at n r hs ha hb ek na nb rn g =
+    record {
+      short = rw ek (omega (arith, length-stored s at (omega arith)));
+      within = omega arith;
+      same = λ j l. rw ek (getD-stored s at j (omega arith) ∙ g j l ∙ ap (λ (m : ℕ). getD s m 0) (let w : at + 289 + j ≡ at + 288 + 1 + j = omega arith in w));
+    }

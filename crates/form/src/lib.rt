@@ -1,0 +1,251 @@
+// The book's bytes: movers, slots and the header.
+use text::part::larger;
+use text::put::write_byte;
+use text::put::write_text;
+ghost use mathlib.Core.Path.{_≡_};
+ghost use Prim.Native.Nat.{_+_, _*_, _≤_, _<_};
+ghost use lib.Dec.{eqb};
+ghost use lib.ListN.{length, getD, take, drop};
+ghost use Rattle.text.specs.Order.{cmp};
+ghost use Rattle.text.specs.Part.{every, same};
+ghost use Rattle.text.specs.Put.{put};
+ghost use Rattle.form.specs.Bytes.{raised, lowered};
+ghost use Rattle.form.specs.Search.{code, stored, word, Agree, Alike, Bytes};
+ghost use Rattle.form.specs.Layout.{inserted, removed, zeros};
+ghost use Rattle.form.specs.V1.{V1, slot, header, countIn};
+ghost use Rattle.form.specs.Slots.{SlotOk, Tells};
+
+// Moves the bytes from `from` up to `to` up by `by` places, the last one first.
+pub fn raise(book: &mut [u8], from: usize, to: usize, by: usize)
+    requires { ⌜ from ≤ to ⌝ }
+    requires { do ⌜ to + by ≤ (← ⟦book.len()⟧) ⌝ }
+    ensures { λ _. ⌜ now (book .exit) ≡ raised from to by (now (book .entry)) ⌝ }
+{
+    let mut i = to;
+    while from < i {
+        i -= 1;
+        book[i + by] = book[i];
+    }
+}
+
+// Moves the bytes from `from` up to `to` down by `by` places, the first one first.
+pub fn lower(book: &mut [u8], from: usize, to: usize, by: usize)
+    requires { ⌜ (by ≤ from) × (from ≤ to) ⌝ }
+    requires { do ⌜ to ≤ (← ⟦book.len()⟧) ⌝ }
+    ensures { λ _. ⌜ now (book .exit) ≡ lowered from to by (now (book .entry)) ⌝ }
+{
+    let mut i = from;
+    while i < to {
+        book[i - by] = book[i];
+        i += 1;
+    }
+}
+
+// Writes n zeros over what stands in `book` from `from` on.
+pub fn clear(book: &mut [u8], from: usize, n: usize)
+    requires { do ⌜ from + n ≤ (← ⟦book.len()⟧) ⌝ }
+    ensures { λ _. ⌜ now (book .exit) ≡ put (now (book .entry)) from (zeros n) ⌝ }
+{
+    let mut j = 0;
+    while j < n {
+        book[from + j] = 0;
+        j += 1;
+    }
+}
+
+// Writes a record's slot, from `at` on.
+pub fn put_slot(book: &mut [u8], at: usize, key: &[u8], value: &[u8])
+    requires { do ⌜ at + 288 ≤ (← ⟦book.len()⟧) ⌝ }
+    requires { do ⌜ (← ⟦key.len()⟧) ≤ 255 ⌝ }
+    requires { do ⌜ (← ⟦value.len()⟧) ≡ 32 ⌝ }
+    ensures { λ _. ⌜ now (book .exit) ≡ put (now (book .entry)) at (slot (now (key .entry), now (value .entry))) ⌝ }
+{
+    write_byte(book, at, key.len() as u8);
+    write_text(book, at + 1, key);
+    clear(book, at + 1 + key.len(), 255 - key.len());
+    write_text(book, at + 256, value);
+}
+
+// Writes the header of a book with n records.
+pub fn put_header(book: &mut [u8], n: usize)
+    requires { ⌜ n < 65536 ⌝ }
+    requires { do ⌜ 8 ≤ (← ⟦book.len()⟧) ⌝ }
+    ensures { λ _. ⌜ now (book .exit) ≡ put (now (book .entry)) 0 (header n) ⌝ }
+{
+    let head: [u8; 8] = [72, 80, 66, 0, 1, (n / 256) as u8, (n % 256) as u8, 0];
+    write_text(book, 0, &head);
+}
+
+// Puts a record in at slot `place` of a book with `count` records.
+pub fn insert(book: &mut [u8], place: usize, count: usize, key: &[u8], value: &[u8])
+    requires { ⌜ place ≤ count ⌝ }
+    requires { ⌜ count < 200 ⌝ }
+    requires { do ⌜ 8 + 288 * (count + 1) ≤ (← ⟦book.len()⟧) ⌝ }
+    requires { do ⌜ (← ⟦key.len()⟧) ≤ 255 ⌝ }
+    requires { do ⌜ (← ⟦value.len()⟧) ≡ 32 ⌝ }
+    ensures { λ _. ⌜ now (book .exit) ≡ inserted V1 place count (now (book .entry)) (now (key .entry), now (value .entry)) ⌝ }
+{
+    let at = 8 + 288 * place;
+    let end = 8 + 288 * count;
+    raise(book, at, end, 288);
+    put_slot(book, at, key, value);
+    put_header(book, count + 1);
+}
+
+// Takes the record out of slot `place` of a book with one record more than `count`.
+pub fn take_out(book: &mut [u8], place: usize, count: usize)
+    requires { ⌜ place ≤ count ⌝ }
+    requires { ⌜ count < 200 ⌝ }
+    requires { do ⌜ 8 + 288 * (count + 1) ≤ (← ⟦book.len()⟧) ⌝ }
+    ensures { λ _. ⌜ now (book .exit) ≡ removed V1 place count (now (book .entry)) ⌝ }
+{
+    lower(book, 8 + 288 * (place + 1), 8 + 288 * (count + 1), 288);
+    clear(book, 8 + 288 * count, 288);
+    put_header(book, count);
+}
+
+// How `key` stands to the key in the slot at `at`, where the first `start` bytes are the same: 0 before it, 1 the same, 2 after it.
+pub fn compare_from(book: &[u8], at: usize, key: &[u8], start: usize) -> u8
+    requires { do ⌜ at + 256 ≤ (← ⟦book.len()⟧) ⌝ }
+    requires { ⌜ Agree (now key) (now book) at start ⌝ }
+    ensures { λ r. ⌜ r ≡ code (cmp (now (key .entry)) (stored (now (book .entry)) at)) ⌝ }
+{
+    let n = wide(book[at]);
+    let mut i = start;
+    while i < key.len() {
+        if i == n {
+            return 2;
+        }
+        let x = key[i];
+        let y = book[at + 1 + i];
+        if x < y {
+            return 0;
+        }
+        if y < x {
+            return 2;
+        }
+        i += 1;
+    }
+    if i == n { 1 } else { 0 }
+}
+
+// How `key` stands to the key in the slot at `at`.
+pub fn compare_key(book: &[u8], at: usize, key: &[u8]) -> u8
+    requires { do ⌜ at + 256 ≤ (← ⟦book.len()⟧) ⌝ }
+    ensures { λ r. ⌜ r ≡ code (cmp (now (key .entry)) (stored (now (book .entry)) at)) ⌝ }
+{
+    compare_from(book, at, key, 0)
+}
+
+fn long(x: u8) -> u64
+    ensures { λ r. ⌜ (r ≡ x) × (r < 256) ⌝ }
+{
+    x as u64
+}
+
+// Eight bytes as a number, the first byte lowest: one load.
+fn eight(s: &[u8], at: usize) -> u64
+    requires { do ⌜ at + 8 ≤ (← ⟦s.len()⟧) ⌝ }
+    ensures { λ r. ⌜ (r ≡ word (now (s .entry)) at) × Bytes (now (s .entry)) ⌝ }
+{
+    long(s[at])
+        + 256
+            * (long(s[at + 1])
+                + 256
+                    * (long(s[at + 2])
+                        + 256
+                            * (long(s[at + 3])
+                                + 256
+                                    * (long(s[at + 4])
+                                        + 256
+                                            * (long(s[at + 5])
+                                                + 256
+                                                    * (long(s[at + 6]) + 256 * long(s[at + 7])))))))
+}
+
+// How many bytes are surely the same, of the n from a and from b on: a multiple of eight.
+fn same_start(s: &[u8], a: usize, b: usize, n: usize) -> usize
+    requires { do ⌜ (a + n ≤ (← ⟦s.len()⟧)) × (b + n ≤ (← ⟦s.len()⟧)) ⌝ }
+    ensures { λ r. ⌜ (r ≤ n) × Alike (now (s .entry)) a b r ⌝ }
+{
+    let mut i = 0;
+    while i + 8 <= n {
+        if eight(s, a + i) != eight(s, b + i) {
+            return i;
+        }
+        i += 8;
+    }
+    i
+}
+
+fn least(a: usize, b: usize) -> usize
+    ensures { λ r. ⌜ (r ≤ a) × (r ≤ b) ⌝ }
+{
+    if a < b { a } else { b }
+}
+
+// How the key in the slot at `at` stands to that in the next slot.
+pub fn compare_next(book: &[u8], at: usize) -> u8
+    requires { do ⌜ at + 576 ≤ (← ⟦book.len()⟧) ⌝ }
+    ensures { λ r. ⌜ r ≡ code (cmp (stored (now (book .entry)) at) (stored (now (book .entry)) (at + 288))) ⌝ }
+{
+    let n = least(wide(book[at]), wide(book[at + 288]));
+    let start = same_start(book, at + 1, at + 289, n);
+    compare_from(book, at + 288, key_at(book, at), start)
+}
+
+pub fn wide(x: u8) -> usize
+    ensures { λ r. ⌜ (r ≡ x) × (r < 256) ⌝ }
+{
+    x as usize
+}
+
+// The number of records that the header gives.
+pub fn count_of(book: &[u8]) -> usize
+    requires { do ⌜ 8 ≤ (← ⟦book.len()⟧) ⌝ }
+    ensures { λ r. ⌜ r ≡ countIn (now (book .entry)) ⌝ }
+{
+    256 * wide(book[5]) + wide(book[6])
+}
+
+// The key in the slot at `at`, as a part of the book.
+pub fn key_at(book: &[u8], at: usize) -> &[u8]
+    requires { do ⌜ at + 256 ≤ (← ⟦book.len()⟧) ⌝ }
+    ensures { λ r. ⌜ now r ≡ stored (now (book .entry)) at ⌝ }
+{
+    let start = at + 1;
+    let end = start + wide(book[at]);
+    &book[start..end]
+}
+
+// Whether each byte of `s` is zero. The loop has no early exit, so that it can take many bytes at a time.
+pub fn all_zero(s: &[u8]) -> bool
+    ensures { λ r. ⌜ r ≡ every (λ b. eqb b 0) (now (s .entry)) ⌝ }
+{
+    let mut top: u8 = 0;
+    let mut i = 0;
+    while i < s.len() {
+        top = larger(top, s[i]);
+        i += 1;
+    }
+    top < 1
+}
+
+// Whether the slot at `at` is a record's: the bytes behind its key are zero.
+pub fn slot_ok(book: &[u8], at: usize) -> bool
+    requires { do ⌜ at + 288 ≤ (← ⟦book.len()⟧) ⌝ }
+    ensures { λ r. ⌜ Tells r (SlotOk (drop at (now (book .entry)))) ⌝ }
+{
+    let start = at + 1 + wide(book[at]);
+    let end = at + 256;
+    all_zero(&book[start..end])
+}
+
+// Whether the header is that of a book with as many records as it says.
+pub fn header_ok(book: &[u8]) -> bool
+    requires { do ⌜ 8 ≤ (← ⟦book.len()⟧) ⌝ }
+    ensures { λ r. ⌜ r ≡ same (take 8 (now (book .entry))) (header (countIn (now (book .entry)))) ⌝ }
+{
+    let head: [u8; 8] = [72, 80, 66, 0, 1, book[5], book[6], 0];
+    text::part::equal(&book[0..8], &head)
+}

@@ -1,0 +1,113 @@
+-- What a call means, by cases, and that the refusals of its own are those of the table.
+-- Assumes nothing.
+use Prim.Native.Nat.{ℕ}
+use mathlib.Core.Path.{_≡_, refl, _∙_}
+use mathlib.Core.Bool.{Bool, true, false, cond}
+use mathlib.Core.List.{List}
+use native.Mathlib.Omega.{arith}
+use lib.Dec.{eqb, ltb, leb}
+use lib.ListN.{length}
+use borrow.Author.Tests.{ltb-true, ltb-false, leb-true, leb-false, eqb-true, eqb-false, lt-ltb, le-ltb, le-leb, lt-leb, eq-eqb, ne-eqb}
+use Rattle.text.specs.Part.{ascii}
+use Rattle.text.specs.Put.{Wanted, refused, text}
+use Rattle.path.specs.declared.PathAnswer.{PathAnswer}
+use Rattle.path.specs.declared.PathAnswer.the-variants.{Found, Nothing}
+use Rattle.path.specs.declared.Refusal.the-variants.{TooLong, NotAscii}
+use Rattle.path.specs.declared.Reading.the-variants.{Refused as Unread}
+use Rattle.path.specs.Kinds.{kinds}
+use Rattle.path.specs.Read.{readFirst, readingOf, readPath, keyBy, keyOf}
+use Rattle.path.specs.BackLaws.{key-exact}
+use Rattle.keys.specs.Records.{Key}
+use Rattle.keys.specs.Act.{Meaning, refuses, writes, removes, looks}
+use Rattle.keys.specs.Calls.{keyed, Asked, to-write, to-remove, to-look, Call, under, meaning, PathOf, SamePath}
+use Rattle.keys.specs.Refusals.{HasKey, GoodWrite, GoodRemoval, GoodLookup, Declined, too-long, not-ascii, not-a-path, key-too-long, bad-length, no-room}
+
+-- a text that has no rendering
+key-refused : (c : Call) (n : ℕ) → keyOf (c .text) ≡ refused n → Declined c n
+unfolding keyOf readPath
+key-refused c n e = go (ltb 4096 (length t)) refl (ascii t) refl (readFirst kinds t) refl e
+  where
+    t : List ℕ
+    t = c .text
+
+    go : (l : Bool) → ltb 4096 (length t) ≡ l → (a : Bool) → ascii t ≡ a → (r : PathAnswer) → readFirst kinds t ≡ r
+        → keyBy t (cond l (Unread TooLong) (cond a (readingOf t r) (Unread NotAscii))) ≡ refused n → Declined c n
+    go true l a ea r er q = let z : n ≡ 1 = cc in rw z (too-long (ltb-true 4096 (length t) l))
+    go false l false ea r er q = let z : n ≡ 2 = cc in rw z (not-ascii (ltb-false 4096 (length t) l) ea)
+    go false l true ea (Found p) er q = let z : _≡_ {A = ℕ} 0 1 = cc in absurd (omega arith)
+    go false l true ea Nothing er q = let z : n ≡ 3 = cc in rw z (not-a-path (ltb-false 4096 (length t) l) ea er)
+
+-- ---- the cases
+pub data Means (c : Call) : Meaning → Type 0 where
+  declines : {n : ℕ} → Declined c n → Means c (refuses n)
+  writing : {k : Key} {v : List ℕ} → GoodWrite c k v → Means c (writes k v)
+  removing : {k : Key} → GoodRemoval c k → Means c (removes k)
+  looking : {k : Key} {room : ℕ} → GoodLookup c k room → Means c (looks k)
+
+under-means : (c : Call) (k : Key) → HasKey c k → (q : Asked) → c .asked ≡ q → Means c (under q k)
+under-means c k h (to-write v) p = go (eqb (length v) 32) refl
+  where
+    go : (b : Bool) → eqb (length v) 32 ≡ b → Means c (cond b (writes k v) (refuses 6))
+    go true e = writing (record { asked = p; key = h; size = eqb-true (length v) 32 e })
+    go false e = declines (bad-length p h (eqb-false (length v) 32 e))
+under-means c k h to-remove p = removing (record { asked = p; key = h })
+under-means c k h (to-look room) p = go (leb 32 room) refl
+  where
+    go : (b : Bool) → leb 32 room ≡ b → Means c (cond b (looks k) (refuses 4))
+    go true e = looking (record { asked = p; key = h; wide = leb-true 32 room e })
+    go false e = declines (no-room p h (leb-false 32 room e))
+
+pub means : (c : Call) → Means c (meaning c)
+unfolding meaning keyed
+means c = go (keyOf (c .text)) refl
+  where
+    go : (x : Wanted) → keyOf (c .text) ≡ x → Means c (keyed x (under (c .asked)))
+    go (refused n) e = declines (key-refused c n e)
+    go (text k) e = fits (leb (length k) 255) refl
+      where
+        fits : (b : Bool) → leb (length k) 255 ≡ b → Means c (cond b (under (c .asked) k) (refuses 10))
+        fits true l = under-means c k (record { path = e; fits = leb-true (length k) 255 l }) (c .asked) refl
+        fits false l = declines (key-too-long e (leb-false (length k) 255 l))
+
+-- ---- and back: what the table says is what the call means
+keyed-refused : (c : Call) (n : ℕ) → keyOf (c .text) ≡ refused n → meaning c ≡ refuses n
+unfolding meaning keyed
+keyed-refused c n e = rw e
+
+keyed-fits : (c : Call) (k : Key) → HasKey c k → meaning c ≡ under (c .asked) k
+unfolding meaning keyed
+keyed-fits c k h = rw (h .path, le-leb (length k) 255 (h .fits))
+
+pub declined-means : (c : Call) {n : ℕ} → Declined c n → meaning c ≡ refuses n
+unfolding keyOf readPath meaning keyed
+declined-means c (too-long h) = keyed-refused c 1 (rw (lt-ltb 4096 (length (c .text)) h))
+declined-means c (not-ascii h a) = keyed-refused c 2 (rw (le-ltb 4096 (length (c .text)) h, a))
+declined-means c (not-a-path h a r) = keyed-refused c 3 (rw (le-ltb 4096 (length (c .text)) h, a, r))
+declined-means c (key-too-long {k = k} p l) = rw (p, lt-leb (length k) 255 l)
+declined-means c (bad-length {k = k} {v = v} q h n) = keyed-fits c k h ∙ rw (q, ne-eqb (length v) 32 n)
+declined-means c (no-room {k = k} {room = room} q h l) = keyed-fits c k h ∙ rw (q, lt-leb 32 room l)
+
+pub writing-means : (c : Call) (k : Key) (v : List ℕ) → GoodWrite c k v → meaning c ≡ writes k v
+writing-means c k v ok = keyed-fits c k (ok .key) ∙ rw (ok .asked, eq-eqb (length v) 32 (ok .size))
+
+pub removing-means : (c : Call) (k : Key) → GoodRemoval c k → meaning c ≡ removes k
+removing-means c k ok = keyed-fits c k (ok .key) ∙ rw (ok .asked)
+
+pub looking-means : (c : Call) (k : Key) (room : ℕ) → GoodLookup c k room → meaning c ≡ looks k
+looking-means c k room ok = keyed-fits c k (ok .key) ∙ rw (ok .asked, le-leb 32 room (ok .wide))
+
+-- a call's own refusals are none of 0, 9, 11, 12
+pub declined-not : {c : Call} {n : ℕ} → Declined c n → ((n ≡ 0) → ⊥) × ((n ≡ 9) → ⊥) × ((n ≡ 11) → ⊥) × ((n ≡ 12) → ⊥)
+declined-not (too-long h) = (λ e. omega arith, λ e. omega arith, λ e. omega arith, λ e. omega arith)
+declined-not (not-ascii h a) = (λ e. omega arith, λ e. omega arith, λ e. omega arith, λ e. omega arith)
+declined-not (not-a-path h a r) = (λ e. omega arith, λ e. omega arith, λ e. omega arith, λ e. omega arith)
+declined-not (key-too-long p l) = (λ e. omega arith, λ e. omega arith, λ e. omega arith, λ e. omega arith)
+declined-not (bad-length q h n) = (λ e. omega arith, λ e. omega arith, λ e. omega arith, λ e. omega arith)
+declined-not (no-room q h l) = (λ e. omega arith, λ e. omega arith, λ e. omega arith, λ e. omega arith)
+
+pub one-path : (c : Call) (j k : Key) → PathOf c j → PathOf c k → j ≡ k
+one-path c j k p q = cc
+
+-- a text and its rendering are the same path, whatever is asked
+pub own-rendering : (c : Call) (k : Key) (q : Asked) → PathOf c k → SamePath c (record { text = k; asked = q })
+own-rendering c k q p = (k, p, key-exact (c .text) k p .2)

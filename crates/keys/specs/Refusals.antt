@@ -1,0 +1,44 @@
+-- The numbered refusals of a call on a book that its own arguments decide: each given exactly when. A row below has the refusals before
+-- it, in document 01's order, denied in its premises: 1, 2, 3, 10, and then 6 for a write and 4 for a lookup.
+-- Assumes nothing.
+use Prim.Native.Nat.{ℕ, _≤_, _<_}
+use mathlib.Core.Path.{_≡_}
+use mathlib.Core.Bool.{true, false}
+use lib.ListN.{length}
+use mathlib.Core.List.{List}
+use Rattle.text.specs.Part.{ascii}
+use Rattle.path.specs.declared.PathAnswer.the-variants.{Nothing}
+use Rattle.path.specs.Kinds.{kinds}
+use Rattle.path.specs.Read.{readFirst}
+use Rattle.keys.specs.Records.{Key}
+use Rattle.keys.specs.Calls.{to-write, to-remove, to-look, Call, PathOf}
+
+-- ---- a call that its own arguments do not refuse
+-- the key of a call: its path, where the rendering fits
+pub record HasKey (c : Call) (k : Key) : Type 0 where
+  pub path : PathOf c k
+  pub fits : length k ≤ 255
+
+pub record GoodWrite (c : Call) (k : Key) (v : List ℕ) : Type 0 where
+  pub asked : c .asked ≡ to-write v
+  pub key : HasKey c k
+  pub size : length v ≡ 32
+
+pub record GoodRemoval (c : Call) (k : Key) : Type 0 where
+  pub asked : c .asked ≡ to-remove
+  pub key : HasKey c k
+
+pub record GoodLookup (c : Call) (k : Key) (room : ℕ) : Type 0 where
+  pub asked : c .asked ≡ to-look room
+  pub key : HasKey c k
+  pub wide : 32 ≤ room
+
+-- ---- refusals
+-- by the call alone: its text, the rendering, the value's length, the room
+pub data Declined (c : Call) : ℕ → Type 0 where
+  too-long : 4096 < length (c .text) → Declined c 1
+  not-ascii : length (c .text) ≤ 4096 → ascii (c .text) ≡ false → Declined c 2
+  not-a-path : length (c .text) ≤ 4096 → ascii (c .text) ≡ true → readFirst kinds (c .text) ≡ Nothing → Declined c 3
+  key-too-long : {k : Key} → PathOf c k → 255 < length k → Declined c 10
+  bad-length : {k : Key} {v : List ℕ} → c .asked ≡ to-write v → HasKey c k → (length v ≡ 32 → ⊥) → Declined c 6
+  no-room : {k : Key} {room : ℕ} → c .asked ≡ to-look room → HasKey c k → room < 32 → Declined c 4

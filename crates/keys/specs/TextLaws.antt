@@ -1,0 +1,176 @@
+-- Laws of the calls: which keys are exact, and what stands in for the refusals of a text.
+-- Assumes nothing.
+use mathlib.Core.Path.{_≡_, refl, sym, ap, _∙_}
+use mathlib.Core.Bool.{Bool, true, false, cond}
+use mathlib.Core.List.{List}
+use Prim.Native.Nat.{ℕ, _≤_, _<_}
+use native.Mathlib.Omega.{arith}
+use lib.Dec.{leb}
+use lib.ListN.{length, take, drop}
+use lib.Seq.{take-at}
+use Rattle.text.specs.PutLaws.{left-fits, length-left, put-zero}
+use borrow.Author.Tests.{le-leb, lt-leb, leb-true, eq-eqb, ne-eqb}
+use Rattle.text.specs.Part.{same}
+use Rattle.text.specs.PartLaws.{same-refl}
+use Rattle.text.specs.Put.{Wanted, text}
+use Rattle.text.specs.Put as put
+use Rattle.path.specs.declared.Path.{Path}
+use Rattle.path.specs.declared.Refusal.{Refusal}
+use Rattle.path.specs.declared.Refusal.the-variants.{TooLong, NotAscii, NotAPath}
+use Rattle.path.specs.declared.Reading.{Reading}
+use Rattle.path.specs.declared.Reading.the-variants.{Read, Refused}
+use Rattle.path.specs.BackLaws.{read-exact, exact-renders}
+use Rattle.path.specs.Read.{keyOf, keyBy, readPath, renderPath, refusalOf}
+use Rattle.keys.specs.Act.{Meaning, refuses, writes, removes, looks}
+use Rattle.text.specs.declared.Written.{Written}
+use Rattle.keys.specs.Calls.{Asked, to-write, to-remove, to-look, write, remove, look, under, meaning, Exact, keyed, keyAnswer}
+
+-- ---- exact keys, by the mark of a reading
+key-read : (t : List ℕ) (p : Path) (e : Bool) → readPath t ≡ Read p e → keyOf t ≡ text (renderPath t p)
+unfolding keyOf
+key-read t p e h = ap (keyBy t) h
+
+key-refused : (t : List ℕ) (r : Refusal) → readPath t ≡ Refused r → keyOf t ≡ put.refused (refusalOf r)
+unfolding keyOf
+key-refused t r h = ap (keyBy t) h
+
+pub exact-yes : (t : List ℕ) (p : Path) → readPath t ≡ Read p true → Exact t
+exact-yes t p h = key-read t p true h ∙ ap text (exact-renders t p h)
+
+pub exact-no : (t : List ℕ) (p : Path) → readPath t ≡ Read p false → Exact t → ⊥
+exact-no t p h x =
+    let e : renderPath t p ≡ t = let q = key-read t p false h in cc in
+    let m : false ≡ same t t = read-exact t p false h ∙ ap (same t) e in
+    let z : _≡_ {A = ℕ} 0 1 = cc (same-refl t) in
+    omega arith
+
+pub exact-refused : (t : List ℕ) (r : Refusal) → readPath t ≡ Refused r → Exact t → ⊥
+exact-refused t r h x =
+    let q = key-refused t r h in
+    let z : _≡_ {A = ℕ} 0 1 = cc in
+    omega arith
+
+-- ---- the refusals of a text are 1, 2 and 3
+pub record Low (n : ℕ) : Type 0 where
+  pub least : 1 ≤ n
+  pub most : n ≤ 3
+
+low : (r : Refusal) → Low (refusalOf r)
+low TooLong = record { least = omega arith; most = omega arith }
+low NotAscii = record { least = omega arith; most = omega arith }
+low NotAPath = record { least = omega arith; most = omega arith }
+
+pub key-low : (t : List ℕ) (n : ℕ) → keyOf t ≡ put.refused n → Low n
+key-low t n h = go (readPath t) refl
+  where
+    go : (r : Reading) → readPath t ≡ r → Low n
+    go (Read p e) q = let w = key-read t p e q in let z : _≡_ {A = ℕ} 0 1 = cc in absurd (let y : ⊥ = omega arith in y)
+    go (Refused r) q = let w = key-refused t r q in let e : refusalOf r ≡ n = cc in rw e at (low r)
+
+-- ---- what a call means, by its key
+pub keyed-refused : (n : ℕ) (f : List ℕ → Meaning) → keyed (put.refused n) f ≡ refuses n
+unfolding keyed
+keyed-refused n f = refl
+
+pub keyed-long : (k : List ℕ) (f : List ℕ → Meaning) → 255 < length k → keyed (text k) f ≡ refuses 10
+unfolding keyed
+keyed-long k f h = rw (lt-leb (length k) 255 h)
+
+pub keyed-fits : (k : List ℕ) (f : List ℕ → Meaning) → length k ≤ 255 → keyed (text k) f ≡ f k
+unfolding keyed
+keyed-fits k f h = rw (le-leb (length k) 255 h)
+
+-- ---- a key's field, by the writer of keys: its 4 is 10
+pub answer-long : (t : List ℕ) → put.answer (keyOf t) 255 .refusal ≡ 4 → keyAnswer (keyOf t) ≡ put.refusal 10
+unfolding put.answer keyAnswer
+answer-long t h = go (keyOf t) refl h
+  where
+    go : (w : Wanted) → keyOf t ≡ w → put.answer w 255 .refusal ≡ 4 → keyAnswer w ≡ put.refusal 10
+    go (put.refused n) e q = absurd (let l = key-low t n e in let z : ⊥ = omega arith in z)
+    go (text k) e q = fits (leb (length k) 255) q
+      where
+        fits : (v : Bool) → (cond v (put.done (length k)) (put.refusal 4)) .refusal ≡ 4 → cond v (put.done (length k)) (put.refusal 10) ≡ put.refusal 10
+        fits true z = absurd (let y : ⊥ = omega arith in y)
+        fits false z = refl
+
+pub answer-other : (t : List ℕ) → (put.answer (keyOf t) 255 .refusal ≡ 4 → ⊥) → keyAnswer (keyOf t) ≡ put.answer (keyOf t) 255
+unfolding put.answer keyAnswer
+answer-other t h = go (keyOf t) h
+  where
+    go : (w : Wanted) → (put.answer w 255 .refusal ≡ 4 → ⊥) → keyAnswer w ≡ put.answer w 255
+    go (put.refused n) q = refl
+    go (text k) q = fits (leb (length k) 255) q
+      where
+        fits : (v : Bool) → ((cond v (put.done (length k)) (put.refusal 4)) .refusal ≡ 4 → ⊥) → cond v (put.done (length k)) (put.refusal 10) ≡ cond v (put.done (length k)) (put.refusal 4)
+        fits true z = refl
+        fits false z = absurd (z refl)
+
+-- a refusal of the field is the call's
+pub keyed-by : (w : Wanted) (f : List ℕ → Meaning) → (keyAnswer w .refusal ≡ 0 → ⊥) → keyed w f ≡ refuses (keyAnswer w .refusal)
+unfolding keyed keyAnswer
+keyed-by (put.refused n) f h = refl
+keyed-by (text k) f h = fits (leb (length k) 255) h
+  where
+    fits : (v : Bool) → ((cond v (put.done (length k)) (put.refusal 10)) .refusal ≡ 0 → ⊥) → cond v (f k) (refuses 10) ≡ refuses ((cond v (put.done (length k)) (put.refusal 10)) .refusal)
+    fits true z = absurd (z refl)
+    fits false z = refl
+
+-- and else the key is in the field
+pub record Keyed (t field : List ℕ) (n : ℕ) : Type 0 where
+  pub key : List ℕ
+  pub reads : keyOf t ≡ text key
+  pub short : length key ≤ 255
+  pub size : n ≡ length key
+  pub room : n ≤ length field
+  pub here : take n field ≡ key
+
+pub key-here : (t field blank : List ℕ) (n : ℕ) → length blank ≡ 255 → keyAnswer (keyOf t) .refusal ≡ 0 → n ≡ keyAnswer (keyOf t) .length → field ≡ put.left (keyOf t) blank → Keyed t field n
+unfolding keyAnswer
+key-here t field blank n lb h en ef = go (keyOf t) refl h en ef
+  where
+    go : (w : Wanted) → keyOf t ≡ w → keyAnswer w .refusal ≡ 0 → n ≡ keyAnswer w .length → field ≡ put.left w blank → Keyed t field n
+    go (put.refused m) e z l f = absurd (let q = key-low t m e in let y : ⊥ = omega arith in y)
+    go (text k) e z l f = fits (leb (length k) 255) refl z l
+      where
+        fits : (v : Bool) → leb (length k) 255 ≡ v → (cond v (put.done (length k)) (put.refusal 10)) .refusal ≡ 0 → n ≡ (cond v (put.done (length k)) (put.refusal 10)) .length → Keyed t field n
+        fits true g z l =
+            let s : length k ≤ 255 = leb-true (length k) 255 g in
+            record {
+              key = k;
+              reads = e;
+              short = s;
+              size = l;
+              room = omega (arith, ap length f, length-left (text k) blank);
+              here = ap (take n) (f ∙ left-fits k blank (omega arith) ∙ put-zero blank k) ∙ take-at k (drop (length k) blank) n (sym l);
+            }
+        fits false g z l = absurd (let y : ⊥ = omega arith in y)
+
+-- what a call with a key means
+module _ (t field : List ℕ) (n : ℕ) (k : Keyed t field n) where
+  known : (q : Asked) → meaning (record { text = t; asked = q }) ≡ under q (k .key)
+  unfolding meaning
+  known q = ap (λ (w : Wanted). keyed w (under q)) (k .reads) ∙ keyed-fits (k .key) (under q) (k .short)
+
+  pub look-means : (room : ℕ) → 32 ≤ room → meaning (look t room) ≡ looks (k .key)
+  look-means room h = known (to-look room) ∙ rw (le-leb 32 room h)
+
+  pub look-short : (room : ℕ) → room < 32 → meaning (look t room) ≡ refuses 4
+  look-short room h = known (to-look room) ∙ rw (lt-leb 32 room h)
+
+  pub write-means : (v : List ℕ) → length v ≡ 32 → meaning (write t v) ≡ writes (k .key) v
+  write-means v h = known (to-write v) ∙ rw (eq-eqb (length v) 32 h)
+
+  pub write-bad : (v : List ℕ) → (length v ≡ 32 → ⊥) → meaning (write t v) ≡ refuses 6
+  write-bad v h = known (to-write v) ∙ rw (ne-eqb (length v) 32 h)
+
+  pub remove-means : meaning (remove t) ≡ removes (k .key)
+  remove-means = known to-remove
+
+-- the same, from what the writer of the field answers
+module _ (t : List ℕ) (w : Written) (e : w ≡ keyAnswer (keyOf t)) where
+  pub refused-by : (q : Asked) → (w .refusal ≡ 0 → ⊥) → meaning (record { text = t; asked = q }) ≡ refuses (w .refusal)
+  unfolding meaning
+  refused-by q h = rw e (keyed-by (keyOf t) (under q) (λ z. h (ap (λ (v : Written). v .refusal) e ∙ z)))
+
+  pub key-of : (field blank : List ℕ) → length blank ≡ 255 → w .refusal ≡ 0 → field ≡ put.left (keyOf t) blank → Keyed t field (w .length)
+  key-of field blank lb h f = key-here t field blank (w .length) lb (sym (ap (λ (v : Written). v .refusal) e) ∙ h) (ap (λ (v : Written). v .length) e) f
