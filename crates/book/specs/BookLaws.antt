@@ -1,78 +1,82 @@
 -- Laws of books: the bytes tell the records, and what stands where.
 -- Assumes nothing.
 use mathlib.Core.Path.{_≡_, refl, sym, ap, _∙_}
-use mathlib.Core.List.{List, _∷_, _++_, append-assoc}
+use mathlib.Core.List.{List, [], _∷_, _++_}
 use mathlib.Core.Option.{some}
-use Prim.Native.Nat.{ℕ, zero, suc, _+_, _*_, _-_, _≤_}
+use Prim.Native.Nat.{ℕ, zero, suc, _+_, _*_, _-_, _<_, _≤_}
 use native.Mathlib.Omega.{arith}
-use lib.ListN.{length, take, drop, getD, getElem?, take-append-drop}
-use lib.Seq.{getD-at, drop-append-add, take-at, length-take-le}
-use Rattle.text.specs.PlaceLaws.{at-lt}
-use Rattle.text.specs.PlaceLaws.{drop-place}
+use lib.ListN.{length, take, drop, getElem?, take-append-drop}
+use lib.Seq.{drop-at, length-take-le}
+use Rattle.text.specs.PlaceLaws.{at-lt, drop-place}
 use Rattle.keys.specs.Act.{Rec}
-use Rattle.form.specs.Layout.{layout, slots, AllFit, layout-parted, length-before, length-layout, layout-inj, fit-take, zeros}
-use Rattle.form.specs.V1.{V1, slot, padded, header, countIn}
-use Rattle.form.specs.Search.{stored}
+use Rattle.form.specs.Form.{Form, AllFit, slots, layout, zeros, place, keyAt}
+use Rattle.form.specs.FormLaws.{Lawful, layout-parted, length-before, length-layout, layout-inj, fit-take, place-up, place-back}
 use Rattle.book.specs.declared.check.BookAnswer.{BookAnswer}
 use Rattle.book.specs.declared.check.BookAnswer.the-variants.{Count, Nothing}
-use Rattle.book.specs.Book.{Book, Judged}
-
--- the bytes tell the number of slots and the records
-pub one-book : (b : List ℕ) (x y : Book b) → (x .slots ≡ y .slots) × (x .records ≡ y .records)
-one-book b x y = (same, layout-inj V1 (x .slots) (x .records) (y .records) (x .fit) (y .fit) (sym (x .bytes) ∙ y .bytes ∙ rw same))
-  where
-    same : x .slots ≡ y .slots
-    same =
-        let e = ap length (sym (x .bytes) ∙ y .bytes) in
-        omega (arith, e, length-layout V1 (x .slots) (x .records) (x .fit) (x .few), length-layout V1 (y .slots) (y .records) (y .fit) (y .few))
-
--- a check has one answer
-pub one-judged : (b : List ℕ) (r q : BookAnswer) → Judged b r → Judged b q → r ≡ q
-one-judged b (Count m) (Count n) x y = ap Count (sym (x .1) ∙ ap length (one-book b (x .0) (y .0) .1) ∙ y .1)
-one-judged b (Count m) Nothing x y = absurd (y (x .0))
-one-judged b Nothing (Count n) x y = absurd (x (y .0))
-one-judged b Nothing Nothing x y = refl
-
--- the key in a slot of a book
-stored-parts : (pre k v tail : List ℕ) (at : ℕ) → length pre ≡ at → stored (pre ++ (slot (k, v) ++ tail)) at ≡ k
-unfolding stored slot padded
-stored-parts pre k v tail at e =
-    let x : List ℕ = ((k ++ zeros (255 - length k)) ++ v) ++ tail in
-    let n : getD (pre ++ (length k ∷ x)) at 0 ≡ length k = getD-at pre (length k) x 0 at e in
-    let d : drop (at + 1) (pre ++ (length k ∷ x)) ≡ x = ap (λ (m : ℕ). drop (m + 1) (pre ++ (length k ∷ x))) (sym e) ∙ drop-append-add pre (length k ∷ x) 1 in
-    let r : x ≡ k ++ (zeros (255 - length k) ++ (v ++ tail)) = simp append-assoc in
-    ap (λ (m : ℕ). take m (drop (at + 1) (pre ++ (length k ∷ x)))) n
-    ∙ ap (λ (l : List ℕ). take (length k) l) (d ∙ r)
-    ∙ take-at k (zeros (255 - length k) ++ (v ++ tail)) (length k) refl
-
-stored-at : (C : ℕ) (a : List Rec) (r : Rec) (b : List Rec) → AllFit V1 a → stored (layout V1 C (a ++ r ∷ b)) (8 + 288 * length a) ≡ r .0
-stored-at C a r b ha =
-    ap (λ (l : List ℕ). stored l (8 + 288 * length a)) (layout-parted V1 C a r b)
-    ∙ stored-parts (header (length (a ++ r ∷ b)) ++ slots V1 a) (r .0) (r .1) _ (8 + 288 * length a) (length-before V1 (length (a ++ r ∷ b)) a ha)
+use Rattle.book.specs.Book.{Book, Counts, Judged}
 
 pub parted : (s : List Rec) (j : ℕ) (r : Rec) → getElem? s j ≡ some r → s ≡ take j s ++ r ∷ drop (suc j) s
 parted s j r e = sym (take-append-drop j s) ∙ ap (λ (l : List Rec). take j s ++ l) (drop-place s j r e)
 
-pub stored-is : (b : List ℕ) (x : Book b) (j : ℕ) (r : Rec) → getElem? (x .records) j ≡ some r → stored b (8 + 288 * j) ≡ r .0
-stored-is b x j r e =
-    let s = x .records in
-    let l : length (take j s) ≡ j = length-take-le j s (omega (arith, at-lt s j r e)) in
-    let p : b ≡ layout V1 (x .slots) (take j s ++ r ∷ drop (suc j) s) = x .bytes ∙ ap (layout V1 (x .slots)) (parted s j r e) in
-    ap (λ (c : List ℕ). stored c (8 + 288 * j)) p
-    ∙ ap (λ (n : ℕ). stored (layout V1 (x .slots) (take j s ++ r ∷ drop (suc j) s)) (8 + 288 * n)) (sym l)
-    ∙ stored-at (x .slots) (take j s) r (drop (suc j) s) (fit-take V1 j s (x .fit))
+module _ (F : Form) where
+  pub fit-at : (s : List Rec) (i : ℕ) (r : Rec) → AllFit F s → getElem? s i ≡ some r → F .Fit r
+  fit-at [] i r h e = absurd (let z : _≡_ {A = ℕ} 0 1 = cc in let y : ⊥ = omega arith in y)
+  fit-at (q ∷ s) zero r h e = let p : q ≡ r = cc in rw p at (h .0)
+  fit-at (q ∷ s) (suc i) r h e = fit-at s i r (h .1) e
 
-pub counted : (b : List ℕ) (x : Book b) → countIn b ≡ length (x .records)
-unfolding layout header
-counted b x = rw (x .bytes) (omega arith)
+module _ (F : Form) (L : Lawful F) where
+  pub size-is : (b : List ℕ) (x : Book F b) → length b ≡ place F (x .slots)
+  size-is b x = ap length (x .bytes) ∙ length-layout F L (x .slots) (x .extra) (x .records) (x .fit) (x .few)
 
--- the numbers of a book
-pub record Sizes (b : List ℕ) (x : Book b) : Type 0 where
-  pub bytes : length b ≡ 8 + 288 * x .slots
-  pub few : length (x .records) ≤ x .slots
-  pub least : 1 ≤ x .slots
-  pub most : x .slots ≤ 200
-  pub count : countIn b ≡ length (x .records)
+  -- the bytes tell the number of slots, what the header says, and the records
+  pub one-book : (b : List ℕ) (x y : Book F b) → (x .slots ≡ y .slots) × (x .extra ≡ y .extra) × (x .records ≡ y .records)
+  one-book b x y = (same, told .0, told .1)
+    where
+      same : x .slots ≡ y .slots
+      same =
+          let e : place F (x .slots) ≡ place F (y .slots) = sym (size-is b x) ∙ size-is b y in
+          omega (arith, place-back F L (x .slots) (y .slots) (omega arith), place-back F L (y .slots) (x .slots) (omega arith))
 
-pub sizes : (b : List ℕ) (x : Book b) → Sizes b x
-sizes b x = record { bytes = ap length (x .bytes) ∙ length-layout V1 (x .slots) (x .records) (x .fit) (x .few); few = x .few; least = x .least; most = x .most; count = counted b x }
+      told : (x .extra ≡ y .extra) × (x .records ≡ y .records)
+      told = layout-inj F L (x .slots) (x .extra) (y .extra) (x .records) (y .records) (x .fit) (y .fit) (sym (x .bytes) ∙ y .bytes ∙ rw same)
+
+  -- a check has one answer
+  pub one-judged : (b : List ℕ) (r q : BookAnswer) → Judged F b r → Judged F b q → r ≡ q
+  one-judged b (Count m) (Count n) x y = ap Count (sym (x .1) ∙ ap length (one-book b (x .0) (y .0) .2) ∙ y .1)
+  one-judged b (Count m) Nothing x y = absurd (y (x .0))
+  one-judged b Nothing (Count n) x y = absurd (x (y .0))
+  one-judged b Nothing Nothing x y = refl
+
+  -- the numbers of a book with n records
+  pub record Sizes (b : List ℕ) (n : ℕ) (x : Book F b) : Type 0 where
+    pub bytes : length b ≡ place F (x .slots)
+    pub few : n ≤ x .slots
+    pub most : n ≤ 200
+    pub used : place F n ≤ length b
+
+  pub sizes : (b : List ℕ) (n : ℕ) (h : Counts F b n) → Sizes b n (h .0)
+  sizes b n h =
+      let x = h .0 in
+      let f : n ≤ x .slots = omega (arith, x .few, h .1) in
+      record { bytes = size-is b x; few = f; most = omega (arith, x .most); used = omega (arith, size-is b x, place-up F L n (x .slots) f) }
+
+  -- a slot of a book, and the record in it
+  pub slot-there : (b : List ℕ) (x : Book F b) (i : ℕ) (r : Rec) → getElem? (x .records) i ≡ some r → (tail : List ℕ) × (drop (place F i) b ≡ F .slot r ++ tail)
+  slot-there b x i r e =
+      let s = x .records in
+      let a : List Rec = take i s in
+      let d : List Rec = drop (suc i) s in
+      let la : length a ≡ i = length-take-le i s (omega (arith, at-lt s i r e)) in
+      let n : ℕ = length (a ++ r ∷ d) in
+      let tail : List ℕ = slots F d ++ zeros (F .width * (x .slots - n)) in
+      let pre : List ℕ = F .header (x .extra) n ++ slots F a in
+      let lp : length pre ≡ place F i = length-before F L (x .extra) n a (fit-take F L i s (x .fit)) ∙ ap (place F) la in
+      (tail, ap (λ (l : List ℕ). drop (place F i) l) (x .bytes ∙ ap (layout F (x .slots) (x .extra)) (parted s i r e) ∙ layout-parted F L (x .slots) (x .extra) a r d) ∙ drop-at pre (F .slot r ++ tail) (place F i) lp)
+
+  pub record-is : (b : List ℕ) (x : Book F b) (i : ℕ) (r : Rec) → getElem? (x .records) i ≡ some r → F .recordOf (drop (place F i) b) ≡ r
+  record-is b x i r e =
+      let t = slot-there b x i r e in
+      ap (F .recordOf) (t .1) ∙ L .record-of-slot r (t .0) (fit-at F (x .records) i r (x .fit) e)
+
+  pub key-is : (b : List ℕ) (x : Book F b) (i : ℕ) (r : Rec) → getElem? (x .records) i ≡ some r → keyAt F b i ≡ r .0
+  key-is b x i r e = ap (λ (q : Rec). q .0) (record-is b x i r e)

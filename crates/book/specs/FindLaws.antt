@@ -7,38 +7,25 @@ use Prim.Native.Nat.{ℕ, zero, suc, _+_, _*_, _-_, _<_, _≤_, Ordering, Orderi
 use native.Mathlib.Decide.{decLt}
 use native.Mathlib.Omega.{arith}
 use lib.ListN.{length, take, drop, getElem?, length-append, take-append-drop, drop-of-length-le}
-use lib.Seq.{length-take-le, drop-drop}
+use lib.Seq.{length-take-le}
 use Rattle.text.specs.Order.{cmp, Before}
-use Rattle.text.specs.Put.{put}
-use Rattle.text.specs.PlaceLaws.{at-some}
-use Rattle.keys.specs.Records.{get, del, After}
 use Rattle.text.specs.OrderLaws.{cmp-flip, flip-gt, before-trans, Keys, key-lt, key-eq, key-gt, keys}
+use Rattle.text.specs.PlaceLaws.{at-some, drop-place}
+use Rattle.text.specs.Put.{put}
+use Rattle.keys.specs.Records.{get, del, After}
 use Rattle.keys.specs.Records as records
 use Rattle.keys.specs.SplitLaws.{AllBefore, put-between, put-over, get-between, get-over, del-over, sorted-at, sorted-drop, after-head, before-take}
-use Rattle.text.specs.PlaceLaws.{drop-place}
 use Rattle.keys.specs.Act.{Meaning, refuses, writes, removes, looks, says, done, gives, Rec}
-use Rattle.form.specs.Layout.{layout, AllFit, inserted, removed, layout-inserted, layout-replaced, layout-removed, fit-take, fit-drop}
-use Rattle.form.specs.V1.{V1, slot}
-use Rattle.form.specs.Search.{stored, code}
-use Rattle.form.specs.Slots.{recordOf, record-of-slot}
+use Rattle.form.specs.Form.{Form, AllFit, layout, place, keyAt, inserted, removed}
+use Rattle.form.specs.FormLaws.{Lawful, layout-inserted, layout-replaced, layout-removed, fit-take, fit-drop}
+use Rattle.form.specs.Search.{code}
 use Rattle.book.specs.Book.{Book, Counts}
-use Rattle.book.specs.BookLaws.{stored-is, parted, sizes}
-use Rattle.book.specs.CheckLaws.{slot-there}
+use Rattle.book.specs.BookLaws.{parted, sizes, record-is, key-is}
+use Rattle.book.specs.Find.{Placed, Spotted}
 use Rattle.book.specs.Outcome.{Changed, Found}
 use Rattle.book.specs.WayLaws.{way-refused, way-replaced, way-added, way-full, way-removed, way-absent, way-found, way-not-found}
 use Rattle.book.specs.declared.find.Spot.{Spot}
 use Rattle.book.specs.declared.find.Spot.the-variants.{Taken, Free}
-
--- the place of a key among the first n slots
-pub record Placed (b k : List ℕ) (n p : ℕ) : Type 0 where
-  pub within : p ≤ n
-  pub before : (j : ℕ) → j < p → cmp k (stored b (8 + 288 * j)) ≡ Ordering·gt
-  pub next : p < n → cmp k (stored b (8 + 288 * p)) ≡ Ordering·gt → ⊥
-
--- the slot that holds the key, or the one that it would have
-abbrev pub Spotted : List ℕ → List ℕ → ℕ → Spot → Type 0
-Spotted b k n (Taken p) = Placed b k n p × (p < n) × (cmp k (stored b (8 + 288 * p)) ≡ Ordering·eq)
-Spotted b k n (Free p) = Placed b k n p × (p < n → cmp k (stored b (8 + 288 * p)) ≡ Ordering·eq → ⊥)
 
 -- what a comparison's number says
 pub code-gt : (o : Ordering) (r : ℕ) → r ≡ code o → r ≡ 2 → o ≡ Ordering·gt
@@ -59,56 +46,53 @@ gt-trans : (k a b : List ℕ) → Before a b → cmp k b ≡ Ordering·gt → cm
 gt-trans k a b p h = cmp-flip a k ∙ rw (before-trans a b k p (flip-gt k b h))
 
 -- the search: what comes before the place is below the key, what comes from hi on is not
-pub record Narrowed (b k : List ℕ) (n lo hi : ℕ) : Type 0 where
+pub record Narrowed (F : Form) (b k : List ℕ) (n lo hi : ℕ) : Type 0 where
   pub order : lo ≤ hi
   pub within : hi ≤ n
-  pub size : 8 + 288 * n ≤ length b
-  pub below : (j : ℕ) → j < lo → cmp k (stored b (8 + 288 * j)) ≡ Ordering·gt
-  pub rest : (j : ℕ) → hi ≤ j → j < n → cmp k (stored b (8 + 288 * j)) ≡ Ordering·gt → ⊥
+  pub size : place F n ≤ length b
+  pub below : (j : ℕ) → j < lo → cmp k (keyAt F b j) ≡ Ordering·gt
+  pub rest : (j : ℕ) → hi ≤ j → j < n → cmp k (keyAt F b j) ≡ Ordering·gt → ⊥
 
-module _ (b k : List ℕ) (n : ℕ) (hold : Counts b n) where
-  pub above-down : (i j : ℕ) → j ≤ i → i < n → cmp k (stored b (8 + 288 * i)) ≡ Ordering·gt → cmp k (stored b (8 + 288 * j)) ≡ Ordering·gt
+module _ (F : Form) (L : Lawful F) (b k : List ℕ) (n : ℕ) (hold : Counts F b n) where
+  pub above-down : (i j : ℕ) → j ≤ i → i < n → cmp k (keyAt F b i) ≡ Ordering·gt → cmp k (keyAt F b j) ≡ Ordering·gt
   above-down i j l h e = go (decLt j i)
     where
-      x : Book b
+      x : Book F b
       x = hold .0
 
-      go : Dec (j < i) → cmp k (stored b (8 + 288 * j)) ≡ Ordering·gt
+      go : Dec (j < i) → cmp k (keyAt F b j) ≡ Ordering·gt
       go (no q) = let s : j ≡ i = omega arith in rw s e
       go (yes q) =
           let r = at-some (x .records) j (omega (arith, hold .1)) in
           let t = at-some (x .records) i (omega (arith, hold .1)) in
-          let er : stored b (8 + 288 * j) ≡ r .0 .0 = stored-is b x j (r .0) (r .1) in
-          let et : stored b (8 + 288 * i) ≡ t .0 .0 = stored-is b x i (t .0) (t .1) in
+          let er : keyAt F b j ≡ r .0 .0 = key-is F L b x j (r .0) (r .1) in
+          let et : keyAt F b i ≡ t .0 .0 = key-is F L b x i (t .0) (t .1) in
           rw er (gt-trans k (r .0 .0) (t .0 .0) (sorted-at (x .records) j i (r .0) (t .0) (x .sorted) q (r .1) (t .1)) (rw et at e))
 
-  pub holds-size : 8 + 288 * n ≤ length b
-  holds-size = let z = sizes b (hold .0) in omega (arith, z .bytes, z .few, hold .1)
-
-  pub narrow-start : Narrowed b k n 0 n
+  pub narrow-start : Narrowed F b k n 0 n
   narrow-start =
-      record { order = omega arith; within = omega arith; size = holds-size; below = λ j h. absurd (let z : ⊥ = omega arith in z); rest = λ j h l. absurd (let z : ⊥ = omega arith in z) }
+      record { order = omega arith; within = omega arith; size = sizes F L b n hold .used; below = λ j h. absurd (let z : ⊥ = omega arith in z); rest = λ j h l. absurd (let z : ⊥ = omega arith in z) }
 
-  module _ (lo hi mid r : ℕ) (g : Narrowed b k n lo hi) (lm : lo ≤ mid) (mh : mid < hi) (e : r ≡ code (cmp k (stored b (8 + 288 * mid)))) where
-    pub narrow-up : r ≡ 2 → Narrowed b k n (mid + 1) hi
+  module _ (lo hi mid r : ℕ) (g : Narrowed F b k n lo hi) (lm : lo ≤ mid) (mh : mid < hi) (e : r ≡ code (cmp k (keyAt F b mid))) where
+    pub narrow-up : r ≡ 2 → Narrowed F b k n (mid + 1) hi
     narrow-up h =
         record { order = omega arith; within = g .within; size = g .size; below = λ j l. above-down mid j (omega arith) (omega (arith, g .within)) (code-gt _ r e h); rest = g .rest }
 
-    pub narrow-down : (r ≡ 2 → ⊥) → Narrowed b k n lo mid
+    pub narrow-down : (r ≡ 2 → ⊥) → Narrowed F b k n lo mid
     narrow-down h =
         record {
           order = lm;
           within = omega (arith, g .within);
           size = g .size;
           below = g .below;
-          rest = λ j l m q. code-not (cmp k (stored b (8 + 288 * mid))) Ordering·gt r 2 e refl h (above-down j mid l m q);
+          rest = λ j l m q. code-not (cmp k (keyAt F b mid)) Ordering·gt r 2 e refl h (above-down j mid l m q);
         }
 
-  pub narrow-end : (lo hi : ℕ) → Narrowed b k n lo hi → hi ≤ lo → Placed b k n lo
+  pub narrow-end : (lo hi : ℕ) → Narrowed F b k n lo hi → hi ≤ lo → Placed F b k n lo
   narrow-end lo hi g l = record { within = omega (arith, g .order, g .within); before = g .below; next = λ h. g .rest lo l h }
 
 -- the key at its place
-module _ (b k : List ℕ) (x : Book b) (p : ℕ) (pl : Placed b k (length (x .records)) p) where
+module _ (F : Form) (L : Lawful F) (b k : List ℕ) (x : Book F b) (p : ℕ) (pl : Placed F b k (length (x .records)) p) where
   abbrev s : List Rec
   s = x .records
 
@@ -116,13 +100,13 @@ module _ (b k : List ℕ) (x : Book b) (p : ℕ) (pl : Placed b k (length (x .re
   lp = length-take-le p s (pl .within)
 
   befores : AllBefore k (take p s)
-  befores = before-take s p k (pl .within) (λ j r h e. rw (stored-is b x j r e) at (pl .before j h))
+  befores = before-take s p k (pl .within) (λ j r h e. rw (key-is F L b x j r e) at (pl .before j h))
 
   whole : take p s ++ drop p s ≡ s
   whole = take-append-drop p s
 
   -- the key stands there
-  module _ (h : p < length s) (e : cmp k (stored b (8 + 288 * p)) ≡ Ordering·eq) where
+  module _ (h : p < length s) (e : cmp k (keyAt F b p) ≡ Ordering·eq) where
     abbrev y : Rec
     y = at-some s p h .0
 
@@ -130,7 +114,7 @@ module _ (b k : List ℕ) (x : Book b) (p : ℕ) (pl : Placed b k (length (x .re
     ey = at-some s p h .1
 
     e₁ : cmp k (y .0) ≡ Ordering·eq
-    e₁ = rw (stored-is b x p y ey) at e
+    e₁ = rw (key-is F L b x p y ey) at e
 
     es : s ≡ take p s ++ y ∷ drop (suc p) s
     es = parted s p y ey
@@ -138,45 +122,40 @@ module _ (b k : List ℕ) (x : Book b) (p : ℕ) (pl : Placed b k (length (x .re
     held : get s k ≡ some (y .1)
     held = ap (λ (l : List Rec). get l k) es ∙ get-over (take p s) y (drop (suc p) s) k befores e₁
 
-    fy : AllFit V1 (y ∷ drop (suc p) s)
-    fy = rw (drop-place s p y ey) at (fit-drop V1 p s (x .fit))
+    fy : AllFit F (y ∷ drop (suc p) s)
+    fy = rw (drop-place s p y ey) at (fit-drop F L p s (x .fit))
 
-    value-there : take 32 (drop (8 + 288 * p + 256) b) ≡ y .1
-    unfolding recordOf
-    value-there =
-        let t = slot-there b x p y ey in
-        let r : recordOf (drop (8 + 288 * p) b) ≡ y = ap recordOf (t .1) ∙ record-of-slot y (t .0) (fy .0) in
-        ap (λ (l : List ℕ). take 32 l) (sym (drop-drop 256 (8 + 288 * p) b)) ∙ ap (λ (q : Rec). q .1) r
+    pub looked-found : (out out₁ v : List ℕ) → v ≡ F .recordOf (drop (place F p) b) .1 → out₁ ≡ put out 0 v → Found F b (looks k) out 0 out₁
+    looked-found out out₁ v ev w =
+        let there : F .recordOf (drop (place F p) b) .1 ≡ y .1 = ap (λ (q : Rec). q .1) (record-is F L b x p y ey) in
+        record { answer = gives (y .1); outcome = way-found x k (y .1) held; number = refl; value = w ∙ ap (put out 0) (ev ∙ there) }
 
-    pub looked-found : (out out₁ v : List ℕ) → v ≡ take 32 (drop (8 + 288 * p + 256) b) → out₁ ≡ put out 0 v → Found b (looks k) out 0 out₁
-    looked-found out out₁ v ev w = record { answer = gives (y .1); outcome = way-found x k (y .1) held; number = refl; value = w ∙ ap (put out 0) (ev ∙ value-there) }
-
-    pub write-replaced : (v b₁ : List ℕ) → length k ≤ 255 → length v ≡ 32 → b₁ ≡ put b (8 + 288 * p) (slot (k, v)) → Changed b (writes k v) 0 b₁
-    write-replaced v b₁ hk hv w =
+    pub write-replaced : (v b₁ : List ℕ) → F .Fit (k, v) → b₁ ≡ put b (place F p) (F .slot (k, v)) → Changed F b (writes k v) 0 b₁
+    write-replaced v b₁ hf w =
         let C = x .slots in
         let u : records.put s k v ≡ take p s ++ (k, v) ∷ drop (suc p) s = ap (λ (l : List Rec). records.put l k v) es ∙ put-over (take p s) y (drop (suc p) s) k v befores e₁ in
-        let bs : b ≡ layout V1 C (take p s ++ y ∷ drop (suc p) s) = x .bytes ∙ ap (layout V1 C) es in
-        let e₂ : b₁ ≡ layout V1 C (records.put s k v) =
+        let bs : b ≡ layout F C (x .extra) (take p s ++ y ∷ drop (suc p) s) = x .bytes ∙ ap (layout F C (x .extra)) es in
+        let e₂ : b₁ ≡ layout F C (x .extra) (records.put s k v) =
         w
-        ∙ ap (λ (l : List ℕ). put l (8 + 288 * p) (slot (k, v))) bs
-        ∙ ap (λ (n : ℕ). put (layout V1 C (take p s ++ y ∷ drop (suc p) s)) (8 + 288 * n) (slot (k, v))) (sym lp)
-        ∙ layout-replaced V1 C (take p s) y (k, v) (drop (suc p) s) (fit-take V1 p s (x .fit)) (fy .0) (hk, hv)
-        ∙ sym (ap (layout V1 C) u) in
+        ∙ ap (λ (l : List ℕ). put l (place F p) (F .slot (k, v))) bs
+        ∙ ap (λ (n : ℕ). put (layout F C (x .extra) (take p s ++ y ∷ drop (suc p) s)) (place F n) (F .slot (k, v))) (sym lp)
+        ∙ layout-replaced F L C (x .extra) (take p s) y (k, v) (drop (suc p) s) (fit-take F L p s (x .fit)) (fy .0) hf
+        ∙ sym (ap (layout F C (x .extra)) u) in
         record { answer = done; outcome = way-replaced x k v (y .1) b₁ held e₂; number = refl }
 
-    pub remove-done : (m : ℕ) (b₁ : List ℕ) → suc m ≡ length s → b₁ ≡ removed V1 p m b → Changed b (removes k) 0 b₁
+    pub remove-done : (m : ℕ) (b₁ : List ℕ) → suc m ≡ length s → b₁ ≡ removed F (x .extra) p m b → Changed F b (removes k) 0 b₁
     remove-done m b₁ em w =
         let C = x .slots in
         let d : List Rec = drop (suc p) s in
         let u : del s k ≡ take p s ++ d = ap (λ (l : List Rec). del l k) es ∙ del-over (take p s) y d k befores e₁ in
-        let bs : b ≡ layout V1 C (take p s ++ y ∷ d) = x .bytes ∙ ap (layout V1 C) es in
+        let bs : b ≡ layout F C (x .extra) (take p s ++ y ∷ d) = x .bytes ∙ ap (layout F C (x .extra)) es in
         let lm : length (take p s ++ d) ≡ m = omega (arith, ap length es, length-append (take p s) (y ∷ d), length-append (take p s) d) in
-        let i : removed V1 p m (layout V1 C (take p s ++ y ∷ d)) ≡ layout V1 C (take p s ++ d) =
-        rw (lp, lm) at (layout-removed V1 C (take p s) y d (fit-take V1 p s (x .fit)) (fy .0) (fy .1) (omega (arith, lm, x .few))) in
-        record { answer = done; outcome = way-removed x k (y .1) b₁ held (w ∙ ap (removed V1 p m) bs ∙ i ∙ sym (ap (layout V1 C) u)); number = refl }
+        let i : removed F (x .extra) p m (layout F C (x .extra) (take p s ++ y ∷ d)) ≡ layout F C (x .extra) (take p s ++ d) =
+        rw (lp, lm) at (layout-removed F L C (x .extra) (take p s) y d (fit-take F L p s (x .fit)) (fy .0) (fy .1) (omega (arith, lm, x .few))) in
+        record { answer = done; outcome = way-removed x k (y .1) b₁ held (w ∙ ap (removed F (x .extra) p m) bs ∙ i ∙ sym (ap (layout F C (x .extra)) u)); number = refl }
 
   -- the key stands nowhere
-  module _ (n : p < length s → cmp k (stored b (8 + 288 * p)) ≡ Ordering·eq → ⊥) where
+  module _ (n : p < length s → cmp k (keyAt F b p) ≡ Ordering·eq → ⊥) where
     later : After k (drop p s)
     later = go (decLt p (length s))
       where
@@ -190,8 +169,8 @@ module _ (b k : List ℕ) (x : Book b) (p : ℕ) (pl : Placed b k (length (x .re
             ez : getElem? s p ≡ some z
             ez = at-some s p h .1
 
-            there : stored b (8 + 288 * p) ≡ z .0
-            there = stored-is b x p z ez
+            there : keyAt F b p ≡ z .0
+            there = key-is F L b x p z ez
 
             order : Keys k (z .0) → After k (drop p s)
             order (key-lt e) = rw (drop-place s p z ez) (after-head k z (drop (suc p) s) (rw (drop-place s p z ez) at (sorted-drop s p (x .sorted))) e)
@@ -201,37 +180,37 @@ module _ (b k : List ℕ) (x : Book b) (p : ℕ) (pl : Placed b k (length (x .re
     lacks : get s k ≡ none
     lacks = ap (λ (l : List Rec). get l k) (sym whole) ∙ get-between (take p s) (drop p s) k befores later
 
-    pub looked-absent : (out : List ℕ) → Found b (looks k) out 12 out
+    pub looked-absent : (out : List ℕ) → Found F b (looks k) out 12 out
     looked-absent out = record { answer = says 12; outcome = way-not-found x k lacks; number = refl; value = refl }
 
-    pub remove-absent : Changed b (removes k) 12 b
+    pub remove-absent : Changed F b (removes k) 12 b
     remove-absent = record { answer = says 12; outcome = way-absent x k lacks; number = refl }
 
-    pub write-full : (v : List ℕ) → length s ≡ x .slots → Changed b (writes k v) 11 b
+    pub write-full : (v : List ℕ) → length s ≡ x .slots → Changed F b (writes k v) 11 b
     write-full v full = record { answer = says 11; outcome = way-full x k v lacks full; number = refl }
 
-    pub write-inserted : (v b₁ : List ℕ) → length k ≤ 255 → length v ≡ 32 → length s < x .slots → b₁ ≡ inserted V1 p (length s) b (k, v) → Changed b (writes k v) 0 b₁
-    write-inserted v b₁ hk hv room w =
+    pub write-inserted : (v b₁ : List ℕ) → F .Fit (k, v) → length s < x .slots → b₁ ≡ inserted F (x .extra) p (length s) b (k, v) → Changed F b (writes k v) 0 b₁
+    write-inserted v b₁ hf room w =
         let C = x .slots in
         let u : records.put s k v ≡ take p s ++ (k, v) ∷ drop p s = ap (λ (l : List Rec). records.put l k v) (sym whole) ∙ put-between (take p s) (drop p s) k v befores later in
-        let i : inserted V1 p (length s) (layout V1 C s) (k, v) ≡ layout V1 C (take p s ++ (k, v) ∷ drop p s) =
-        rw (whole, lp) at (layout-inserted V1 C (take p s) (drop p s) (k, v) (fit-take V1 p s (x .fit)) (fit-drop V1 p s (x .fit)) (hk, hv) (rw whole room)) in
-        let e : b₁ ≡ layout V1 C (records.put s k v) = w ∙ ap (λ (l : List ℕ). inserted V1 p (length s) l (k, v)) (x .bytes) ∙ i ∙ sym (ap (layout V1 C) u) in
+        let i : inserted F (x .extra) p (length s) (layout F C (x .extra) s) (k, v) ≡ layout F C (x .extra) (take p s ++ (k, v) ∷ drop p s) =
+        rw (whole, lp) at (layout-inserted F L C (x .extra) (take p s) (drop p s) (k, v) (fit-take F L p s (x .fit)) (fit-drop F L p s (x .fit)) hf (rw whole room)) in
+        let e : b₁ ≡ layout F C (x .extra) (records.put s k v) = w ∙ ap (λ (l : List ℕ). inserted F (x .extra) p (length s) l (k, v)) (x .bytes) ∙ i ∙ sym (ap (layout F C (x .extra)) u) in
         record { answer = done; outcome = way-added x k v b₁ lacks (λ q. omega arith) e; number = refl }
 
 -- refusals that the arguments decide
-pub looked-refused : (b : List ℕ) (n : ℕ) → Counts b n → (m : Meaning) (r : ℕ) → m ≡ refuses r → (out : List ℕ) → Found b m out r out
-looked-refused b n h m r e out = record { answer = says r; outcome = way-refused (h .0) m r e; number = refl; value = refl }
+pub looked-refused : (F : Form) (b : List ℕ) (n : ℕ) → Counts F b n → (m : Meaning) (r : ℕ) → m ≡ refuses r → (out : List ℕ) → Found F b m out r out
+looked-refused F b n h m r e out = record { answer = says r; outcome = way-refused (h .0) m r e; number = refl; value = refl }
 
-pub changed-refused : (b : List ℕ) (n : ℕ) → Counts b n → (m : Meaning) (r : ℕ) → m ≡ refuses r → Changed b m r b
-changed-refused b n h m r e = record { answer = says r; outcome = way-refused (h .0) m r e; number = refl }
+pub changed-refused : (F : Form) (b : List ℕ) (n : ℕ) → Counts F b n → (m : Meaning) (r : ℕ) → m ≡ refuses r → Changed F b m r b
+changed-refused F b n h m r e = record { answer = says r; outcome = way-refused (h .0) m r e; number = refl }
 
 -- the ways out of the search for a key
-pub free-end : (b k : List ℕ) (n p : ℕ) → Placed b k n p → p ≡ n → Spotted b k n (Free p)
-free-end b k n p pl e = (pl, λ h. absurd (let z : ⊥ = omega arith in z))
+pub free-end : (F : Form) (b k : List ℕ) (n p : ℕ) → Placed F b k n p → p ≡ n → Spotted F b k n (Free p)
+free-end F b k n p pl e = (pl, λ h. absurd (let z : ⊥ = omega arith in z))
 
-pub free-other : (b k : List ℕ) (n p r : ℕ) → Placed b k n p → r ≡ code (cmp k (stored b (8 + 288 * p))) → (r ≡ 1 → ⊥) → Spotted b k n (Free p)
-free-other b k n p r pl e h = (pl, λ l. code-not (cmp k (stored b (8 + 288 * p))) Ordering·eq r 1 e refl h)
+pub free-other : (F : Form) (b k : List ℕ) (n p r : ℕ) → Placed F b k n p → r ≡ code (cmp k (keyAt F b p)) → (r ≡ 1 → ⊥) → Spotted F b k n (Free p)
+free-other F b k n p r pl e h = (pl, λ l. code-not (cmp k (keyAt F b p)) Ordering·eq r 1 e refl h)
 
-pub taken-here : (b k : List ℕ) (n p r : ℕ) → Placed b k n p → (p ≡ n → ⊥) → r ≡ code (cmp k (stored b (8 + 288 * p))) → r ≡ 1 → Spotted b k n (Taken p)
-taken-here b k n p r pl ne e h = (pl, omega (arith, pl .within), code-eq _ r e h)
+pub taken-here : (F : Form) (b k : List ℕ) (n p r : ℕ) → Placed F b k n p → (p ≡ n → ⊥) → r ≡ code (cmp k (keyAt F b p)) → r ≡ 1 → Spotted F b k n (Taken p)
+taken-here F b k n p r pl ne e h = (pl, omega (arith, pl .within), code-eq _ r e h)

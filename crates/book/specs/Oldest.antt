@@ -17,6 +17,7 @@ use Rattle.keys.specs.Act.{Rec}
 use Rattle.book.specs.declared.oldest.StateAnswer.{StateAnswer}
 use Rattle.book.specs.declared.oldest.StateAnswer.the-variants.{State, Nothing}
 use Rattle.book.specs.declared.oldest.Pair.{Pair}
+use Rattle.form.specs.Form.{Form}
 use Rattle.book.specs.Book.{Book}
 
 -- what a key tells of the client: revision number and height, where it is of kind 5 and of this client
@@ -46,10 +47,10 @@ pairOf Nothing = pair 12 0 0
 unfoldable pub oldestIn : List ℕ → List Rec → Pair
 oldestIn client s = cond (eqb (checkOf check.client client) 0) (pairOf (firstState client s)) (pair (checkOf check.client client) 0 0)
 
-pub data Oldest (b client : List ℕ) (r : Pair) : Type 0 where
-  no-book : (Book b → ⊥) → r ≡ pair 9 0 0 → Oldest b client r
-  this-book : (x : Book b) → r ≡ oldestIn client (x .records) → Oldest b client r
+pub data Oldest (F : Form) (b client : List ℕ) (r : Pair) : Type 0 where
+  no-book : (Book F b → ⊥) → r ≡ pair 9 0 0 → Oldest F b client r
+  this-book : (x : Book F b) → r ≡ oldestIn client (x .records) → Oldest F b client r
 
 -- an answer is the first state of the client in the book b
-abbrev pub FirstIs : List ℕ → List ℕ → StateAnswer → Type 0
-FirstIs b client r = (x : Book b) → r ≡ firstState client (x .records)
+abbrev pub FirstIs : Form → List ℕ → List ℕ → StateAnswer → Type 0
+FirstIs F b client r = (x : Book F b) → r ≡ firstState client (x .records)

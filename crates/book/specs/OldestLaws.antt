@@ -23,12 +23,13 @@ use Rattle.path.specs.View.{kindOf, carriedOf, viewOf}
 use Rattle.path.specs.ViewLaws.{view-kind, view-one, view-a, view-b}
 use Rattle.text.specs.PlaceLaws.{at-some}
 use Rattle.text.specs.PlaceLaws.{drop-place}
-use Rattle.form.specs.Search.{stored}
+use Rattle.form.specs.Form.{Form, place, keyAt}
+use Rattle.form.specs.FormLaws.{Lawful}
 use Rattle.book.specs.declared.oldest.StateAnswer.{StateAnswer}
 use Rattle.book.specs.declared.oldest.StateAnswer.the-variants.{State, Nothing}
 use Rattle.book.specs.declared.oldest.Pair.{Pair}
 use Rattle.book.specs.Book.{Book, Counts}
-use Rattle.book.specs.BookLaws.{one-book, stored-is, sizes}
+use Rattle.book.specs.BookLaws.{one-book, key-is}
 use Rattle.book.specs.Oldest.{stateBy, stateOf, orElse, firstState, pair, pairOf, oldestIn, Oldest, FirstIs}
 use Rattle.book.specs.Oldest as o
 
@@ -59,58 +60,57 @@ module _ (client k : List ℕ) (r : Reading) (p : Path) (e : Bool) (eq : r ≡ R
     state-is f = ap (λ (m : ℕ). State m (v .b)) (view-a v p ev) ∙ ap (State (carriedOf p .a)) (view-b v p ev) ∙ sym (told ∙ rw (five, mine ∙ f))
 
 -- ---- all keys
-abbrev pub FirstFrom : List ℕ → List ℕ → ℕ → Type 0
-FirstFrom b client i = (x : Book b) → firstState client (x .records) ≡ firstState client (drop i (x .records))
+module _ (F : Form) where
+  abbrev pub FirstFrom : List ℕ → List ℕ → ℕ → Type 0
+  FirstFrom b client i = (x : Book F b) → firstState client (x .records) ≡ firstState client (drop i (x .records))
 
-pub first-start : (b client : List ℕ) → FirstFrom b client 0
-first-start b client x = refl
+  pub first-start : (b client : List ℕ) → FirstFrom b client 0
+  first-start b client x = refl
 
-count-any : (b : List ℕ) (n : ℕ) → Counts b n → (x : Book b) → length (x .records) ≡ n
-count-any b n h x = ap length (one-book b x (h .0) .1) ∙ h .1
+module _ (F : Form) (L : Lawful F) (b : List ℕ) (n : ℕ) (h : Counts F b n) where
+  count-any : (x : Book F b) → length (x .records) ≡ n
+  count-any x = ap length (one-book F L b x (h .0) .2) ∙ h .1
 
-pub records-room : (b : List ℕ) (n : ℕ) → Counts b n → 8 + 288 * n ≤ length b
-records-room b n h = let z = sizes b (h .0) in omega (arith, z .bytes, z .few, h .1)
-
-module _ (b client : List ℕ) (n : ℕ) (h : Counts b n) (i : ℕ) (inv : FirstFrom b client i) where
-  pub first-none : n ≤ i → FirstIs b client Nothing
-  unfolding firstState
-  first-none l x =
-      let q : length (x .records) ≤ i = omega (arith, count-any b n h x) in
-      sym (inv x ∙ ap (firstState client) (drop-of-length-le (x .records) q))
-
-  module _ (l : i < n) (key : List ℕ) (ek : key ≡ stored b (8 + 288 * i)) (a : StateAnswer) (ea : a ≡ stateOf client key) where
-    one : (x : Book b) → firstState client (x .records) ≡ orElse a (firstState client (drop (i + 1) (x .records)))
+  module _ (client : List ℕ) (i : ℕ) (inv : FirstFrom F b client i) where
+    pub first-none : n ≤ i → FirstIs F b client Nothing
     unfolding firstState
-    one x =
-        let s = x .records in
-        let r = at-some s i (omega (arith, count-any b n h x)) in
-        let k : a ≡ stateOf client (r .0 .0) = ea ∙ ap (stateOf client) (ek ∙ stored-is b x i (r .0) (r .1)) in
-        inv x
-        ∙ ap (firstState client) (drop-place s i (r .0) (r .1))
-        ∙ ap (λ (z : StateAnswer). orElse z (firstState client (drop (suc i) s))) (sym k)
-        ∙ ap (λ (m : ℕ). orElse a (firstState client (drop m s))) (sym (add-one i))
+    first-none l x =
+        let q : length (x .records) ≤ i = omega (arith, count-any x) in
+        sym (inv x ∙ ap (firstState client) (drop-of-length-le (x .records) q))
 
-    pub first-here : (m k : ℕ) → a ≡ State m k → FirstIs b client (State m k)
-    first-here m k e x = sym (one x ∙ ap (λ (z : StateAnswer). orElse z (firstState client (drop (i + 1) (x .records)))) e)
+    module _ (l : i < n) (key : List ℕ) (ek : key ≡ keyAt F b i) (a : StateAnswer) (ea : a ≡ stateOf client key) where
+      one : (x : Book F b) → firstState client (x .records) ≡ orElse a (firstState client (drop (i + 1) (x .records)))
+      unfolding firstState
+      one x =
+          let s = x .records in
+          let r = at-some s i (omega (arith, count-any x)) in
+          let k : a ≡ stateOf client (r .0 .0) = ea ∙ ap (stateOf client) (ek ∙ key-is F L b x i (r .0) (r .1)) in
+          inv x
+          ∙ ap (firstState client) (drop-place s i (r .0) (r .1))
+          ∙ ap (λ (z : StateAnswer). orElse z (firstState client (drop (suc i) s))) (sym k)
+          ∙ ap (λ (m : ℕ). orElse a (firstState client (drop m s))) (sym (add-one i))
 
-    pub first-next : a ≡ Nothing → FirstFrom b client (i + 1)
-    first-next e x = one x ∙ ap (λ (z : StateAnswer). orElse z (firstState client (drop (i + 1) (x .records)))) e
+      pub first-here : (m k : ℕ) → a ≡ State m k → FirstIs F b client (State m k)
+      first-here m k e x = sym (one x ∙ ap (λ (z : StateAnswer). orElse z (firstState client (drop (i + 1) (x .records)))) e)
+
+      pub first-next : a ≡ Nothing → FirstFrom F b client (i + 1)
+      first-next e x = one x ∙ ap (λ (z : StateAnswer). orElse z (firstState client (drop (i + 1) (x .records)))) e
 
 -- ---- the call
-module _ (b client : List ℕ) (n : ℕ) (h : Counts b n) (f : ℕ) (ef : f ≡ checkOf check.client client) where
-  pub oldest-refused : (f ≡ 0 → ⊥) → Oldest b client (pair f 0 0)
+module _ (F : Form) (b client : List ℕ) (n : ℕ) (h : Counts F b n) (f : ℕ) (ef : f ≡ checkOf check.client client) where
+  pub oldest-refused : (f ≡ 0 → ⊥) → Oldest F b client (pair f 0 0)
   unfolding oldestIn
   oldest-refused g = o.Oldest.this-book (h .0) (rw (ne-eqb (checkOf check.client client) 0 (λ q. g (ef ∙ q))) (ap (λ (z : ℕ). pair z 0 0) ef))
 
-  pub oldest-found : f ≡ 0 → (a : StateAnswer) → FirstIs b client a → Oldest b client (pairOf a)
+  pub oldest-found : f ≡ 0 → (a : StateAnswer) → FirstIs F b client a → Oldest F b client (pairOf a)
   unfolding oldestIn
   oldest-found g a e = o.Oldest.this-book (h .0) (rw (eq-eqb (checkOf check.client client) 0 (sym ef ∙ g)) (ap pairOf (e (h .0))))
 
-  pub oldest-by : f ≡ 0 → (a : StateAnswer) → FirstIs b client a → (q : StateAnswer) → a ≡ q → Oldest b client (pairOf q)
+  pub oldest-by : f ≡ 0 → (a : StateAnswer) → FirstIs F b client a → (q : StateAnswer) → a ≡ q → Oldest F b client (pairOf q)
   oldest-by g a e q w = rw w at (oldest-found g a e)
 
-pub one-oldest : (b client : List ℕ) (r q : Pair) → Oldest b client r → Oldest b client q → r ≡ q
-one-oldest b client r q (o.Oldest.no-book n e) (o.Oldest.no-book m f) = e ∙ sym f
-one-oldest b client r q (o.Oldest.no-book n e) (o.Oldest.this-book y f) = absurd (n y)
-one-oldest b client r q (o.Oldest.this-book x e) (o.Oldest.no-book m f) = absurd (m x)
-one-oldest b client r q (o.Oldest.this-book x e) (o.Oldest.this-book y f) = e ∙ ap (oldestIn client) (one-book b x y .1) ∙ sym f
+pub one-oldest : (F : Form) → Lawful F → (b client : List ℕ) (r q : Pair) → Oldest F b client r → Oldest F b client q → r ≡ q
+one-oldest F L b client r q (o.Oldest.no-book n e) (o.Oldest.no-book m f) = e ∙ sym f
+one-oldest F L b client r q (o.Oldest.no-book n e) (o.Oldest.this-book y f) = absurd (n y)
+one-oldest F L b client r q (o.Oldest.this-book x e) (o.Oldest.no-book m f) = absurd (m x)
+one-oldest F L b client r q (o.Oldest.this-book x e) (o.Oldest.this-book y f) = e ∙ ap (oldestIn client) (one-book F L b x y .2) ∙ sym f

@@ -12,10 +12,10 @@ ghost use lib.Dec.{eqb};
 ghost use lib.ListN.{length, drop};
 ghost use Rattle.text.specs.Part.{every};
 ghost use Rattle.keys.specs.Calls.{Exact};
-ghost use Rattle.form.specs.Search.{stored};
-ghost use Rattle.form.specs.Slots.{Tells};
-ghost use Rattle.book.specs.Book.{Judged};
-ghost use Rattle.book.specs.CheckLaws.{Framed, SlotGood, SlotsGood, Rising};
+ghost use Rattle.form.specs.V1.{stored};
+ghost use Rattle.form.specs.Tells.{Tells};
+ghost use Rattle.book.specs.Book.{Current, Judged};
+ghost use Rattle.book.specs.Check.{Framed, SlotGood, SlotsGood, Rising};
 
 // A book's number of records, or that a buffer is no book.
 pub enum BookAnswer {
@@ -25,7 +25,7 @@ pub enum BookAnswer {
 
 // The number of records by the header, where the length and the header are a book's.
 pub(crate) fn frame(book: &[u8]) -> BookAnswer
-    ensures { λ r. ⌜ Framed (now (book .entry)) r ⌝ }
+    ensures { λ r. ⌜ Framed Current (now (book .entry)) r ⌝ }
 {
     let size = book.len();
     if size < 296 {
@@ -61,7 +61,7 @@ pub(crate) fn key_exact(book: &[u8], at: usize) -> bool
 // Whether slot i is a record's.
 pub(crate) fn slot_good(book: &[u8], i: usize) -> bool
     requires { ⌜ 8 + 288 * (i + 1) ≤ length (now book) ⌝ }
-    ensures { λ r. ⌜ Tells r (SlotGood (now (book .entry)) i) ⌝ }
+    ensures { λ r. ⌜ Tells r (SlotGood Current (now (book .entry)) i) ⌝ }
 {
     let at = 8 + 288 * i;
     if !slot_ok(book, at) {
@@ -73,7 +73,7 @@ pub(crate) fn slot_good(book: &[u8], i: usize) -> bool
 // Whether the first n slots are records'.
 pub(crate) fn slots_good(book: &[u8], n: usize) -> bool
     requires { ⌜ 8 + 288 * n ≤ length (now book) ⌝ }
-    ensures { λ r. ⌜ Tells r (SlotsGood (now (book .entry)) n) ⌝ }
+    ensures { λ r. ⌜ Tells r (SlotsGood Current (now (book .entry)) n) ⌝ }
 {
     let mut i = 0;
     while i < n {
@@ -88,7 +88,7 @@ pub(crate) fn slots_good(book: &[u8], n: usize) -> bool
 // Whether the keys of the first n slots rise.
 pub(crate) fn rising(book: &[u8], n: usize) -> bool
     requires { ⌜ 8 + 288 * n ≤ length (now book) ⌝ }
-    ensures { λ r. ⌜ Tells r (Rising (now (book .entry)) n) ⌝ }
+    ensures { λ r. ⌜ Tells r (Rising Current (now (book .entry)) n) ⌝ }
 {
     let mut i = 0;
     while i + 1 < n {
@@ -112,7 +112,7 @@ pub(crate) fn blank_after(book: &[u8], n: usize) -> bool
 
 // Whether a buffer is a book, and with how many records.
 pub fn check_book(book: &[u8]) -> BookAnswer
-    ensures { λ r. ⌜ Judged (now (book .entry)) r ⌝ }
+    ensures { λ r. ⌜ Judged Current (now (book .entry)) r ⌝ }
 {
     let BookAnswer::Count(n) = frame(book) else {
         return BookAnswer::Nothing;

@@ -3,8 +3,8 @@ use form::compare_key;
 ghost use mathlib.Core.Path.{_≡_};
 ghost use Prim.Native.Nat.{_+_, _*_, _≤_, _<_};
 ghost use lib.ListN.{length};
-ghost use Rattle.book.specs.Book.{Counts};
-ghost use Rattle.book.specs.FindLaws.{Placed, Spotted};
+ghost use Rattle.book.specs.Book.{Current, Counts};
+ghost use Rattle.book.specs.Find.{Placed, Spotted};
 
 // The slot that holds a key, or the one that it would have.
 pub enum Spot {
@@ -14,8 +14,8 @@ pub enum Spot {
 
 // How many keys come before `key`, in a book with n records.
 pub(crate) fn place(book: &[u8], n: usize, key: &[u8]) -> usize
-    requires { ⌜ Counts (now book) n ⌝ }
-    ensures { λ r. ⌜ Placed (now (book .entry)) (now (key .entry)) n r ⌝ }
+    requires { ⌜ Counts Current (now book) n ⌝ }
+    ensures { λ r. ⌜ Placed Current (now (book .entry)) (now (key .entry)) n r ⌝ }
 {
     let mut lo = 0;
     let mut hi = n;
@@ -32,8 +32,8 @@ pub(crate) fn place(book: &[u8], n: usize, key: &[u8]) -> usize
 
 // The slot of `key`, in a book with n records.
 pub(crate) fn find(book: &[u8], n: usize, key: &[u8]) -> Spot
-    requires { ⌜ Counts (now book) n ⌝ }
-    ensures { λ r. ⌜ Spotted (now (book .entry)) (now (key .entry)) n r ⌝ }
+    requires { ⌜ Counts Current (now book) n ⌝ }
+    ensures { λ r. ⌜ Spotted Current (now (book .entry)) (now (key .entry)) n r ⌝ }
 {
     let p = place(book, n, key);
     if p == n {

@@ -17,11 +17,12 @@ use text::refusal::BAD_BOOK;
 use text::refusal::BAD_LENGTH;
 use text::refusal::NO_ROOM;
 ghost use mathlib.Core.Path.{_≡_};
+ghost use Rattle.book.specs.Book.{Current};
 ghost use Rattle.book.specs.Outcome.{Wrote, Removed, Looked, Made};
 
 // Copies what the path of a text holds: 9, 1, 2, 3, 10, 4, 12.
 pub fn lookup(book: &[u8], text: &[u8], out: &mut [u8]) -> u8
-    ensures { λ r. ⌜ Looked (now (book .entry)) (now (text .entry)) (now (out .entry)) r (now (out .exit)) ⌝ }
+    ensures { λ r. ⌜ Looked Current (now (book .entry)) (now (text .entry)) (now (out .entry)) r (now (out .exit)) ⌝ }
 {
     let BookAnswer::Count(n) = check_book(book) else {
         return BAD_BOOK;
@@ -41,7 +42,7 @@ pub fn lookup(book: &[u8], text: &[u8], out: &mut [u8]) -> u8
 
 // Adds or replaces what the path of a text holds: 9, 1, 2, 3, 10, 6, 11.
 pub fn write(book: &mut [u8], text: &[u8], value: &[u8]) -> u8
-    ensures { λ r. ⌜ Wrote (now (book .entry)) (now (text .entry)) (now (value .entry)) r (now (book .exit)) ⌝ }
+    ensures { λ r. ⌜ Wrote Current (now (book .entry)) (now (text .entry)) (now (value .entry)) r (now (book .exit)) ⌝ }
 {
     let BookAnswer::Count(n) = check_book(book) else {
         return BAD_BOOK;
@@ -61,7 +62,7 @@ pub fn write(book: &mut [u8], text: &[u8], value: &[u8]) -> u8
 
 // Removes what the path of a text holds: 9, 1, 2, 3, 10, 12.
 pub fn remove(book: &mut [u8], text: &[u8]) -> u8
-    ensures { λ r. ⌜ Removed (now (book .entry)) (now (text .entry)) r (now (book .exit)) ⌝ }
+    ensures { λ r. ⌜ Removed Current (now (book .entry)) (now (text .entry)) r (now (book .exit)) ⌝ }
 {
     let BookAnswer::Count(n) = check_book(book) else {
         return BAD_BOOK;
@@ -78,7 +79,7 @@ pub fn remove(book: &mut [u8], text: &[u8]) -> u8
 
 // Makes a book of a buffer, with no records: 9 where the length is no book's.
 pub fn new_book(book: &mut [u8]) -> u8
-    ensures { λ r. ⌜ Made (now (book .entry)) r (now (book .exit)) ⌝ }
+    ensures { λ r. ⌜ Made Current tt (now (book .entry)) r (now (book .exit)) ⌝ }
 {
     let size = book.len();
     if size < 296 {

@@ -6,7 +6,7 @@ use path::Reading;
 use text::refusal::ABSENT;
 use text::refusal::BAD_BOOK;
 ghost use mathlib.Core.Path.{_≡_};
-ghost use Rattle.book.specs.Book.{Counts};
+ghost use Rattle.book.specs.Book.{Current, Counts};
 ghost use Rattle.book.specs.Oldest.{stateOf, FirstIs, Oldest};
 
 pub enum StateAnswer {
@@ -41,8 +41,8 @@ pub(crate) fn state_in(key: &[u8], client: &[u8]) -> StateAnswer
 
 // The first state of the client in a book with n records.
 pub(crate) fn first_state(book: &[u8], n: usize, client: &[u8]) -> StateAnswer
-    requires { ⌜ Counts (now book) n ⌝ }
-    ensures { λ r. ⌜ FirstIs (now (book .entry)) (now (client .entry)) r ⌝ }
+    requires { ⌜ Counts Current (now book) n ⌝ }
+    ensures { λ r. ⌜ FirstIs Current (now (book .entry)) (now (client .entry)) r ⌝ }
 {
     let mut i = 0;
     while i < n {
@@ -56,7 +56,7 @@ pub(crate) fn first_state(book: &[u8], n: usize, client: &[u8]) -> StateAnswer
 
 // The oldest state of a client: 9, the client checks, 12.
 pub fn oldest(book: &[u8], client: &[u8]) -> Pair
-    ensures { λ r. ⌜ Oldest (now (book .entry)) (now (client .entry)) r ⌝ }
+    ensures { λ r. ⌜ Oldest Current (now (book .entry)) (now (client .entry)) r ⌝ }
 {
     let BookAnswer::Count(n) = check_book(book) else {
         return Pair {

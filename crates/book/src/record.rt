@@ -11,16 +11,16 @@ ghost use mathlib.Core.Path.{_≡_};
 ghost use Prim.Native.Nat.{_+_, _*_, _≤_, _<_};
 ghost use lib.ListN.{length};
 ghost use Rattle.keys.specs.Act.{writes, removes, looks};
-ghost use Rattle.book.specs.Book.{Counts};
+ghost use Rattle.book.specs.Book.{Current, Counts};
 ghost use Rattle.book.specs.Outcome.{Changed, Found};
-ghost use Rattle.book.specs.FindLaws.{Spotted};
+ghost use Rattle.book.specs.Find.{Spotted};
 ghost use Rattle.book.specs.declared.find.Spot.the-variants.{Taken, Free};
 
 // Copies the value of `key` to the start of `out`.
 pub(crate) fn look_record(book: &[u8], n: usize, key: &[u8], out: &mut [u8]) -> u8
-    requires { ⌜ Counts (now book) n ⌝ }
+    requires { ⌜ Counts Current (now book) n ⌝ }
     requires { ⌜ 32 ≤ length (now out) ⌝ }
-    ensures { λ r. ⌜ Found (now (book .entry)) (looks (now (key .entry))) (now (out .entry)) r (now (out .exit)) ⌝ }
+    ensures { λ r. ⌜ Found Current (now (book .entry)) (looks (now (key .entry))) (now (out .entry)) r (now (out .exit)) ⌝ }
 {
     let Spot::Taken(p) = find(book, n, key) else {
         return ABSENT;
@@ -33,9 +33,9 @@ pub(crate) fn look_record(book: &[u8], n: usize, key: &[u8], out: &mut [u8]) -> 
 
 // Writes over the record in slot p.
 pub(crate) fn replace(book: &mut [u8], n: usize, p: usize, key: &[u8], value: &[u8]) -> u8
-    requires { ⌜ Counts (now book) n × Spotted (now book) (now key) n (Taken p) ⌝ }
+    requires { ⌜ Counts Current (now book) n × Spotted Current (now book) (now key) n (Taken p) ⌝ }
     requires { ⌜ (length (now key) ≤ 255) × (length (now value) ≡ 32) ⌝ }
-    ensures { λ r. ⌜ Changed (now (book .entry)) (writes (now (key .entry)) (now (value .entry))) r (now (book .exit)) ⌝ }
+    ensures { λ r. ⌜ Changed Current (now (book .entry)) (writes (now (key .entry)) (now (value .entry))) r (now (book .exit)) ⌝ }
 {
     put_slot(book, 8 + 288 * p, key, value);
     0
@@ -43,9 +43,9 @@ pub(crate) fn replace(book: &mut [u8], n: usize, p: usize, key: &[u8], value: &[
 
 // Puts a record in at slot p, where there is room.
 pub(crate) fn add(book: &mut [u8], n: usize, p: usize, key: &[u8], value: &[u8]) -> u8
-    requires { ⌜ Counts (now book) n × Spotted (now book) (now key) n (Free p) ⌝ }
+    requires { ⌜ Counts Current (now book) n × Spotted Current (now book) (now key) n (Free p) ⌝ }
     requires { ⌜ (length (now key) ≤ 255) × (length (now value) ≡ 32) ⌝ }
-    ensures { λ r. ⌜ Changed (now (book .entry)) (writes (now (key .entry)) (now (value .entry))) r (now (book .exit)) ⌝ }
+    ensures { λ r. ⌜ Changed Current (now (book .entry)) (writes (now (key .entry)) (now (value .entry))) r (now (book .exit)) ⌝ }
 {
     if book.len() < 8 + 288 * (n + 1) {
         return FULL;
@@ -56,9 +56,9 @@ pub(crate) fn add(book: &mut [u8], n: usize, p: usize, key: &[u8], value: &[u8])
 
 // Adds or replaces the value of `key`.
 pub(crate) fn put_record(book: &mut [u8], n: usize, key: &[u8], value: &[u8]) -> u8
-    requires { ⌜ Counts (now book) n ⌝ }
+    requires { ⌜ Counts Current (now book) n ⌝ }
     requires { ⌜ (length (now key) ≤ 255) × (length (now value) ≡ 32) ⌝ }
-    ensures { λ r. ⌜ Changed (now (book .entry)) (writes (now (key .entry)) (now (value .entry))) r (now (book .exit)) ⌝ }
+    ensures { λ r. ⌜ Changed Current (now (book .entry)) (writes (now (key .entry)) (now (value .entry))) r (now (book .exit)) ⌝ }
 {
     match find(book, n, key) {
         Spot::Taken(p) => replace(book, n, p, key, value),
@@ -68,8 +68,8 @@ pub(crate) fn put_record(book: &mut [u8], n: usize, key: &[u8], value: &[u8]) ->
 
 // Removes the record of `key`.
 pub(crate) fn take_record(book: &mut [u8], n: usize, key: &[u8]) -> u8
-    requires { ⌜ Counts (now book) n ⌝ }
-    ensures { λ r. ⌜ Changed (now (book .entry)) (removes (now (key .entry))) r (now (book .exit)) ⌝ }
+    requires { ⌜ Counts Current (now book) n ⌝ }
+    ensures { λ r. ⌜ Changed Current (now (book .entry)) (removes (now (key .entry))) r (now (book .exit)) ⌝ }
 {
     let Spot::Taken(p) = find(book, n, key) else {
         return ABSENT;

@@ -1,5 +1,9 @@
-pub mod Bytes
-pub mod Layout
+-- What the contracts of `form` cite. Files that end in `Laws` hold consequences, which a reader may skip.
+pub mod Moves
+pub mod MovesLaws
+pub mod Form
+pub mod FormLaws
 pub mod V1
+pub mod V1Laws
 pub mod Search
-pub mod Slots
+pub mod Tells

@@ -6,17 +6,14 @@ use native.Mathlib.Numerals.{add-one}
 use native.Mathlib.Decide.{decLt}
 use native.Mathlib.Omega.{arith}
 use lib.ListN.{length, take, drop, getD, length-take, length-drop, drop-of-length-le}
-use lib.Seq.{drop-cons, getD-take, getD-drop, length-take-le}
+use lib.Seq.{drop-drop, drop-cons, getD-take, getD-drop, length-take-le}
 use Rattle.text.specs.Order.{by, cmp}
+use Rattle.form.specs.V1.{recordOf, stored}
 use Rattle.text.specs.OrderLaws.{cmp-cons-lt, cmp-cons-gt, cmp-cons-eq, cmp-nil, cmp-nil-cons, cmp-cons-nil}
 
 -- the number for an order: 0 below, 1 the same, 2 above
 abbrev pub code : Ordering → ℕ
 code o = by o 0 1 2
-
--- the key in the slot at an offset
-unfoldable pub stored : List ℕ → ℕ → List ℕ
-stored b at = take (getD b at 0) (drop (at + 1) b)
 
 module _ (a b : List ℕ) (i : ℕ) where
   -- the order of the rest of two keys
@@ -41,13 +38,27 @@ module _ (a b : List ℕ) (i : ℕ) where
   pub rest-same : length a ≤ i → length b ≤ i → rest ≡ Ordering·eq
   rest-same ha hb = rw (drop-of-length-le a ha, drop-of-length-le b hb) cmp-nil
 
+-- the first byte of a slot
+first-is : (b : List ℕ) (at : ℕ) → getD (drop at b) 0 0 ≡ getD b at 0
+first-is b at = getD-drop at b 0 0 ∙ ap (λ (q : ℕ). getD b q 0) (let e : at + 0 ≡ at = omega arith in e)
+
+-- the key in a slot
 pub length-stored : (b : List ℕ) (at : ℕ) → at + 1 + getD b at 0 ≤ length b → length (stored b at) ≡ getD b at 0
-unfolding stored
-length-stored b at h = length-take-le (getD b at 0) (drop (at + 1) b) (omega (arith, length-drop (at + 1) b))
+unfolding recordOf
+length-stored b at h = length-take-le (getD (drop at b) 0 0) (drop 1 (drop at b)) (omega (arith, length-drop 1 (drop at b), length-drop at b, first-is b at)) ∙ first-is b at
 
 pub getD-stored : (b : List ℕ) (at i : ℕ) → i < getD b at 0 → getD (stored b at) i 0 ≡ getD b (at + 1 + i) 0
-unfolding stored
-getD-stored b at i h = getD-take (getD b at 0) (drop (at + 1) b) i 0 h ∙ getD-drop (at + 1) b i 0
+unfolding recordOf
+getD-stored b at i h =
+    getD-take (getD (drop at b) 0 0) (drop 1 (drop at b)) i 0 (omega (arith, first-is b at))
+    ∙ getD-drop 1 (drop at b) i 0
+    ∙ getD-drop at b (1 + i) 0
+    ∙ ap (λ (q : ℕ). getD b q 0) (let e : at + (1 + i) ≡ at + 1 + i = omega arith in e)
+
+-- a key as a part of the book
+pub stored-part : (b : List ℕ) (at n : ℕ) → n ≡ getD b at 0 → take n (drop (at + 1) b) ≡ stored b at
+unfolding recordOf
+stored-part b at n e = ap (λ (m : ℕ). take m (drop (at + 1) b)) (e ∙ sym (first-is b at)) ∙ ap (λ (l : List ℕ). take (getD (drop at b) 0 0) l) (sym (drop-drop 1 at b))
 
 -- The loop that compares: at i the rest decides, and each way out of the loop answers so.
 module _ (book key : List ℕ) (at n i : ℕ) (hb : at + 256 ≤ length book) (en : n ≡ getD book at 0) (hn : n ≤ 255)

@@ -9,11 +9,11 @@ ghost use lib.ListN.{length, getD, take, drop};
 ghost use Rattle.text.specs.Order.{cmp};
 ghost use Rattle.text.specs.Part.{every, same};
 ghost use Rattle.text.specs.Put.{put};
-ghost use Rattle.form.specs.Bytes.{raised, lowered};
-ghost use Rattle.form.specs.Search.{code, stored, word, Agree, Alike, Bytes};
-ghost use Rattle.form.specs.Layout.{inserted, removed, zeros};
-ghost use Rattle.form.specs.V1.{V1, slot, header, countIn};
-ghost use Rattle.form.specs.Slots.{SlotOk, Tells};
+ghost use Rattle.form.specs.Moves.{raised, lowered};
+ghost use Rattle.form.specs.Form.{zeros, inserted, removed, SlotOk};
+ghost use Rattle.form.specs.V1.{V1, slot, header, countIn, stored};
+ghost use Rattle.form.specs.Search.{code, word, Agree, Alike, Bytes};
+ghost use Rattle.form.specs.Tells.{Tells};
 
 // Moves the bytes from `from` up to `to` up by `by` places, the last one first.
 pub fn raise(book: &mut [u8], from: usize, to: usize, by: usize)
@@ -83,7 +83,7 @@ pub fn insert(book: &mut [u8], place: usize, count: usize, key: &[u8], value: &[
     requires { do ⌜ 8 + 288 * (count + 1) ≤ (← ⟦book.len()⟧) ⌝ }
     requires { do ⌜ (← ⟦key.len()⟧) ≤ 255 ⌝ }
     requires { do ⌜ (← ⟦value.len()⟧) ≡ 32 ⌝ }
-    ensures { λ _. ⌜ now (book .exit) ≡ inserted V1 place count (now (book .entry)) (now (key .entry), now (value .entry)) ⌝ }
+    ensures { λ _. ⌜ now (book .exit) ≡ inserted V1 tt place count (now (book .entry)) (now (key .entry), now (value .entry)) ⌝ }
 {
     let at = 8 + 288 * place;
     let end = 8 + 288 * count;
@@ -97,7 +97,7 @@ pub fn take_out(book: &mut [u8], place: usize, count: usize)
     requires { ⌜ place ≤ count ⌝ }
     requires { ⌜ count < 200 ⌝ }
     requires { do ⌜ 8 + 288 * (count + 1) ≤ (← ⟦book.len()⟧) ⌝ }
-    ensures { λ _. ⌜ now (book .exit) ≡ removed V1 place count (now (book .entry)) ⌝ }
+    ensures { λ _. ⌜ now (book .exit) ≡ removed V1 tt place count (now (book .entry)) ⌝ }
 {
     lower(book, 8 + 288 * (place + 1), 8 + 288 * (count + 1), 288);
     clear(book, 8 + 288 * count, 288);
@@ -234,7 +234,7 @@ pub fn all_zero(s: &[u8]) -> bool
 // Whether the slot at `at` is a record's: the bytes behind its key are zero.
 pub fn slot_ok(book: &[u8], at: usize) -> bool
     requires { do ⌜ at + 288 ≤ (← ⟦book.len()⟧) ⌝ }
-    ensures { λ r. ⌜ Tells r (SlotOk (drop at (now (book .entry)))) ⌝ }
+    ensures { λ r. ⌜ Tells r (SlotOk V1 (drop at (now (book .entry)))) ⌝ }
 {
     let start = at + 1 + wide(book[at]);
     let end = at + 256;

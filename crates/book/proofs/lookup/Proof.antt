@@ -2,6 +2,7 @@
 -- Assumes nothing.
 use mathlib.Core.Path.{_≡_, refl, sym, ap, _∙_}
 use Rattle.keys.specs.TextLaws.{refused-by, key-of, look-short}
+use Rattle.form.specs.V1.{V1}
 use Rattle.book.specs.FindLaws.{looked-refused}
 use Rattle.book.specs.RecordLaws.{judged-holds, look-no-book, look-text}
 use native.Mathlib.Omega.{arith}
@@ -40,11 +41,11 @@ key-into-requires c κs = search needs
 
 -- src/lib.rt:35:9
 returns-2 : tie.Need-returns-2
-returns-2 c = looked-refused _ _ (judged-holds _ _ _ (c .before .before .before .before .before .before .before .check-book .ensures) (c .before .before .before .before .before .n .given .1)) _ _ (refused-by _ _ (c .before .before .key-into .ensures .0) _ (c .if1 .taken)) _
+returns-2 c = looked-refused V1 _ _ (judged-holds _ _ _ (c .before .before .before .before .before .before .before .check-book .ensures) (c .before .before .before .before .before .n .given .1)) _ _ (refused-by _ _ (c .before .before .key-into .ensures .0) _ (c .if1 .taken)) _
 
 -- src/lib.rt:38:9
 returns-3 : tie.Need-returns-3
-returns-3 c = looked-refused _ _ (judged-holds _ _ _ (c .before .before .before .before .before .before .before .before .check-book .ensures) (c .before .before .before .before .before .before .n .given .1)) _ _ (look-short _ _ _ (key-of _ _ (c .before .before .before .key-into .ensures .0) _ _ refl (c .before .if1 .left) (c .before .before .before .key-into .ensures .1)) _ (c .if2 .taken)) _
+returns-3 c = looked-refused V1 _ _ (judged-holds _ _ _ (c .before .before .before .before .before .before .before .before .check-book .ensures) (c .before .before .before .before .before .before .n .given .1)) _ _ (look-short _ _ _ (key-of _ _ (c .before .before .before .key-into .ensures .0) _ _ refl (c .before .if1 .left) (c .before .before .before .key-into .ensures .1)) _ (c .if2 .taken)) _
 
 -- src/lib.rt:41:26
 sub-look-record : tie.Need-sub-look-record

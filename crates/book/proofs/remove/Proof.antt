@@ -2,6 +2,7 @@
 -- Assumes nothing.
 use mathlib.Core.Path.{_≡_, refl, sym, ap, _∙_}
 use Rattle.keys.specs.TextLaws.{refused-by, key-of}
+use Rattle.form.specs.V1.{V1}
 use Rattle.book.specs.FindLaws.{changed-refused}
 use Rattle.book.specs.RecordLaws.{judged-holds, no-book, remove-text}
 use native.Mathlib.Omega.{arith}
@@ -48,7 +49,7 @@ same-length-2 c = search needs
 
 -- src/lib.rt:75:9
 returns-2 : tie.Need-returns-2
-returns-2 c = changed-refused _ _ (judged-holds _ _ _ (c .before .before .before .before .before .before .before .check-book .ensures) (c .before .before .before .before .before .n .given .1)) _ _ (refused-by _ _ (c .before .before .key-into .ensures .0) _ (c .if1 .taken))
+returns-2 c = changed-refused V1 _ _ (judged-holds _ _ _ (c .before .before .before .before .before .before .before .check-book .ensures) (c .before .before .before .before .before .n .given .1)) _ _ (refused-by _ _ (c .before .before .key-into .ensures .0) _ (c .if1 .taken))
 
 -- src/lib.rt:78:26
 sub-take-record : tie.Need-sub-take-record

@@ -2,6 +2,7 @@
 -- Assumes nothing.
 use mathlib.Core.Path.{_≡_, refl, sym, ap, _∙_}
 use Rattle.keys.specs.TextLaws.{refused-by, key-of, write-bad}
+use Rattle.form.specs.V1.{V1}
 use Rattle.book.specs.FindLaws.{changed-refused}
 use Rattle.book.specs.RecordLaws.{judged-holds, no-book, write-text, key-short}
 use native.Mathlib.Omega.{arith}
@@ -48,7 +49,7 @@ same-length-2 c = search needs
 
 -- src/lib.rt:55:9
 returns-2 : tie.Need-returns-2
-returns-2 c = changed-refused _ _ (judged-holds _ _ _ (c .before .before .before .before .before .before .before .check-book .ensures) (c .before .before .before .before .before .n .given .1)) _ _ (refused-by _ _ (c .before .before .key-into .ensures .0) _ (c .if1 .taken))
+returns-2 c = changed-refused V1 _ _ (judged-holds _ _ _ (c .before .before .before .before .before .before .before .check-book .ensures) (c .before .before .before .before .before .n .given .1)) _ _ (refused-by _ _ (c .before .before .key-into .ensures .0) _ (c .if1 .taken))
 
 -- src/lib.rt:58:9
 same-length-3 : tie.Need-same-length-3
@@ -56,7 +57,7 @@ same-length-3 c = search needs
 
 -- src/lib.rt:58:9
 returns-3 : tie.Need-returns-3
-returns-3 c = changed-refused _ _ (judged-holds _ _ _ (c .before .before .before .before .before .before .before .before .check-book .ensures) (c .before .before .before .before .before .before .n .given .1)) _ _ (write-bad _ _ _ (key-of _ _ (c .before .before .before .key-into .ensures .0) _ _ refl (c .before .if1 .left) (c .before .before .before .key-into .ensures .1)) (c .before .before .before .before .before .before .before .before .before .before .before .before .before .args .value .now) (c .if2 .taken))
+returns-3 c = changed-refused V1 _ _ (judged-holds _ _ _ (c .before .before .before .before .before .before .before .before .check-book .ensures) (c .before .before .before .before .before .before .n .given .1)) _ _ (write-bad _ _ _ (key-of _ _ (c .before .before .before .key-into .ensures .0) _ _ refl (c .before .if1 .left) (c .before .before .before .key-into .ensures .1)) (c .before .before .before .before .before .before .before .before .before .before .before .before .before .args .value .now) (c .if2 .taken))
 
 -- src/lib.rt:61:25
 sub-put-record : tie.Need-sub-put-record

@@ -5,7 +5,7 @@ use Prim.Native.Nat.{_+_, _≤_, _-_}
 use lib.Dec.{ltb}
 use lib.ListN.{length, drop}
 use Rattle.text.specs.PartLaws.{top as largest, top-none, top-more}
-use Rattle.form.specs.Slots.{blank-top}
+use Rattle.form.specs.FormLaws.{blank-top}
 use borrow.Author.Needs.{needs}
 use native.Mathlib.Omega.{arith}
 use Rattle.form.proofs.all_zero.Statement.{statement}

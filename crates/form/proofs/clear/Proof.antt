@@ -7,8 +7,9 @@ use Prim.Native.Nat.{ℕ, _≤_, _<_, _-_, _+_}
 use native.Mathlib.Omega.{arith}
 use lib.ListN.{length, set, length-set}
 use Rattle.text.specs.Put.{put}
-use Rattle.form.specs.Bytes.{over-start}
-use Rattle.form.specs.Layout.{zeros, clear-turn}
+use Rattle.form.specs.MovesLaws.{over-start}
+use Rattle.form.specs.Form.{zeros}
+use Rattle.form.specs.FormLaws.{clear-turn}
 use Rattle.form.proofs.clear.Statement.{statement}
 use Rattle.form.proofs.clear.Tie as tie
 use Rattle.form.proofs.clear.Reads as reads

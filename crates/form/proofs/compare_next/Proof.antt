@@ -4,7 +4,8 @@ use mathlib.Core.Path.{_≡_, refl, sym, ap, _∙_}
 use mathlib.Core.List.{List}
 use Prim.Native.Nat.{ℕ, _+_}
 use Rattle.text.specs.Order.{cmp}
-use Rattle.form.specs.Search.{code, stored, alike-agree}
+use Rattle.form.specs.Search.{code, alike-agree}
+use Rattle.form.specs.V1.{stored}
 use native.Mathlib.Omega.{arith}
 use borrow.Author.Needs.{needs}
 use Rattle.form.proofs.compare_next.Statement.{statement}

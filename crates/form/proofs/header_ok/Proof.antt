@@ -6,7 +6,7 @@ use lib.ListN.{take, drop, getD}
 use Rattle.text.specs.Part.{same}
 use native.Mathlib.Omega.{arith}
 use mathlib.Core.Path.{_≡_, refl, sym, ap, _∙_}
-use Rattle.form.specs.V1.{header-bytes}
+use Rattle.form.specs.V1Laws.{header-bytes}
 use borrow.Author.Needs.{needs}
 use Rattle.form.proofs.header_ok.Statement.{statement}
 use Rattle.form.proofs.header_ok.Tie as tie

@@ -1,7 +1,7 @@
 -- `form::insert` meets its contract.
 -- Assumes nothing.
 use native.Mathlib.Numerals.{add-one}
-use Rattle.form.specs.Layout.{inserted}
+use Rattle.form.specs.Form.{inserted}
 use borrow.Author.Needs.{needs}
 use Rattle.form.proofs.insert.Statement.{statement}
 use Rattle.form.proofs.insert.Tie as tie

@@ -4,7 +4,7 @@ use Prim.Native.Nat.{ℕ, _+_, _-_}
 use lib.ListN.{take, drop, getD}
 use native.Mathlib.Omega.{arith}
 use mathlib.Core.Path.{_≡_, refl, sym, ap, _∙_}
-use Rattle.form.specs.Search.{stored}
+use Rattle.form.specs.Search.{stored-part}
 use borrow.Author.Needs.{needs}
 use Rattle.form.proofs.key_at.Statement.{statement}
 use Rattle.form.proofs.key_at.Tie as tie
@@ -42,10 +42,9 @@ part-result-end c = search needs
 
 -- src/lib.rt:146:1
 returns : tie.Need-returns
-unfolding stored
 returns c =
     let a = c .before .before .before .before .args in
-    ap (λ (n : ℕ). take n (drop (a .at + 1) (a .book .now))) (let q : a .at + 1 + c .before .wide .result - (a .at + 1) ≡ getD (a .book .now) (a .at) 0 = omega (arith, c .before .wide .ensures) in q)
+    stored-part (a .book .now) (a .at) _ (let q : a .at + 1 + c .before .wide .result - (a .at + 1) ≡ getD (a .book .now) (a .at) 0 = omega (arith, c .before .wide .ensures) in q)
 
 pub key-at-spec : {M : Type 1} → statement M
 key-at-spec =

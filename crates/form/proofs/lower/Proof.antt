@@ -3,7 +3,8 @@
 use mathlib.Core.Path.{_≡_, sym, ap, _∙_}
 use Prim.Native.Nat.{ℕ, _≤_, _<_, _-_, _+_}
 use lib.ListN.{length, getD, set, length-set}
-use Rattle.form.specs.Bytes.{lowered, lowered-none, lowered-turn}
+use Rattle.form.specs.MovesLaws.{lowered-none, lowered-turn}
+use Rattle.form.specs.Moves.{lowered}
 use native.Mathlib.Omega.{arith}
 use Rattle.form.proofs.lower.Statement.{statement}
 use Rattle.form.proofs.lower.Tie as tie

@@ -1,7 +1,7 @@
 -- `form::put_slot` meets its contract.
 -- Assumes nothing.
 use native.Mathlib.Omega.{arith}
-use Rattle.form.specs.V1.{slot-pieces}
+use Rattle.form.specs.V1Laws.{slot-pieces}
 use borrow.Author.Needs.{needs}
 use Rattle.form.proofs.put_slot.Statement.{statement}
 use Rattle.form.proofs.put_slot.Tie as tie

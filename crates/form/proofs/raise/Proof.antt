@@ -5,7 +5,8 @@ use mathlib.Core.List.{List}
 use Prim.Native.Nat.{ℕ, _≤_, _<_, _-_, _+_}
 use native.Mathlib.Omega.{arith}
 use lib.ListN.{length, getD, set, length-set}
-use Rattle.form.specs.Bytes.{raised, raised-none, raised-turn, length-raised}
+use Rattle.form.specs.MovesLaws.{raised-none, raised-turn, length-raised}
+use Rattle.form.specs.Moves.{raised}
 use Rattle.form.proofs.raise.Statement.{statement}
 use Rattle.form.proofs.raise.Tie as tie
 use Rattle.form.proofs.raise.Reads as reads

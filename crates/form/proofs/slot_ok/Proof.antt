@@ -1,7 +1,7 @@
 -- `form::slot_ok` meets its contract.
 -- Assumes nothing.
 use Prim.Native.Nat.{ℕ, _+_, _-_}
-use Rattle.form.specs.Slots.{tells-slot}
+use Rattle.form.specs.V1Laws.{tells-slot}
 use native.Mathlib.Omega.{arith}
 use borrow.Author.Needs.{needs}
 use Rattle.form.proofs.slot_ok.Statement.{statement}

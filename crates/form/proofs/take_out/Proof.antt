@@ -1,7 +1,7 @@
 -- `form::take_out` meets its contract.
 -- Assumes nothing.
 use native.Mathlib.Numerals.{add-one}
-use Rattle.form.specs.Layout.{removed}
+use Rattle.form.specs.Form.{removed}
 use native.Mathlib.Omega.{arith}
 use borrow.Author.Needs.{needs}
 use Rattle.form.proofs.take_out.Statement.{statement}

@@ -3,7 +3,7 @@
 use borrow.Author.Tests.{not-true, not-false}
 use mathlib.Core.Path.{sym, _∙_}
 use native.Mathlib.Omega.{arith}
-use Rattle.book.specs.CheckLaws.{no-small, no-large, no-size, no-front, no-room, frame-of}
+use Rattle.book.specs.CheckV1Laws.{no-small, no-large, no-size, no-front, no-room, frame-of}
 use native.Mathlib.Omega.{arith}
 use borrow.Author.Needs.{needs}
 use Rattle.book.proofs.check.frame.Statement.{statement}

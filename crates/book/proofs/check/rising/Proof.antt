@@ -3,8 +3,10 @@
 use mathlib.Core.Path.{_≡_, refl, sym, ap, _∙_}
 use Prim.Native.Nat.{ℕ, _≤_, _<_, _-_, _+_, _*_}
 use borrow.Author.Count.{below-more}
-use Rattle.form.specs.Slots.{tells-true, tells-false}
-use Rattle.book.specs.CheckLaws.{Rises, rises-yes, rises-no}
+use Rattle.form.specs.Tells.{tells-true, tells-false}
+use Rattle.form.specs.V1.{V1}
+use Rattle.book.specs.Check.{Rises}
+use Rattle.book.specs.CheckV1Laws.{rises-yes, rises-no}
 use borrow.Author.Needs.{needs}
 use native.Mathlib.Omega.{arith}
 use Rattle.book.proofs.check.rising.Statement.{statement}
@@ -14,7 +16,7 @@ use Rattle.book.proofs.check.rising.Lts as lts
 use Rattle.form.proofs.compare_next.Reads as compare-next-reads
 
 abbrev Inv-loop : tie.InvT-loop
-Inv-loop book n i₀ i = (i ≤ n) × ((j : ℕ) → j < i → Rises book j)
+Inv-loop book n i₀ i = (i ≤ n) × ((j : ℕ) → j < i → Rises V1 book j)
 
 abbrev μ-loop : tie.MeasureT-loop
 μ-loop book n i₀ i = n - i
@@ -41,7 +43,7 @@ compare-next-requires c κs = search needs
 
 -- src/check.rt:96:13
 returns : tie.Need-returns Inv-loop μ-loop
-returns c = tells-false (λ g. rises-no _ _ _ (c .before .before .before .loop .i) _ refl (omega arith) (c .before .compare-next .ensures) (c .if1 .taken) (g (c .before .before .before .loop .i) (omega arith)))
+returns c = tells-false (λ g. rises-no _ (c .before .before .before .loop .i) _ (c .before .compare-next .ensures) (c .if1 .taken) (g (c .before .before .before .loop .i) (omega arith)))
 
 -- src/check.rt:98:9
 add-i : tie.Need-add-i Inv-loop μ-loop
@@ -53,7 +55,7 @@ loop-less c = omega arith
 
 -- src/check.rt:94:5
 loop-again : tie.Need-loop-again Inv-loop μ-loop
-loop-again c = (omega arith, below-more _ (c .before .before .before .loop .i) (c .before .before .before .loop .inv .1) (rises-yes _ _ _ (c .before .before .before .loop .i) _ refl (omega arith) (c .before .compare-next .ensures) (c .if1 .left)))
+loop-again c = (omega arith, below-more _ (c .before .before .before .loop .i) (c .before .before .before .loop .inv .1) (rises-yes _ (c .before .before .before .loop .i) _ (c .before .compare-next .ensures) (c .if1 .left)))
 
 -- src/check.rt:89:1
 returns-2 : tie.Need-returns-2 Inv-loop μ-loop

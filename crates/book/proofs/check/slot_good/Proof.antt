@@ -1,8 +1,8 @@
 -- `book::slot_good` meets its contract.
 -- Assumes nothing.
 use borrow.Author.Tests.{not-true, not-false}
-use Rattle.form.specs.Slots.{tells-false}
-use Rattle.book.specs.CheckLaws.{tells-both}
+use Rattle.form.specs.Tells.{tells-false}
+use Rattle.book.specs.CheckV1Laws.{tells-both}
 use native.Mathlib.Omega.{arith}
 use borrow.Author.Needs.{needs}
 use Rattle.book.proofs.check.slot_good.Statement.{statement}

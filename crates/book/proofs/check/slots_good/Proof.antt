@@ -3,8 +3,9 @@
 use borrow.Author.Tests.{not-true, not-false}
 use Prim.Native.Nat.{ℕ, _≤_, _<_, _-_, _+_, _*_}
 use borrow.Author.Count.{below-more}
-use Rattle.form.specs.Slots.{tells-true, tells-false}
-use Rattle.book.specs.CheckLaws.{SlotGood}
+use Rattle.form.specs.Tells.{tells-true, tells-false}
+use Rattle.form.specs.V1.{V1}
+use Rattle.book.specs.Check.{SlotGood}
 use borrow.Author.Needs.{needs}
 use native.Mathlib.Omega.{arith}
 use Rattle.book.proofs.check.slots_good.Statement.{statement}
@@ -14,7 +15,7 @@ use Rattle.book.proofs.check.slots_good.Lts as lts
 use Rattle.book.proofs.check.slot_good.Reads as slot-good-reads
 
 abbrev Inv-loop : tie.InvT-loop
-Inv-loop book n i₀ i = (i ≤ n) × ((j : ℕ) → j < i → SlotGood book j)
+Inv-loop book n i₀ i = (i ≤ n) × ((j : ℕ) → j < i → SlotGood V1 book j)
 
 abbrev μ-loop : tie.MeasureT-loop
 μ-loop book n i₀ i = n - i

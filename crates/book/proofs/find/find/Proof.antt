@@ -1,6 +1,9 @@
 -- `book::find` meets its contract.
 -- Assumes nothing.
-use Rattle.book.specs.FindLaws.{holds-size, free-end, free-other, taken-here}
+use Rattle.form.specs.V1.{V1}
+use Rattle.form.specs.V1Laws.{v1-lawful}
+use Rattle.book.specs.BookLaws.{sizes}
+use Rattle.book.specs.FindLaws.{free-end, free-other, taken-here}
 use native.Mathlib.Omega.{arith}
 use borrow.Author.Needs.{needs}
 use Rattle.book.proofs.find.find.Statement.{statement}
@@ -16,7 +19,7 @@ place-requires c κs = search needs
 
 -- src/find.rt:40:9
 returns : tie.Need-returns
-returns c = free-end _ _ _ _ (c .before .place .ensures) (c .if1 .taken)
+returns c = free-end V1 _ _ _ _ (c .before .place .ensures) (c .if1 .taken)
 
 -- src/find.rt:42:30
 mul-compare-key : tie.Need-mul-compare-key
@@ -28,15 +31,15 @@ add-compare-key c = search needs
 
 -- src/find.rt:42:8
 compare-key-requires : tie.Need-compare-key-requires
-compare-key-requires c κs = omega (arith, holds-size _ (c .before .before .before .before .args .key .now) _ (c .before .before .before .before .pre), c .before .place .ensures .within)
+compare-key-requires c κs = omega (arith, sizes V1 v1-lawful _ _ (c .before .before .before .before .pre) .used, c .before .place .ensures .within)
 
 -- src/find.rt:43:9
 returns-2 : tie.Need-returns-2
-returns-2 c = free-other _ _ _ _ _ (c .before .before .before .place .ensures) (c .before .compare-key .ensures) (c .if2 .taken)
+returns-2 c = free-other V1 _ _ _ _ _ (c .before .before .before .place .ensures) (c .before .compare-key .ensures) (c .if2 .taken)
 
 -- src/find.rt:34:1
 returns-3 : tie.Need-returns-3
-returns-3 c = taken-here _ _ _ _ _ (c .before .before .before .place .ensures) (c .before .before .if1 .left) (c .before .compare-key .ensures) (c .if2 .left)
+returns-3 c = taken-here V1 _ _ _ _ _ (c .before .before .before .place .ensures) (c .before .before .if1 .left) (c .before .compare-key .ensures) (c .if2 .left)
 
 pub find-spec : {M : Type 1} → statement M
 find-spec =

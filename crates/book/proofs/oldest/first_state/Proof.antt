@@ -2,7 +2,10 @@
 -- Assumes nothing.
 use native.Mathlib.Omega.{arith}
 use Prim.Native.Nat.{ℕ, _≤_, _<_, _-_, _+_, _*_}
-use Rattle.book.specs.OldestLaws.{FirstFrom, first-start, records-room, first-here, first-next, first-none}
+use Rattle.form.specs.V1.{V1}
+use Rattle.form.specs.V1Laws.{v1-lawful}
+use Rattle.book.specs.BookLaws.{sizes}
+use Rattle.book.specs.OldestLaws.{FirstFrom, first-start, first-here, first-next, first-none}
 use borrow.Author.Needs.{needs}
 use native.Mathlib.Omega.{arith}
 use Rattle.book.proofs.oldest.first_state.Statement.{statement}
@@ -13,14 +16,14 @@ use Rattle.book.proofs.oldest.state_in.Reads as state-in-reads
 use Rattle.form.proofs.key_at.Reads as key-at-reads
 
 abbrev Inv-loop : tie.InvT-loop
-Inv-loop book n client i₀ i = (i ≤ n) × FirstFrom book client i
+Inv-loop book n client i₀ i = (i ≤ n) × FirstFrom V1 book client i
 
 abbrev μ-loop : tie.MeasureT-loop
 μ-loop book n client i₀ i = n - i
 
 -- src/oldest.rt:48:5
 loop-holds : tie.Need-loop-holds Inv-loop μ-loop
-loop-holds c = (omega arith, first-start _ _)
+loop-holds c = (omega arith, first-start V1 _ _)
 
 -- src/oldest.rt:49:79
 mul-key-at : tie.Need-mul-key-at Inv-loop μ-loop
@@ -32,7 +35,7 @@ add-key-at c = search needs
 
 -- src/oldest.rt:49:62
 key-at-requires : tie.Need-key-at-requires Inv-loop μ-loop
-key-at-requires c κs = omega (arith, records-room _ _ (c .before .before .before .before .pre))
+key-at-requires c κs = omega (arith, sizes V1 v1-lawful _ _ (c .before .before .before .before .pre) .used)
 
 -- src/oldest.rt:49:53
 state-in-requires : tie.Need-state-in-requires Inv-loop μ-loop
@@ -44,7 +47,7 @@ enum-known-number c = search needs
 
 -- src/oldest.rt:50:13
 returns : tie.Need-returns Inv-loop μ-loop
-returns c = first-here _ _ _ (c .before .before .before .before .before .before .before .before .before .pre) (c .before .before .before .before .before .before .loop .i) (c .before .before .before .before .before .before .loop .inv .1) (omega arith) _ (c .before .before .before .before .key-at .ensures) _ (c .before .before .before .state-in .ensures) _ _ (c .before .number .given .1)
+returns c = first-here V1 v1-lawful _ _ (c .before .before .before .before .before .before .before .before .before .pre) _ (c .before .before .before .before .before .before .loop .i) (c .before .before .before .before .before .before .loop .inv .1) (omega arith) _ (c .before .before .before .before .key-at .ensures) _ (c .before .before .before .state-in .ensures) _ _ (c .before .number .given .1)
 
 enum-told : tie.Need-enum-told Inv-loop μ-loop
 enum-told c = search needs
@@ -59,11 +62,11 @@ loop-less c = omega arith
 
 -- src/oldest.rt:48:5
 loop-again : tie.Need-loop-again Inv-loop μ-loop
-loop-again c = (omega arith, first-next _ _ _ (c .before .before .before .before .before .before .before .before .pre) (c .before .before .before .before .before .loop .i) (c .before .before .before .before .before .loop .inv .1) (omega arith) _ (c .before .before .before .key-at .ensures) _ (c .before .before .state-in .ensures) (c .enum-told .given .1))
+loop-again c = (omega arith, first-next V1 v1-lawful _ _ (c .before .before .before .before .before .before .before .before .pre) _ (c .before .before .before .before .before .loop .i) (c .before .before .before .before .before .loop .inv .1) (omega arith) _ (c .before .before .before .key-at .ensures) _ (c .before .before .state-in .ensures) (c .enum-told .given .1))
 
 -- src/oldest.rt:43:1
 returns-2 : tie.Need-returns-2 Inv-loop μ-loop
-returns-2 c = first-none _ _ _ (c .before .before .before .before .pre) (c .before .loop .i) (c .before .loop .inv .1) (omega arith)
+returns-2 c = first-none V1 v1-lawful _ _ (c .before .before .before .before .pre) _ (c .before .loop .i) (c .before .loop .inv .1) (omega arith)
 
 pub first-state-spec : {M : Type 1} → statement M
 first-state-spec =

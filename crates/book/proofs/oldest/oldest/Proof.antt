@@ -1,6 +1,7 @@
 -- `book::oldest` meets its contract.
 -- Assumes nothing.
 use mathlib.Core.Path.{refl}
+use Rattle.form.specs.V1.{V1}
 use Rattle.book.specs.Oldest as o
 use Rattle.book.specs.OldestLaws.{oldest-refused, oldest-by}
 use Rattle.book.specs.RecordLaws.{judged-holds, judged-none}
@@ -36,7 +37,7 @@ validate-client-identifier-requires c κs = search needs
 
 -- src/oldest.rt:70:9
 returns-2 : tie.Need-returns-2
-returns-2 c = oldest-refused _ _ _ (judged-holds _ _ _ (c .before .before .before .before .before .check-book .ensures) (c .before .before .before .n .given .1)) _ (c .before .validate-client-identifier .ensures) (c .if1 .taken)
+returns-2 c = oldest-refused V1 _ _ _ (judged-holds _ _ _ (c .before .before .before .before .before .check-book .ensures) (c .before .before .before .n .given .1)) _ (c .before .validate-client-identifier .ensures) (c .if1 .taken)
 
 -- src/oldest.rt:76:46
 first-state-requires : tie.Need-first-state-requires
@@ -52,11 +53,11 @@ enum-told-2 c = search needs
 
 -- src/oldest.rt:77:9
 returns-3 : tie.Need-returns-3
-returns-3 c = oldest-by _ _ _ (judged-holds _ _ _ (c .before .before .before .before .before .before .before .before .check-book .ensures) (c .before .before .before .before .before .before .n .given .1)) _ (c .before .before .before .before .validate-client-identifier .ensures) (c .before .before .before .if1 .left) _ (c .before .before .first-state .ensures) _ (c .enum-told2 .given .1)
+returns-3 c = oldest-by V1 _ _ _ (judged-holds _ _ _ (c .before .before .before .before .before .before .before .before .check-book .ensures) (c .before .before .before .before .before .before .n .given .1)) _ (c .before .before .before .before .validate-client-identifier .ensures) (c .before .before .before .if1 .left) _ (c .before .before .first-state .ensures) _ (c .enum-told2 .given .1)
 
 -- src/oldest.rt:58:1
 returns-4 : tie.Need-returns-4
-returns-4 c = oldest-by _ _ _ (judged-holds _ _ _ (c .before .before .before .before .before .before .before .before .before .check-book .ensures) (c .before .before .before .before .before .before .before .n .given .1)) _ (c .before .before .before .before .before .validate-client-identifier .ensures) (c .before .before .before .before .if1 .left) _ (c .before .before .before .first-state .ensures) _ (c .before .number .given .1)
+returns-4 c = oldest-by V1 _ _ _ (judged-holds _ _ _ (c .before .before .before .before .before .before .before .before .before .check-book .ensures) (c .before .before .before .before .before .before .before .n .given .1)) _ (c .before .before .before .before .before .validate-client-identifier .ensures) (c .before .before .before .before .if1 .left) _ (c .before .before .before .first-state .ensures) _ (c .before .number .given .1)
 
 pub oldest-spec : {M : Type 1} → statement M
 oldest-spec =

@@ -1,29 +1,29 @@
--- The slot at the front of some bytes: the record in it, and when it is a record's.
+-- Laws of the first version: it is lawful, and a slot is a record's exactly when the bytes behind its key are zero.
 -- Assumes nothing.
 use mathlib.Core.Path.{_≡_, refl, sym, ap, _∙_}
 use mathlib.Core.List.{List, [], _∷_, _++_, append-assoc}
-use mathlib.Core.Bool.{Bool, true, false, and-true}
-use Prim.Native.Nat.{ℕ, zero, suc, _+_, _*_, _-_, _<_, _≤_}
+use mathlib.Core.Bool.{Bool, true, false}
+use Prim.Native.Nat.{ℕ, zero, suc, _+_, _*_, _-_, _/_, _%_, _<_, _≤_}
 use native.Mathlib.Omega.{arith}
-use lib.Dec.{eqb, ltb}
-use lib.ListN.{length, take, drop, getD, length-append, length-take, length-drop, take-append-drop, List·getD-append, getD-replicate}
-use lib.Seq.{slice, take-at, drop-at, drop-drop, drop-append-add, length-take-le, take-add, take-suc, getD-take, getD-drop, getD-append-add, length-slice}
-use borrow.Author.Tests.{eqb-true, eqb-false, lt-ltb, le-ltb}
+use lib.Dec.{eqb}
+use lib.ListN.{length, take, drop, getD, length-append, length-drop, List·getD-append, getD-replicate}
+use lib.Seq.{take-at, drop-at, drop-drop, length-take-le, take-add, take-suc, getD-take, getD-drop, getD-append-add}
 use Rattle.text.specs.Part.{every}
-use Rattle.text.specs.PartLaws.{top, every-top, and-left, and-right}
+use Rattle.text.specs.Put.{put}
 use Rattle.keys.specs.Act.{Rec}
-use Rattle.form.specs.Layout.{zeros, length-zeros}
-use Rattle.form.specs.V1.{V1, Fit, slot, slot-length, padded}
-use Rattle.form.specs.Search.{stored}
+use Rattle.form.specs.Form.{zeros, SlotOk}
+use Rattle.form.specs.FormLaws.{Lawful, length-zeros, all-zero, blank-zeros, zeros-blank}
+use Rattle.form.specs.MovesLaws.{over-join}
+use Rattle.form.specs.V1.{V1, Fit, padded, slot, header, recordOf, stored}
+use Rattle.form.specs.Tells.{Tells, tells-true, tells-false}
 
--- the record in the slot at the front
-unfoldable pub recordOf : List ℕ → Rec
-recordOf x = (take (getD x 0 0) (drop 1 x), take 32 (drop 256 x))
+pub length-padded : (k : List ℕ) → length k ≤ 255 → length (padded k) ≡ 255
+unfolding padded
+length-padded k h = omega (arith, length-append k (zeros (255 - length k)), length-zeros (255 - length k))
 
--- the slot at the front is a record's, filled with zeros
-pub record SlotOk (x : List ℕ) : Type 0 where
-  pub bytes : take 288 x ≡ slot (recordOf x)
-  pub fit : Fit (recordOf x)
+pub slot-length : (r : Rec) → Fit r → length (slot r) ≡ 288
+unfolding slot
+slot-length r h = omega (arith, length-append (padded (r .0)) (r .1), length-padded (r .0) (h .0))
 
 -- the record of a slot
 pub record-of-slot : (r : Rec) (tail : List ℕ) → Fit r → recordOf (slot r ++ tail) ≡ r
@@ -39,26 +39,49 @@ record-of-slot r tail h =
     let b : take 32 (drop 255 x) ≡ r .1 = ap (λ (l : List ℕ). take 32 (drop 255 l)) e₂ ∙ ap (λ (l : List ℕ). take 32 l) (drop-at (k ++ z) (r .1 ++ tail) 255 lk) ∙ take-at (r .1) tail 32 (h .1) in
     λ i. (a i, b i)
 
--- a flag that tells whether a thing holds
-pub record Tells (r : Bool) (P : Type 0) : Type 0 where
-  pub holds : r ≡ true → P
-  pub fails : r ≡ false → P → ⊥
+header-length : (n : ℕ) → length (header n) ≡ 8
+unfolding header
+header-length n = refl
 
-pub tells-true : {P : Type 0} → P → Tells true P
-tells-true p = record { holds = λ e. p; fails = λ e q. let z : _≡_ {A = ℕ} 0 1 = cc in omega arith }
+header-inj : (m n : ℕ) → header m ≡ header n → m ≡ n
+unfolding header
+header-inj m n e =
+    let a : m / 256 ≡ n / 256 = cc in
+    let b : m % 256 ≡ n % 256 = cc in
+    omega arith
 
-pub tells-false : {P : Type 0} → (P → ⊥) → Tells false P
-tells-false n = record { holds = λ e. absurd (let z : _≡_ {A = ℕ} 0 1 = cc in let y : ⊥ = omega arith in y); fails = λ e q. n q }
+pub v1-lawful : Lawful V1
+v1-lawful =
+    record {
+      header-length = λ e n. header-length n;
+      header-inj = λ d e m n q. (refl, header-inj m n q);
+      slot-length = slot-length;
+      record-of-slot = record-of-slot;
+      wide = omega arith;
+    }
 
--- A slot is in order exactly when the bytes behind its key are zero.
-pub all-zero : (l : List ℕ) → ((i : ℕ) → i < length l → getD l i 0 ≡ 0) → l ≡ zeros (length l)
-all-zero [] h = refl
-all-zero (x ∷ l) h =
-    let a : x ≡ 0 = h 0 (omega arith) in
-    let b : l ≡ zeros (length l) = all-zero l (λ i k. h (suc i) (omega arith)) in
-    λ i. a i ∷ b i
+-- ---- a slot in four pieces, and the header's bytes
+-- a slot written in four pieces
+pub slot-pieces : (b : List ℕ) (at : ℕ) (k v : List ℕ) → at + 288 ≤ length b → length k ≤ 255 → length v ≡ 32
+    → put (put (put (put b at (length k ∷ [])) (at + 1) k) (at + 1 + length k) (zeros (255 - length k))) (at + 256) v ≡ put b at (slot (k, v))
+unfolding slot padded
+slot-pieces b at k v hb hk hv =
+    let z : List ℕ = zeros (255 - length k) in
+    let lz : length z ≡ 255 - length k = length-zeros (255 - length k) in
+    ap (λ (x : List ℕ). put (put x (at + 1 + length k) z) (at + 256) v) (over-join b at (length k ∷ []) k (at + 1) refl (omega arith))
+    ∙ ap (λ (x : List ℕ). put x (at + 256) v) (over-join b at (length k ∷ k) z (at + 1 + length k) (omega arith) (omega arith))
+    ∙ over-join b at ((length k ∷ k) ++ z) v (at + 256) (omega (arith, length-append k z)) (omega arith)
 
-pub slot-of-zeros : (x : List ℕ) → 288 ≤ length x → getD x 0 0 ≤ 255 → ((j : ℕ) → getD x 0 0 + 1 ≤ j → j < 256 → getD x j 0 ≡ 0) → SlotOk x
+-- the header's bytes, where the two of the count are bytes
+pub header-bytes : (x y : ℕ) → x < 256 → y < 256 → header (256 * x + y) ≡ 72 ∷ 80 ∷ 66 ∷ 0 ∷ 1 ∷ x ∷ y ∷ 0 ∷ []
+unfolding header
+header-bytes x y h k =
+    let a : (256 * x + y) / 256 ≡ x = omega arith in
+    let b : (256 * x + y) % 256 ≡ y = omega arith in
+    rw (a, b)
+
+-- ---- when a slot is a record's
+pub slot-of-zeros : (x : List ℕ) → 288 ≤ length x → getD x 0 0 ≤ 255 → ((j : ℕ) → getD x 0 0 + 1 ≤ j → j < 256 → getD x j 0 ≡ 0) → SlotOk V1 x
 unfolding recordOf slot padded
 slot-of-zeros x hx hn zs = record { bytes = bytes; fit = (omega (arith, lk), length-take-le 32 (drop 256 x) (omega (arith, length-drop 256 x))) }
   where
@@ -106,7 +129,7 @@ slot-of-zeros x hx hn zs = record { bytes = bytes; fit = (omega (arith, lk), len
         ∙ ap (λ (l : List ℕ). n ∷ l) (ap (λ (q : ℕ). take q y) (let e : 287 ≡ n + (m + 32) = omega arith in e) ∙ take-add n (m + 32) y ∙ ap (λ (l : List ℕ). k ++ l) (take-add m 32 w ∙ ap (λ (l : List ℕ). l ++ take 32 (drop m w)) pad ∙ ap (λ (l : List ℕ). zeros m ++ take 32 l) last) ∙ sym (append-assoc k (zeros m) (take 32 (drop 256 x))))
         ∙ ap (λ (q : ℕ). q ∷ ((k ++ zeros (255 - q)) ++ take 32 (drop 256 x))) (sym lk)
 
-pub zeros-of-slot : (x : List ℕ) → 288 ≤ length x → getD x 0 0 ≤ 255 → SlotOk x → (j : ℕ) → getD x 0 0 + 1 ≤ j → j < 256 → getD x j 0 ≡ 0
+pub zeros-of-slot : (x : List ℕ) → 288 ≤ length x → getD x 0 0 ≤ 255 → SlotOk V1 x → (j : ℕ) → getD x 0 0 + 1 ≤ j → j < 256 → getD x j 0 ≡ 0
 unfolding recordOf slot padded
 zeros-of-slot x hx hn s j lo hi =
     let n : ℕ = getD x 0 0 in
@@ -132,37 +155,13 @@ module _ (b : List ℕ) (at : ℕ) (hb : at + 288 ≤ length b) (hn : getD b at 
   head-is : getD (drop at b) 0 0 ≡ getD b at 0
   head-is = getD-drop at b 0 0 ∙ ap (λ (q : ℕ). getD b q 0) (let e : at + 0 ≡ at = omega arith in e)
 
-  pub ok-at : ((j : ℕ) → at + 1 + getD b at 0 ≤ j → j < at + 256 → getD b j 0 ≡ 0) → SlotOk (drop at b)
+  pub ok-at : ((j : ℕ) → at + 1 + getD b at 0 ≤ j → j < at + 256 → getD b j 0 ≡ 0) → SlotOk V1 (drop at b)
   ok-at h = slot-of-zeros (drop at b) (omega (arith, lx)) (omega (arith, head-is)) (λ j lo hi. getD-drop at b j 0 ∙ h (at + j) (omega (arith, head-is)) (omega arith))
 
-  pub zero-at : SlotOk (drop at b) → (j : ℕ) → at + 1 + getD b at 0 ≤ j → j < at + 256 → getD b j 0 ≡ 0
+  pub zero-at : SlotOk V1 (drop at b) → (j : ℕ) → at + 1 + getD b at 0 ≤ j → j < at + 256 → getD b j 0 ≡ 0
   zero-at s j lo hi =
       let z = zeros-of-slot (drop at b) (omega (arith, lx)) (omega (arith, head-is)) s (j - at) (omega (arith, head-is)) (omega arith) in
       ap (λ (q : ℕ). getD b q 0) (let e : j ≡ at + (j - at) = omega arith in e) ∙ sym (getD-drop at b (j - at) 0) ∙ z
-
--- ---- zeros, by one test over all bytes
-zero-test : (b : ℕ) → eqb b 0 ≡ ltb b 1
-zero-test b = go (eqb b 0) refl
-  where
-    go : (v : Bool) → eqb b 0 ≡ v → v ≡ ltb b 1
-    go true e = sym (lt-ltb b 1 (omega (arith, eqb-true b 0 e)))
-    go false e = sym (le-ltb b 1 (omega (arith, eqb-false b 0 e)))
-
-pub blank-top : (s : List ℕ) → every (λ b. eqb b 0) s ≡ ltb (top (λ b. b) 0 s) 1
-blank-top s = every-top (λ b. eqb b 0) (λ b. b) 1 zero-test (omega arith) s
-
-pub blank-zeros : (s : List ℕ) → every (λ b. eqb b 0) s ≡ true → s ≡ zeros (length s)
-unfolding every
-blank-zeros [] h = refl
-blank-zeros (x ∷ s) h =
-    let a : x ≡ 0 = eqb-true x 0 (and-left (eqb x 0) _ h) in
-    let b : s ≡ zeros (length s) = blank-zeros s (and-right (eqb x 0) _ h) in
-    λ i. a i ∷ b i
-
-pub zeros-blank : (n : ℕ) → every (λ b. eqb b 0) (zeros n) ≡ true
-unfolding every
-zeros-blank zero = refl
-zeros-blank (suc n) = zeros-blank n
 
 -- a part of some bytes
 pub part-at : (f m : ℕ) (b : List ℕ) (i : ℕ) → i < m → getD (take m (drop f b)) i 0 ≡ getD b (f + i) 0
@@ -173,7 +172,7 @@ length-part f m b h = length-take-le m (drop f b) (omega (arith, length-drop f b
 
 -- the slot is a record's exactly where the bytes from behind its key on are blank
 pub tells-slot : (b : List ℕ) (at : ℕ) → at + 288 ≤ length b → getD b at 0 ≤ 255 → (f m : ℕ) → f ≡ at + 1 + getD b at 0 → f + m ≡ at + 256 → (r : Bool)
-    → r ≡ every (λ x. eqb x 0) (take m (drop f b)) → Tells r (SlotOk (drop at b))
+    → r ≡ every (λ x. eqb x 0) (take m (drop f b)) → Tells r (SlotOk V1 (drop at b))
 tells-slot b at hb hn f m ef em r e = go r e
   where
     part : List ℕ
@@ -182,7 +181,7 @@ tells-slot b at hb hn f m ef em r e = go r e
     lp : length part ≡ m
     lp = length-part f m b (omega arith)
 
-    go : (v : Bool) → v ≡ every (λ x. eqb x 0) part → Tells v (SlotOk (drop at b))
+    go : (v : Bool) → v ≡ every (λ x. eqb x 0) part → Tells v (SlotOk V1 (drop at b))
     go true h =
         let z : part ≡ zeros (length part) = blank-zeros part (sym h) in
         tells-true (ok-at b at hb hn (λ j lo hi.

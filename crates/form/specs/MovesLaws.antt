@@ -1,4 +1,5 @@
--- Bytes moved within a buffer, and what that leaves of a buffer that is known in parts. Assumes nothing.
+-- Laws of moved bytes, and what a move leaves of a buffer that is known in parts.
+-- Assumes nothing.
 use mathlib.Core.Path.{_≡_, refl, sym, ap, _∙_}
 use mathlib.Core.List.{List, [], _∷_, _++_, append-assoc, append-nil}
 use Prim.Native.Nat.{ℕ, zero, suc, _+_, _-_, _<_, _≤_}
@@ -7,12 +8,9 @@ use native.Mathlib.Numerals.{add-one}
 use native.Mathlib.Omega.{arith}
 use lib.ListN.{length, take, drop, getD, set, length-append, length-take, length-drop, List·getD-append, take-append-drop}
 use Rattle.text.specs.Put.{put}
+use Rattle.form.specs.Moves.{raised, lowered}
 use Rattle.text.specs.PutLaws.{length-put}
 use lib.Seq.{slice, slice-empty, slice-cons, length-slice, take-suc, set-at, getD-take, append-snoc, length-take-le, take-at, drop-at, take-append-le, drop-append-add, take-append-add, drop-drop, set-split, drop-cons, getD-append-add, getD-drop, drop-append-le}
-
--- the bytes from f up to t, moved up by w: what stood from t to t + w is lost, and from f to f + w nothing changes
-unfoldable pub raised : ℕ → ℕ → ℕ → List ℕ → List ℕ
-raised f t w b = take (f + w) b ++ (slice f t b ++ drop (t + w) b)
 
 pub raised-none : (t w : ℕ) (b : List ℕ) → b ≡ raised t t w b
 unfolding raised
@@ -92,21 +90,10 @@ pub over-set : (b : List ℕ) (f v : ℕ) → f < length b → set b f v ≡ put
 unfolding put
 over-set b f v h = set-split b f v h ∙ ap (λ (n : ℕ). take f b ++ (v ∷ drop n b)) (sym (add-one f))
 
--- a copy, element by element: after j of them
+-- nothing written
 pub over-start : (b : List ℕ) (f : ℕ) → b ≡ put b f []
 unfolding put
 over-start b f = sym (ap (λ (n : ℕ). take f b ++ drop n b) (add-zero f) ∙ take-append-drop f b)
-
-pub over-turn : (b : List ℕ) (f : ℕ) (x : List ℕ) (j : ℕ) → j < length x → f + length x ≤ length b → set (put b f (take j x)) (f + j) (getD x j 0) ≡ put b f (take (j + 1) x)
-over-turn b f x j h k =
-    let l : length (take j x) ≡ j = length-take-le j x (omega arith) in
-    over-set (put b f (take j x)) (f + j) (getD x j 0) (omega (arith, length-put b f (take j x) (omega arith)))
-    ∙ over-join b f (take j x) (getD x j 0 ∷ []) (f + j) (omega arith) (omega arith)
-    ∙ ap (λ (l : List ℕ). put b f l) (sym (take-suc x j 0 h) ∙ ap (λ (n : ℕ). take n x) (sym (add-one j)))
-
--- the bytes from f up to t, moved down by w
-unfoldable pub lowered : ℕ → ℕ → ℕ → List ℕ → List ℕ
-lowered f t w b = take (f - w) b ++ (slice f t b ++ drop (t - w) b)
 
 pub lowered-parts : (pre gap mid post : List ℕ) (f t w : ℕ) → length pre + w ≡ f → length gap ≡ w → f + length mid ≡ t
     → lowered f t w (pre ++ (gap ++ (mid ++ post))) ≡ pre ++ (mid ++ drop (length mid) (gap ++ (mid ++ post)))
@@ -132,10 +119,6 @@ lowered-parts pre gap mid post f t w ef eg et =
 pub lowered-none : (f w : ℕ) (b : List ℕ) → w ≤ f → b ≡ lowered f f w b
 unfolding lowered
 lowered-none f w b h = sym (rw (slice-empty f b) (take-append-drop (f - w) b))
-
-pub length-lowered : (f t w : ℕ) (b : List ℕ) → w ≤ f → f ≤ t → t ≤ length b → length (lowered f t w b) ≡ length b
-unfolding lowered
-length-lowered f t w b g h k = simp (length-append, length-take, length-drop) (omega arith)
 
 -- a turn of the loop that moves down: from t up to t + 1
 pub lowered-turn : (f t w : ℕ) (b : List ℕ) → w ≤ f → f ≤ t → t < length b → set (lowered f t w b) (t - w) (getD (lowered f t w b) t 0) ≡ lowered f (t + 1) w b
