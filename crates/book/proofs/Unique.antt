@@ -3,9 +3,8 @@
 use mathlib.Core.Path.{_≡_, sym, _∙_}
 use denote.Ref.{now}
 use Rattle.text.specs.Outcome.{One, OneWith}
-use Rattle.form.specs.V1.{V1}
-use Rattle.form.specs.V1Laws.{v1-lawful}
-use Rattle.book.specs.BookLaws.{one-judged}
+use Rattle.book.specs.Book.{Current}
+use Rattle.book.specs.BookLaws.{lawful, one-judged}
 use Rattle.book.specs.OutcomeLaws.{one-changed, one-found, one-made}
 use Rattle.book.specs.OldestLaws.{one-oldest}
 use Rattle.book.proofs.check.check_book.Reads as check-book
@@ -16,19 +15,19 @@ use Rattle.book.proofs.lookup.Reads as lookup
 use Rattle.book.proofs.oldest.oldest.Reads as oldest
 
 pub one-check-book : One check-book.Post
-one-check-book κs a r₁ r₂ s₁ s₂ p q = one-judged V1 v1-lawful _ _ _ p q
+one-check-book κs a r₁ r₂ s₁ s₂ p q = one-judged Current lawful _ _ _ p q
 
 pub one-new-book : OneWith new-book.Post (λ κs s. now (s .0))
-one-new-book κs a r₁ r₂ s₁ s₂ p q = one-made v1-lawful tt _ _ _ _ _ p q
+one-new-book κs a r₁ r₂ s₁ s₂ p q = one-made lawful tt _ _ _ _ _ p q
 
 pub one-write : OneWith write.Post (λ κs s. now (s .0))
-one-write κs a r₁ r₂ s₁ s₂ p q = one-changed v1-lawful p q
+one-write κs a r₁ r₂ s₁ s₂ p q = one-changed lawful p q
 
 pub one-remove : OneWith remove.Post (λ κs s. now (s .0))
-one-remove κs a r₁ r₂ s₁ s₂ p q = one-changed v1-lawful p q
+one-remove κs a r₁ r₂ s₁ s₂ p q = one-changed lawful p q
 
 pub one-lookup : OneWith lookup.Post (λ κs s. now (s .1 .1 .0))
-one-lookup κs a r₁ r₂ s₁ s₂ p q = one-found v1-lawful p q
+one-lookup κs a r₁ r₂ s₁ s₂ p q = one-found lawful p q
 
 pub one-oldest-call : One oldest.Post
-one-oldest-call κs a r₁ r₂ s₁ s₂ p q = one-oldest V1 v1-lawful _ _ _ _ p q
+one-oldest-call κs a r₁ r₂ s₁ s₂ p q = one-oldest Current lawful _ _ _ _ p q

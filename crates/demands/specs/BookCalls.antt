@@ -14,8 +14,9 @@ use borrow.Fn.Kinds.{endedOf}
 use denote.Triple.Clauses.{AtExit}
 use Rattle.keys.specs.Act.{Seen}
 use Rattle.keys.specs.Calls.{Asked, to-write, to-remove, to-look, Call, look, meaning}
+use Rattle.book.specs.Book.{Current}
 use Rattle.book.specs.Outcome.{Found, Wrote, Removed, Looked}
-use Rattle.demands.specs.Held.{Permitted}
+use Rattle.demands.specs.Permitted.{Permitted}
 use Rattle.demands.specs.KeepsLaws.{changed-keeps, found-keeps}
 use Rattle.demands.specs.Demand3.{Taken, Demand3}
 use Rattle.demands.specs.Demand3Laws as laws
@@ -65,19 +66,19 @@ pub record Looks (b t out : List ℕ) (r : ℕ) (out₁ : List ℕ) : Type 0 whe
   pub out-out : now (exits .1 .1 .0) ≡ out₁
   pub ensures : lr.Post lifetimes args result exits
 
-pub wrote : (b t v : List ℕ) (r : ℕ) (b₁ : List ℕ) → Writes b t v r b₁ → Wrote b t v r b₁
+pub wrote : (b t v : List ℕ) (r : ℕ) (b₁ : List ℕ) → Writes b t v r b₁ → Wrote Current b t v r b₁
 wrote b t v r b₁ x =
-    let p : Wrote (now (x .args .0)) (now (x .args .1 .0)) (now (x .args .1 .1 .0)) (x .result) (now (x .exits .0)) = x .ensures in
+    let p : Wrote Current (now (x .args .0)) (now (x .args .1 .0)) (now (x .args .1 .1 .0)) (x .result) (now (x .exits .0)) = x .ensures in
     rw (x .book-in, x .text-in, x .value-in, x .number-out, x .book-out) at p
 
-pub removed : (b t : List ℕ) (r : ℕ) (b₁ : List ℕ) → Removes b t r b₁ → Removed b t r b₁
+pub removed : (b t : List ℕ) (r : ℕ) (b₁ : List ℕ) → Removes b t r b₁ → Removed Current b t r b₁
 removed b t r b₁ x =
-    let p : Removed (now (x .args .0)) (now (x .args .1 .0)) (x .result) (now (x .exits .0)) = x .ensures in
+    let p : Removed Current (now (x .args .0)) (now (x .args .1 .0)) (x .result) (now (x .exits .0)) = x .ensures in
     rw (x .book-in, x .text-in, x .number-out, x .book-out) at p
 
-pub looked : (b t out : List ℕ) (r : ℕ) (out₁ : List ℕ) → Looks b t out r out₁ → Looked b t out r out₁
+pub looked : (b t out : List ℕ) (r : ℕ) (out₁ : List ℕ) → Looks b t out r out₁ → Looked Current b t out r out₁
 looked b t out r out₁ x =
-    let p : Looked (now (x .args .0)) (now (x .args .1 .0)) (now (x .args .1 .1 .0)) (x .result) (now (x .exits .1 .1 .0)) = x .ensures in
+    let p : Looked Current (now (x .args .0)) (now (x .args .1 .0)) (now (x .args .1 .1 .0)) (x .result) (now (x .exits .1 .1 .0)) = x .ensures in
     rw (x .book-in, x .text-in, x .out-in, x .number-out, x .out-out) at p
 
 -- ---- demand 1 of the three functions: a refusal changes no byte
@@ -112,8 +113,8 @@ permits-to (to-write v) b t a b₁ x = (wrote b t v (a .number) b₁ (x .0), x .
 permits-to to-remove b t a b₁ x = (removed b t (a .number) b₁ (x .0), x .1)
 permits-to (to-look room) b t a b₁ x =
     let y = x .0 in
-    let f : Looked b t (y .out) (a .number) (y .out₁) = looked b t (y .out) (a .number) (y .out₁) (y .looks) in
-    (record { out = y .out; out₁ = y .out₁; size = y .size; found = subst (λ (n : ℕ). Found b (meaning (look t n)) (y .out) (a .number) (y .out₁)) (y .size) f; gives = y .gives }, x .1)
+    let f : Looked Current b t (y .out) (a .number) (y .out₁) = looked b t (y .out) (a .number) (y .out₁) (y .looks) in
+    (record { out = y .out; out₁ = y .out₁; size = y .size; found = subst (λ (n : ℕ). Found Current b (meaning (look t n)) (y .out) (a .number) (y .out₁)) (y .size) f; gives = y .gives }, x .1)
 
 -- THE THEOREM: demand 3 of the three functions
 pub demand3 : (x : Taken Does) → Demand3 Does x

@@ -10,10 +10,13 @@ use Rattle.path.specs.declared.Reading.the-variants.{Refused as Unread}
 use Rattle.path.specs.declared.Refusal.the-variants.{NotAPath}
 use Rattle.path.specs.Read.{readPath, keyOf}
 use Rattle.path.specs.Cases.{cases}
-use Rattle.form.specs.Layout.{layout, slots, AllFit, zeros, append-parts}
-use Rattle.form.specs.V1.{V1, slot, header, header-length, header-inj, slot-length}
+use Rattle.form.specs.Form.{layout, slots, AllFit, zeros}
+use Rattle.form.specs.FormLaws.{append-parts}
+use Rattle.form.specs.V1.{slot}
+use Rattle.book.specs.BookLaws.{lawful}
 use Rattle.keys.specs.Act.{Rec}
-use Rattle.book.specs.Book.{AllExact, Book}
+use Rattle.demands.specs.Held.{ProperBook}
+use Rattle.book.specs.Book.{Current, AllExact}
 
 -- the empty text is no path, so no slot of a record begins with 0
 no-empty : keyOf [] ≡ text [] → ⊥
@@ -33,18 +36,18 @@ no-slot r k (suc n) l e = go (r .0) k (head-eq-of-cons-eq e)
     go [] p q = no-empty p
     go (b ∷ w) p q = omega arith
 
-same-count : (s q : List Rec) (m n : ℕ) → AllFit V1 s → AllExact s → AllFit V1 q → AllExact q → slots V1 s ++ zeros m ≡ slots V1 q ++ zeros n → length s ≡ length q
+same-count : (s q : List Rec) (m n : ℕ) → AllFit Current s → AllExact s → AllFit Current q → AllExact q → slots Current s ++ zeros m ≡ slots Current q ++ zeros n → length s ≡ length q
 unfolding slots
 same-count [] [] m n fs es fq eq e = refl
-same-count [] (r ∷ q) m n fs es fq eq e = absurd (no-slot r (eq .0) m (slots V1 q ++ zeros n) (e ∙ append-assoc (slot r) (slots V1 q) (zeros n)))
-same-count (r ∷ s) [] m n fs es fq eq e = absurd (no-slot r (es .0) n (slots V1 s ++ zeros m) (sym e ∙ append-assoc (slot r) (slots V1 s) (zeros m)))
+same-count [] (r ∷ q) m n fs es fq eq e = absurd (no-slot r (eq .0) m (slots Current q ++ zeros n) (e ∙ append-assoc (slot r) (slots Current q) (zeros n)))
+same-count (r ∷ s) [] m n fs es fq eq e = absurd (no-slot r (es .0) n (slots Current s ++ zeros m) (sym e ∙ append-assoc (slot r) (slots Current s) (zeros m)))
 same-count (r ∷ s) (p ∷ q) m n fs es fq eq e =
-    let e′ = sym (append-assoc (slot r) (slots V1 s) (zeros m)) ∙ e ∙ append-assoc (slot p) (slots V1 q) (zeros n) in
-    let w = append-parts (slot r) (slot p) (slots V1 s ++ zeros m) (slots V1 q ++ zeros n) (slot-length r (fs .0) ∙ sym (slot-length p (fq .0))) e′ in
+    let e′ = sym (append-assoc (slot r) (slots Current s) (zeros m)) ∙ e ∙ append-assoc (slot p) (slots Current q) (zeros n) in
+    let w = append-parts (slot r) (slot p) (slots Current s ++ zeros m) (slots Current q ++ zeros n) (lawful .slot-length r (fs .0) ∙ sym (lawful .slot-length p (fq .0))) e′ in
     ap suc (same-count s q m n (fs .1) (es .1) (fq .1) (eq .1) (w .1))
 
-pub count-right : (n m : ℕ) (s : List Rec) → AllFit V1 s → AllExact s → Book (header n ++ (slots V1 s ++ zeros m)) → n ≡ length s
+pub count-right : (n m : ℕ) (s : List Rec) → AllFit Current s → AllExact s → ProperBook (Current .header tt n ++ (slots Current s ++ zeros m)) → n ≡ length s
 unfolding layout
 count-right n m s f e y =
-    let w = append-parts (header n) (header (length (y .records))) _ _ (header-length n ∙ sym (header-length (length (y .records)))) (y .bytes) in
-    header-inj n (length (y .records)) (w .0) ∙ sym (same-count s (y .records) m (288 * (y .slots - length (y .records))) f e (y .fit) (y .exact) (w .1))
+    let w = append-parts (Current .header tt n) (Current .header tt (length (y .records))) _ _ (lawful .header-length tt n ∙ sym (lawful .header-length tt (length (y .records)))) (y .bytes) in
+    lawful .header-inj tt tt n (length (y .records)) (w .0) .1 ∙ sym (same-count s (y .records) m (Current .width * (y .slots - length (y .records))) f e (y .fit) (y .exact) (w .1))

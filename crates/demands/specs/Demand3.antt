@@ -14,7 +14,7 @@ use Rattle.keys.specs.Records.{Key}
 use Rattle.keys.specs.Act.{Seen}
 use Rattle.keys.specs.Calls.{Call, PathOf, SamePath}
 use Rattle.book.specs.Book.{Book}
-use Rattle.demands.specs.Held.{Room, Holds, Looks, Accepted, leaves}
+use Rattle.demands.specs.Held.{Room, Holds, Looks, Accepted, leaves, ProperBook}
 use Rattle.demands.specs.Refusals.{Refused}
 
 module _ (Does : List ℕ → Call → Seen → List ℕ → Type 0) where
@@ -22,7 +22,7 @@ module _ (Does : List ℕ → Call → Seen → List ℕ → Type 0) where
   pub record Taken : Type 0 where
     pub calls : List Call
     pub start : List ℕ
-    pub book : Book start
+    pub book : ProperBook start
     pub room : Room book calls
     pub answers : List Seen
     pub end : List ℕ
@@ -62,7 +62,7 @@ module _ (Does : List ℕ → Call → Seen → List ℕ → Type 0) where
       pub never-full : (i : ℕ) (m : Made i) → m .answer .number ≡ 11 → ⊥
       -- ".. and the book ends with the same bytes, .."
       pub same-bytes : (y : Again) → y .end ≡ x .end
-      pub stays-a-book : Book (x .end)
+      pub stays-a-book : ProperBook (x .end)
       pub same-size : length (x .end) ≡ length (x .start)
       -- ".. in which each path that had an accepted write or removal holds its last accepted write, or nothing if an accepted removal
       -- came after, .."

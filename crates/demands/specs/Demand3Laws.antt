@@ -17,7 +17,8 @@ use Rattle.keys.specs.Act.{Rec, Meaning, addTo, takeFrom, lookIn, act, Seen, se
 use Rattle.keys.specs.ActLaws.{keyIn, ansOf}
 use Rattle.keys.specs.Calls.{Call, meaning, PathOf, SamePath}
 use Rattle.book.specs.Book.{Book, bytesWith, fullIn, acts}
-use Rattle.demands.specs.Held.{Holds, Permitted, Looks, leaves}
+use Rattle.demands.specs.Held.{Holds, Looks, leaves, ProperBook}
+use Rattle.demands.specs.Permitted.{Permitted}
 use Rattle.keys.specs.CallLaws.{Means, declines, writing, removing, looking, means, declined-not}
 use Rattle.demands.specs.HeldLaws.{holds-in}
 use Rattle.demands.specs.PermittedLaws.{no-look-write, no-look-remove, permitted-book, refused-exactly}
@@ -27,7 +28,7 @@ use Rattle.demands.specs.Demand3.{Taken, Again, Made, point, AcceptedAt,
 
 -- ---- one call on a book
 -- 9 is never given there
-not-nine : {b : List ℕ} (x : Book b) {c : Call} {m : Meaning} → Means c m → seen (acts x m .0) .number ≡ 9 → ⊥
+not-nine : {b : List ℕ} (x : ProperBook b) {c : Call} {m : Meaning} → Means c m → seen (acts x m .0) .number ≡ 9 → ⊥
 unfolding act
 not-nine x (declines d) e = declined-not d .1 e
 not-nine x (writing {k = k} {v = v} ok) e = go (get (x .records) k) (fullIn x k (x .records)) e
@@ -57,7 +58,7 @@ not-eleven (looking ok) none e = omega arith
 not-eleven (looking ok) (some u) e = omega arith
 
 -- a lookup's answer
-look-gives : {b : List ℕ} (x : Book b) {c : Call} {m : Meaning} → Means c m → Looks c → (a : Seen) → a ≡ seen (acts x m .0) → a .number ≡ 0
+look-gives : {b : List ℕ} (x : ProperBook b) {c : Call} {m : Meaning} → Means c m → Looks c → (a : Seen) → a ≡ seen (acts x m .0) → a .number ≡ 0
     → (k : Key) × PathOf c k × Holds b k (some (a .value))
 unfolding act
 look-gives x (declines d) w a q e = absurd (declined-not d .0 (sym (ap (λ (y : Seen). y .number) q) ∙ e))
@@ -69,7 +70,7 @@ look-gives {b} x {c} (looking {k = k} ok) w a q e = go (get (x .records) k) refl
     go none g p = let z : _≡_ {A = ℕ} 12 0 = sym (ap (λ (y : Seen). y .number) p) ∙ e in absurd (omega arith)
     go (some u) g p = (k, ok .key .path, record { book = x; is = g ∙ ap (λ (y : Seen). some (y .value)) (sym p) })
 
-look-nothing : {b : List ℕ} (x : Book b) {c : Call} {m : Meaning} → Means c m → Looks c → seen (acts x m .0) .number ≡ 12 → (k : Key) × PathOf c k × Holds b k none
+look-nothing : {b : List ℕ} (x : ProperBook b) {c : Call} {m : Meaning} → Means c m → Looks c → seen (acts x m .0) .number ≡ 12 → (k : Key) × PathOf c k × Holds b k none
 unfolding act
 look-nothing x (declines d) w e = absurd (declined-not d .3 e)
 look-nothing x {c} (writing {v = v} ok) w e = absurd (no-look-write c v (ok .asked) w)
@@ -131,8 +132,8 @@ module _ (Does : List ℕ → Call → Seen → List ℕ → Type 0) (permits : 
       cc
 
   -- the book at each point, and what is done there
-  book-at : (i : ℕ) → Book (point Does x i)
-  book-at i = kept-at Book (λ b c a b₁ d. keeps-book b c a b₁ (permits b c a b₁ d)) (x .run) (x .book) i
+  book-at : (i : ℕ) → ProperBook (point Does x i)
+  book-at i = kept-at ProperBook (λ b c a b₁ d. keeps-book b c a b₁ (permits b c a b₁ d)) (x .run) (x .book) i
 
   done-at : (i : ℕ) (m : Made Does x i) → (b₂ : List ℕ) × Permitted (point Does x i) (m .call) (m .answer) b₂
   done-at i m =
@@ -237,7 +238,7 @@ module _ (Does : List ℕ → Call → Seen → List ℕ → Type 0) (permits : 
         never-bad-book = λ i m e. not-nine (book-at i) (means (m .call)) (sym (ap (λ (y : Seen). y .number) (said-at i m)) ∙ e);
         never-full = never-full;
         same-bytes = same-bytes;
-        stays-a-book = kept-end Book (λ b c a b₁ d. keeps-book b c a b₁ (permits b c a b₁ d)) (x .run) (x .book);
+        stays-a-book = kept-end ProperBook (λ b c a b₁ d. keeps-book b c a b₁ (permits b c a b₁ d)) (x .run) (x .book);
         same-size = ap length at-the-end ∙ size-of (x .book) (final (M .step) s cs) (machine.good-final M s cs g);
         last-accepted = last-accepted;
         others-keep = others-keep;

@@ -7,9 +7,10 @@ use denote.Ref.{RefT}
 use Rattle.runs.specs.Runs.{Runs, stop, next}
 use Rattle.keys.specs.Act.{Seen}
 use Rattle.keys.specs.Calls.{Asked, to-write, to-remove, to-look, Call, look, meaning}
-use Rattle.book.specs.Book.{Book}
+use Rattle.book.specs.Book.{Current}
 use Rattle.book.specs.Outcome.{Found, Wrote, Removed, Looked}
-use Rattle.demands.specs.Held.{Room, Permitted}
+use Rattle.demands.specs.Held.{Room, ProperBook}
+use Rattle.demands.specs.Permitted.{Permitted}
 use Rattle.demands.specs.Demand3.{Taken}
 use Rattle.demands.specs.Useless.{run-exists}
 use Rattle.demands.specs.BookCalls.{Writes, Removes, Looks, DoesTo, Does}
@@ -17,7 +18,7 @@ use Rattle.demands.specs.BookCalls.{Writes, Removes, Looks, DoesTo, Does
 abbrev lent : List ℕ → RefT (List ℕ)
 lent l = record { ptr = (0, 0); name = 0; now = l }
 
-writes : (b t v : List ℕ) (r : ℕ) (b₁ : List ℕ) → Wrote b t v r b₁ → Writes b t v r b₁
+writes : (b t v : List ℕ) (r : ℕ) (b₁ : List ℕ) → Wrote Current b t v r b₁ → Writes b t v r b₁
 writes b t v r b₁ w =
     record {
       lifetimes = ([], ([], ([], tt)));
@@ -32,11 +33,11 @@ writes b t v r b₁ w =
       ensures = w;
     }
 
-removes : (b t : List ℕ) (r : ℕ) (b₁ : List ℕ) → Removed b t r b₁ → Removes b t r b₁
+removes : (b t : List ℕ) (r : ℕ) (b₁ : List ℕ) → Removed Current b t r b₁ → Removes b t r b₁
 removes b t r b₁ w =
     record { lifetimes = ([], ([], tt)); args = (lent b, (lent t, tt)); result = r; exits = (lent b₁, (lent t, tt)); book-in = refl; text-in = refl; number-out = refl; book-out = refl; ensures = w }
 
-looks : (b t out : List ℕ) (r : ℕ) (out₁ : List ℕ) → Looked b t out r out₁ → Looks b t out r out₁
+looks : (b t out : List ℕ) (r : ℕ) (out₁ : List ℕ) → Looked Current b t out r out₁ → Looks b t out r out₁
 looks b t out r out₁ w =
     record {
       lifetimes = ([], ([], ([], tt)));
@@ -56,7 +57,7 @@ allows-to (to-write v) b t a b₁ p = (writes b t v (a .number) b₁ (p .0), p .
 allows-to to-remove b t a b₁ p = (removes b t (a .number) b₁ (p .0), p .1)
 allows-to (to-look room) b t a b₁ p =
     let y = p .0 in
-    let f : Looked b t (y .out) (a .number) (y .out₁) = subst (λ (n : ℕ). Found b (meaning (look t n)) (y .out) (a .number) (y .out₁)) (sym (y .size)) (y .found) in
+    let f : Looked Current b t (y .out) (a .number) (y .out₁) = subst (λ (n : ℕ). Found Current b (meaning (look t n)) (y .out) (a .number) (y .out₁)) (sym (y .size)) (y .found) in
     (record { out = y .out; out₁ = y .out₁; size = y .size; looks = looks b t (y .out) (a .number) (y .out₁) f; gives = y .gives }, p .1)
 
 allows-run : {b : List ℕ} {cs : List Call} {rs : List Seen} {b₁ : List ℕ} → Runs Permitted b cs rs b₁ → Runs Does b cs rs b₁
@@ -64,7 +65,7 @@ allows-run stop = stop
 allows-run (next {c = c} p r) = next (allows-to (c .asked) _ (c .text) _ _ p) (allows-run r)
 
 -- every list of calls on every book with room for its writes can be taken
-pub taken : (b : List ℕ) (x : Book b) (cs : List Call) → Room x cs → Taken Does
+pub taken : (b : List ℕ) (x : ProperBook b) (cs : List Call) → Room x cs → Taken Does
 taken b x cs h =
     let r = run-exists b x cs in
     record { calls = cs; start = b; book = x; room = h; answers = r .0; end = r .1; run = allows-run (r .2) }

@@ -1,20 +1,15 @@
--- What demand 3 says of a book, and what a call on a buffer may answer and leave.
+-- The words of demand 3: writes in a list, accepted calls and what they leave, free slots, what a path holds.
 -- Assumes nothing.
 use Prim.Native.Nat.{ℕ, _-_, _≤_}
 use mathlib.Core.Path.{_≡_}
-use mathlib.Core.Bool.{cond}
-use mathlib.Core.List.{List, []}
+use mathlib.Core.List.{List}
 use mathlib.Core.Option.{Option, none, some}
-use lib.Dec.{eqb}
-use lib.ListN.{length, take}
-use Rattle.form.specs.Layout.{AllFit}
-use Rattle.form.specs.V1.{V1}
+use lib.ListN.{length}
 use Rattle.keys.specs.Records.{Key, get}
-use Rattle.keys.specs.Act.{Rec, Seen}
-use Rattle.keys.specs.Calls.{Asked, to-write, to-remove, to-look, Call, meaning}
+use Rattle.keys.specs.Act.{Seen}
+use Rattle.keys.specs.Calls.{Asked, to-write, to-remove, to-look, Call}
 use Rattle.runs.specs.Total.{total}
-use Rattle.book.specs.Book.{Book}
-use Rattle.book.specs.Outcome.{Changed, Found}
+use Rattle.book.specs.Book.{Current, Book}
 
 -- ---- what demand 3 counts
 -- 1 for a write, refused or not
@@ -57,40 +52,23 @@ abbrev pub Looks : Call → Type 0
 Looks c = IsLook (c .asked)
 
 -- ---- what a book holds
--- each record fits a slot: a key of at most 255 bytes, a value of 32
-abbrev pub Fits : List Rec → Type 0
-Fits s = AllFit V1 s
+-- a proper book is one of the form that the calls take
+abbrev pub ProperBook : List ℕ → Type 0
+ProperBook b = Book Current b
 
 -- no new key k: the count equals the number of slots
-abbrev pub Full : {b : List ℕ} → Book b → Key → Type 0
+abbrev pub Full : {b : List ℕ} → ProperBook b → Key → Type 0
 Full x k = length (x .records) ≡ x .slots
 
 -- the slots of a book that are free
-abbrev pub free : {b : List ℕ} → Book b → ℕ
+abbrev pub free : {b : List ℕ} → ProperBook b → ℕ
 free x = x .slots - length (x .records)
 
 -- the book has at least as many free slots as the list has writes
-abbrev pub Room : {b : List ℕ} → Book b → List Call → Type 0
+abbrev pub Room : {b : List ℕ} → ProperBook b → List Call → Type 0
 Room x cs = writesIn cs ≤ free x
 
 -- the bytes are a book in which the path k holds this, or nothing
 pub record Holds (b : List ℕ) (k : Key) (held : Option (List ℕ)) : Type 0 where
-  pub book : Book b
+  pub book : ProperBook b
   pub is : get (book .records) k ≡ held
-
--- ---- the three contracts as one: the call c on the bytes b may be answered by a, and leave the bytes b₁
--- A lookup is lent some buffer of its room, and gives the first 32 bytes of it where it is not refused.
-pub record FoundIn (room : ℕ) (b : List ℕ) (c : Call) (a : Seen) : Type 0 where
-  pub out : List ℕ
-  pub out₁ : List ℕ
-  pub size : length out ≡ room
-  pub found : Found b (meaning c) out (a .number) out₁
-  pub gives : a .value ≡ cond (eqb (a .number) 0) (take 32 out₁) []
-
-abbrev pub PermittedTo : Asked → List ℕ → Call → Seen → List ℕ → Type 0
-PermittedTo (to-write v) b c a b₁ = Changed b (meaning c) (a .number) b₁ × (a .value ≡ [])
-PermittedTo to-remove b c a b₁ = Changed b (meaning c) (a .number) b₁ × (a .value ≡ [])
-PermittedTo (to-look room) b c a b₁ = FoundIn room b c a × (b₁ ≡ b)
-
-abbrev pub Permitted : List ℕ → Call → Seen → List ℕ → Type 0
-Permitted b c a b₁ = PermittedTo (c .asked) b c a b₁

@@ -12,15 +12,15 @@ use Rattle.text.specs.Order.{by, cmp}
 use Rattle.text.specs.Put.{text}
 use Rattle.path.specs.Read.{keyOf}
 use Rattle.path.specs.BackLaws.{key-exact}
-use Rattle.form.specs.Layout.{AllFit, length-layout}
-use Rattle.form.specs.V1.{V1}
+use Rattle.form.specs.Form.{AllFit}
+use Rattle.form.specs.FormLaws.{length-layout}
 use Rattle.keys.specs.Records.{Key, get, put, del}
 use Rattle.text.specs.OrderLaws.{Keys, key-lt, key-eq, key-gt, keys}
 use Rattle.keys.specs.Act.{Rec, Meaning, refuses, writes, removes, looks, addTo, takeFrom, lookIn, act}
 use Rattle.keys.specs.Calls.{Call, meaning}
-use Rattle.book.specs.Book.{AllExact, Book, bytesWith, fullIn}
-use Rattle.book.specs.BookLaws.{one-book}
-use Rattle.demands.specs.Held.{Fits, Full, Holds}
+use Rattle.book.specs.Book.{Current, AllExact, bytesWith, fullIn}
+use Rattle.book.specs.BookLaws.{lawful, size-is, one-book}
+use Rattle.demands.specs.Held.{Full, Holds, ProperBook}
 use Rattle.keys.specs.CallLaws.{Means, declines, writing, removing, looking, means}
 
 -- ---- facts of every record, kept by each call
@@ -77,13 +77,13 @@ module _ (All : List Rec → Type 0) (P : Rec → Type 0) (nil : All []) (cons :
       go (some u) = h
 
 -- the value of a record that fits
-pub fit-get : (s : List Rec) (k : Key) (v : List ℕ) → Fits s → get s k ≡ some v → length v ≡ 32
+pub fit-get : (s : List Rec) (k : Key) (v : List ℕ) → AllFit Current s → get s k ≡ some v → length v ≡ 32
 fit-get s k v h e =
-    let r = all-get (AllFit V1) (V1 .Fit) tt (λ r s p q. (p, q)) (λ r s q. q .0) (λ r s q. q .1) s k v h e in
+    let r = all-get (AllFit Current) (Current .Fit) tt (λ r s p q. (p, q)) (λ r s q. q .0) (λ r s q. q .1) s k v h e in
     ap length (sym (r .2)) ∙ r .1 .1
 
 -- what a call writes fits, and its key is exact
-wrote-by : {c : Call} {m : Meaning} → Means c m → (k : Key) (v : List ℕ) → m ≡ writes k v → V1 .Fit (k, v) × (keyOf k ≡ text k)
+wrote-by : {c : Call} {m : Meaning} → Means c m → (k : Key) (v : List ℕ) → m ≡ writes k v → Current .Fit (k, v) × (keyOf k ≡ text k)
 wrote-by (declines d) k v e = let z : _≡_ {A = ℕ} 0 1 = cc in absurd (omega arith)
 wrote-by {c} (writing {k = j} {v = w} ok) k v e =
     let p : j ≡ k = cc in
@@ -92,30 +92,30 @@ wrote-by {c} (writing {k = j} {v = w} ok) k v e =
 wrote-by (removing ok) k v e = let z : _≡_ {A = ℕ} 0 1 = cc in absurd (omega arith)
 wrote-by (looking ok) k v e = let z : _≡_ {A = ℕ} 0 1 = cc in absurd (omega arith)
 
-pub fit-act : (full : Key → List Rec → Bool) (s : List Rec) (c : Call) → Fits s → Fits (act full (meaning c) s .1)
-fit-act full s c h = all-act (AllFit V1) (V1 .Fit) tt (λ r s p q. (p, q)) (λ r s q. q .0) (λ r s q. q .1) full s (meaning c) (λ k v e. wrote-by (means c) k v e .0) h
+pub fit-act : (full : Key → List Rec → Bool) (s : List Rec) (c : Call) → AllFit Current s → AllFit Current (act full (meaning c) s .1)
+fit-act full s c h = all-act (AllFit Current) (Current .Fit) tt (λ r s p q. (p, q)) (λ r s q. q .0) (λ r s q. q .1) full s (meaning c) (λ k v e. wrote-by (means c) k v e .0) h
 
 pub exact-act : (full : Key → List Rec → Bool) (s : List Rec) (c : Call) → AllExact s → AllExact (act full (meaning c) s .1)
 exact-act full s c h = all-act AllExact (λ r. keyOf (r .0) ≡ text (r .0)) tt (λ r s p q. (p, q)) (λ r s q. q .0) (λ r s q. q .1) full s (meaning c) (λ k v e. wrote-by (means c) k v e .1) h
 
 -- the test of FULL
-pub is-full : {b : List ℕ} (x : Book b) (k : Key) → fullIn x k (x .records) ≡ true → Full x k
+pub is-full : {b : List ℕ} (x : ProperBook b) (k : Key) → fullIn x k (x .records) ≡ true → Full x k
 is-full x k e = eqb-true (length (x .records)) (x .slots) e
 
-pub full-is : {b : List ℕ} (x : Book b) (k : Key) → Full x k → fullIn x k (x .records) ≡ true
+pub full-is : {b : List ℕ} (x : ProperBook b) (k : Key) → Full x k → fullIn x k (x .records) ≡ true
 full-is x k e = eq-eqb (length (x .records)) (x .slots) e
 
 -- the size of a book with other records in it
-pub length-with : {b : List ℕ} (x : Book b) (s : List Rec) → Fits s → length s ≤ x .slots → length (bytesWith x s) ≡ length b
-length-with x s f h = length-layout V1 (x .slots) s f h ∙ sym (ap length (x .bytes) ∙ length-layout V1 (x .slots) (x .records) (x .fit) (x .few))
+pub length-with : {b : List ℕ} (x : ProperBook b) (s : List Rec) → AllFit Current s → length s ≤ x .slots → length (bytesWith x s) ≡ length b
+length-with x s f h = length-layout Current lawful (x .slots) (x .extra) s f h ∙ sym (size-is Current lawful _ x)
 
 -- what a path holds in a book
-pub holds-in : {b : List ℕ} {k : Key} {o : Option (List ℕ)} → Holds b k o → (x : Book b) → get (x .records) k ≡ o
-holds-in {k = k} h x = ap (λ (s : List Rec). get s k) (one-book _ x (h .book) .1) ∙ h .is
+pub holds-in : {b : List ℕ} {k : Key} {o : Option (List ℕ)} → Holds b k o → (x : ProperBook b) → get (x .records) k ≡ o
+holds-in {k = k} h x = ap (λ (s : List Rec). get s k) (one-book Current lawful _ x (h .book) .2) ∙ h .is
 
 -- a book is full by its bytes
-pub full-as : {b : List ℕ} (x y : Book b) (k : Key) → Full y k → Full x k
-full-as x y k f = let o = one-book _ x y in rw (o .0, o .1) f
+pub full-as : {b : List ℕ} (x y : ProperBook b) (k : Key) → Full y k → Full x k
+full-as x y k f = let o = one-book Current lawful _ x y in rw (o .0, o .2) f
 
 pub one-held : {b : List ℕ} {k : Key} {o p : Option (List ℕ)} → Holds b k o → Holds b k p → o ≡ p
 one-held h g = sym (h .is) ∙ holds-in g (h .book)

@@ -7,7 +7,7 @@ use mathlib.Core.List.{List}
 use mathlib.Core.Option.{Option, none, some}
 use Rattle.keys.specs.Records.{Key, get, put, del}
 use Rattle.keys.specs.Act.{Rec, Meaning, refuses, writes, removes, looks, Answer, says, done, gives, addTo, takeFrom, lookIn, act, seen}
-use Rattle.book.specs.Book.{bytesWith, fullIn}
+use Rattle.book.specs.Book.{Current, bytesWith, fullIn}
 use Rattle.book.specs.Outcome.{Outcome, no-book, this-book, Changed, Found, shown}
 
 -- ---- a refusal changes no byte
@@ -31,12 +31,12 @@ act-keeps full (looks k) s z = go (get s k)
     go none = refl
     go (some u) = refl
 
-outcome-keeps : {m : Meaning} {b : List ℕ} {a : Answer} {b₁ : List ℕ} → Outcome m b a b₁ → (seen a .number ≡ 0 → ⊥) → b₁ ≡ b
+outcome-keeps : {m : Meaning} {b : List ℕ} {a : Answer} {b₁ : List ℕ} → Outcome Current m b a b₁ → (seen a .number ≡ 0 → ⊥) → b₁ ≡ b
 outcome-keeps (no-book n e f) z = f
 outcome-keeps {m} (this-book x e f) z =
     f ∙ ap (bytesWith x) (act-keeps (fullIn x) m (x .records) (λ q. z (ap (λ (y : Answer). seen y .number) e ∙ q))) ∙ sym (x .bytes)
 
-pub changed-keeps : {b : List ℕ} {m : Meaning} {r : ℕ} {b₁ : List ℕ} → Changed b m r b₁ → (r ≡ 0 → ⊥) → b₁ ≡ b
+pub changed-keeps : {b : List ℕ} {m : Meaning} {r : ℕ} {b₁ : List ℕ} → Changed Current b m r b₁ → (r ≡ 0 → ⊥) → b₁ ≡ b
 changed-keeps x z = outcome-keeps (x .outcome) (λ e. z (x .number ∙ e))
 
 shown-keeps : (a : Answer) (out : List ℕ) → (seen a .number ≡ 0 → ⊥) → shown a out ≡ out
@@ -44,5 +44,5 @@ shown-keeps (says n) out z = refl
 shown-keeps done out z = refl
 shown-keeps (gives v) out z = absurd (z refl)
 
-pub found-keeps : {b : List ℕ} {m : Meaning} {out : List ℕ} {r : ℕ} {out₁ : List ℕ} → Found b m out r out₁ → (r ≡ 0 → ⊥) → out₁ ≡ out
+pub found-keeps : {b : List ℕ} {m : Meaning} {out : List ℕ} {r : ℕ} {out₁ : List ℕ} → Found Current b m out r out₁ → (r ≡ 0 → ⊥) → out₁ ≡ out
 found-keeps {out = out} x z = x .value ∙ shown-keeps (x .answer) out (λ e. z (x .number ∙ e))

@@ -7,6 +7,7 @@ pub mod Written
 pub mod Held
 pub mod HeldLaws
 pub mod Refusals
+pub mod Permitted
 pub mod PermittedLaws
 pub mod KeepsLaws
 pub mod CountLaws

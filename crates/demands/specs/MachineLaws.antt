@@ -16,8 +16,10 @@ use Rattle.keys.specs.Act.{Rec, Meaning, refuses, Answer, says, act, Seen, seen
 use Rattle.keys.specs.ActLaws.{keyIn, ansOf, effOf, dec-some, countOf, chargeOf, Proper, good, pays, declines, answersBy, leaves, spares}
 use Rattle.keys.specs.Calls.{Asked, to-write, to-remove, to-look, Call, meaning, PathOf}
 use Rattle.demands.specs.Held as calls
-use Rattle.book.specs.Book.{AllExact, Book, bytesWith, fullIn}
-use Rattle.demands.specs.Held.{Fits, Room, Permitted, asWrite, isWrite, Updates, Accepted, leftBy}
+use Rattle.form.specs.Form.{AllFit}
+use Rattle.book.specs.Book.{Current, AllExact, bytesWith, fullIn}
+use Rattle.demands.specs.Held.{Room, asWrite, isWrite, Updates, Accepted, leftBy, ProperBook}
+use Rattle.demands.specs.Permitted.{Permitted}
 use Rattle.keys.specs.CallLaws.{Means, writing, removing, looking, means, one-path, declined-not}
 use Rattle.keys.specs.CallLaws as by-case
 use Rattle.demands.specs.HeldLaws.{fit-act, exact-act, length-with}
@@ -77,30 +79,30 @@ purse k = tt
 abbrev same : (p q : Unit {0}) → Dec (p ≡ q)
 same p q = yes refl
 
-abbrev quota : {b : List ℕ} → Book b → Unit {0} → ℕ
+abbrev quota : {b : List ℕ} → ProperBook b → Unit {0} → ℕ
 quota x p = x .slots
 
 pub count-length : (s : List Rec) → countOf purse same s tt ≡ length s
 count-length [] = refl
 count-length (r ∷ s) = omega (arith, count-length s)
 
-pub tells : {b : List ℕ} (x : Book b) (k : Key) (s : List Rec) → fullIn x k s ≡ eqb (countOf purse same s (purse k)) (quota x (purse k))
+pub tells : {b : List ℕ} (x : ProperBook b) (k : Key) (s : List Rec) → fullIn x k s ≡ eqb (countOf purse same s (purse k)) (quota x (purse k))
 tells x k s = ap (λ (n : ℕ). eqb n (x .slots)) (sym (count-length s))
 
-pub charged : {c : Call} {m : Meaning} → Means c m → {b : List ℕ} (x : Book b) (p : Unit {0}) → chargeOf purse same (quota x) (fullIn x) (tells x) p m ≤ isWrite c
+pub charged : {c : Call} {m : Meaning} → Means c m → {b : List ℕ} (x : ProperBook b) (p : Unit {0}) → chargeOf purse same (quota x) (fullIn x) (tells x) p m ≤ isWrite c
 charged (by-case.declines d) x p = omega arith
 charged (writing ok) x p = omega (arith, ap asWrite (ok .asked))
 charged (removing ok) x p = omega arith
 charged (looking ok) x p = omega arith
 
-module _ {b : List ℕ} (x : Book b) where
+module _ {b : List ℕ} (x : ProperBook b) where
   abbrev pub InOrder : List Rec → Type 0
   InOrder s = Proper purse same (quota x) (fullIn x) (tells x) s
 
   -- the records that this book may hold
   pub record Good (s : List Rec) : Type 0 where
     pub proper : InOrder s
-    pub fit : Fits s
+    pub fit : AllFit Current s
     pub exact : AllExact s
 
   abbrev pub step : List Rec → Call → Seen × List Rec
@@ -149,27 +151,27 @@ module _ {b : List ℕ} (x : Book b) where
       }
 
 -- ---- a book's records are good, and good records make a book
-pub good-of : {b : List ℕ} (x : Book b) → Good x (x .records)
+pub good-of : {b : List ℕ} (x : ProperBook b) → Good x (x .records)
 good-of x = record { proper = record { sorted = x .sorted; within = λ p. omega (arith, count-length (x .records), x .few) }; fit = x .fit; exact = x .exact }
 
-unfoldable pub book-of : {b : List ℕ} (x : Book b) (b₁ : List ℕ) (s : List Rec) → Good x s → b₁ ≡ bytesWith x s → Book b₁
+unfoldable pub book-of : {b : List ℕ} (x : ProperBook b) (b₁ : List ℕ) (s : List Rec) → Good x s → b₁ ≡ bytesWith x s → ProperBook b₁
 book-of x b₁ s g e =
-    record { slots = x .slots; records = s; least = x .least; most = x .most; fit = g .fit; exact = g .exact; sorted = g .proper .sorted; few = omega (arith, count-length s, g .proper .within tt); bytes = e }
+    record { slots = x .slots; extra = x .extra; records = s; least = x .least; most = x .most; fit = g .fit; exact = g .exact; sorted = g .proper .sorted; few = omega (arith, count-length s, g .proper .within tt); bytes = e }
 
 -- and the bytes of its size
-pub size-of : {b : List ℕ} (x : Book b) (s : List Rec) → Good x s → length (bytesWith x s) ≡ length b
+pub size-of : {b : List ℕ} (x : ProperBook b) (s : List Rec) → Good x s → length (bytesWith x s) ≡ length b
 size-of x s g = length-with x s (g .fit) (omega (arith, count-length s, g .proper .within tt))
 
 -- a book stays a book
-pub keeps-book : (b : List ℕ) (c : Call) (a : Seen) (b₁ : List ℕ) → Permitted b c a b₁ → Book b → Book b₁
+pub keeps-book : (b : List ℕ) (c : Call) (a : Seen) (b₁ : List ℕ) → Permitted b c a b₁ → ProperBook b → ProperBook b₁
 keeps-book b c a b₁ p x = book-of x b₁ _ (machine x .good (x .records) c (good-of x)) (permitted-book b c a b₁ x p .1)
 
 -- on the bytes of good records the calls do what the machine does
-pub sim : {b : List ℕ} (x : Book b) (s : List Rec) (c : Call) (a : Seen) (b₁ : List ℕ) → Good x s → Permitted (bytesWith x s) c a b₁
+pub sim : {b : List ℕ} (x : ProperBook b) (s : List Rec) (c : Call) (a : Seen) (b₁ : List ℕ) → Good x s → Permitted (bytesWith x s) c a b₁
     → (a ≡ step x s c .0) × (b₁ ≡ bytesWith x (step x s c .1))
 unfolding book-of
 sim x s c a b₁ g p = permitted-book (bytesWith x s) c a b₁ (book-of x (bytesWith x s) s g refl) p
 
 -- the premise of demand 3
-pub enough : {b : List ℕ} (x : Book b) (cs : List Call) → Room x cs → Enough (machine x) (x .records) cs
+pub enough : {b : List ℕ} (x : ProperBook b) (cs : List Call) → Room x cs → Enough (machine x) (x .records) cs
 enough x cs h p = omega (arith, h, count-length (x .records))

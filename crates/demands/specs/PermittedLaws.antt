@@ -14,19 +14,22 @@ use Rattle.text.specs.PutLaws.{put-zero}
 use Rattle.keys.specs.Records.{Key, get, put, del}
 use Rattle.keys.specs.Act.{Rec, Meaning, Answer, gives, addTo, takeFrom, lookIn, act, Seen, seen}
 use Rattle.keys.specs.Calls.{Asked, to-write, to-remove, to-look, Call, meaning}
-use Rattle.book.specs.Book.{Book, bytesWith, fullIn, acts}
+use Rattle.book.specs.Book.{Current, bytesWith, fullIn, acts}
 use Rattle.book.specs.Outcome.{Outcome, no-book, this-book, Found, shown}
-use Rattle.demands.specs.Held.{Fits, PermittedTo, Permitted, Looks}
+use Rattle.demands.specs.Held.{Looks, ProperBook}
+use Rattle.demands.specs.Permitted.{PermittedTo, Permitted}
 use Rattle.demands.specs.Refusals.{Refused, bad-book, declined, book-full, absent, not-found}
 use Rattle.keys.specs.CallLaws.{Means, declines, writing, removing, looking, means, declined-means, declined-not, writing-means, removing-means, looking-means}
+use Rattle.form.specs.Form.{AllFit}
+use Rattle.book.specs.BookLaws.{lawful}
 use Rattle.book.specs.OutcomeLaws.{one-outcome}
 use Rattle.demands.specs.HeldLaws.{holds-in, fit-get, is-full, full-is, full-as}
 
 same-seen : (a b : Seen) → a .number ≡ b .number → a .value ≡ b .value → a ≡ b
 same-seen a b p q = λ i. record { number = p i; value = q i }
 
-pub on-book : {m : Meaning} {b : List ℕ} {a : Answer} {b₁ : List ℕ} (x : Book b) → Outcome m b a b₁ → (a ≡ acts x m .0) × (b₁ ≡ bytesWith x (acts x m .1))
-on-book x o = one-outcome o (this-book x refl refl)
+pub on-book : {m : Meaning} {b : List ℕ} {a : Answer} {b₁ : List ℕ} (x : ProperBook b) → Outcome Current m b a b₁ → (a ≡ acts x m .0) × (b₁ ≡ bytesWith x (acts x m .1))
+on-book x o = one-outcome lawful o (this-book x refl refl)
 
 look-is : (c : Call) (room : ℕ) → c .asked ≡ to-look room → Looks c
 look-is c room o = rw o tt
@@ -55,7 +58,7 @@ silent (removing {k = k} ok) n full s = go (get s k)
 silent {c} (looking {room = room} ok) n full s = absurd (n (look-is c room (ok .asked)))
 
 -- what a lookup gives, from the buffer that it is lent
-given : {c : Call} {m : Meaning} → Means c m → Looks c → (full : Key → List Rec → Bool) (s : List Rec) → Fits s → (o : List ℕ)
+given : {c : Call} {m : Meaning} → Means c m → Looks c → (full : Key → List Rec → Bool) (s : List Rec) → AllFit Current s → (o : List ℕ)
     → cond (eqb (seen (act full m s .0) .number) 0) (take 32 (shown (act full m s .0) o)) [] ≡ seen (act full m s .0) .value
 unfolding act
 given (declines {n = n} d) w full s h o = rw (ne-eqb n 0 (declined-not d .0))
@@ -68,16 +71,16 @@ given (looking {k = k} ok) w full s h o = go (get s k) refl
     go (some u) e = rw (put-zero o u) (take-at u (drop (length u) o) 32 (fit-get s k u h e))
 
 -- the outcome behind what is permitted
-outcome-to : (q : Asked) (b : List ℕ) (c : Call) (a : Seen) (b₁ : List ℕ) → PermittedTo q b c a b₁ → (ans : Answer) × Outcome (meaning c) b ans b₁ × (a .number ≡ seen ans .number)
+outcome-to : (q : Asked) (b : List ℕ) (c : Call) (a : Seen) (b₁ : List ℕ) → PermittedTo q b c a b₁ → (ans : Answer) × Outcome Current (meaning c) b ans b₁ × (a .number ≡ seen ans .number)
 outcome-to (to-write v) b c a b₁ p = (p .0 .answer, p .0 .outcome, p .0 .number)
 outcome-to to-remove b c a b₁ p = (p .0 .answer, p .0 .outcome, p .0 .number)
 outcome-to (to-look room) b c a b₁ p = let f = p .0 .found in (f .answer, rw (p .1) (f .outcome), f .number)
 
-outcome-of : (b : List ℕ) (c : Call) (a : Seen) (b₁ : List ℕ) → Permitted b c a b₁ → (ans : Answer) × Outcome (meaning c) b ans b₁ × (a .number ≡ seen ans .number)
+outcome-of : (b : List ℕ) (c : Call) (a : Seen) (b₁ : List ℕ) → Permitted b c a b₁ → (ans : Answer) × Outcome Current (meaning c) b ans b₁ × (a .number ≡ seen ans .number)
 outcome-of b c a b₁ p = outcome-to (c .asked) b c a b₁ p
 
 -- on a book the calls do what its records do
-value-to : (q : Asked) (b : List ℕ) (c : Call) (a : Seen) (b₁ : List ℕ) → c .asked ≡ q → (x : Book b) → PermittedTo q b c a b₁ → a .value ≡ seen (acts x (meaning c) .0) .value
+value-to : (q : Asked) (b : List ℕ) (c : Call) (a : Seen) (b₁ : List ℕ) → c .asked ≡ q → (x : ProperBook b) → PermittedTo q b c a b₁ → a .value ≡ seen (acts x (meaning c) .0) .value
 value-to (to-write v) b c a b₁ o x p = p .1 ∙ sym (silent (means c) (no-look-write c v o) (fullIn x) (x .records))
 value-to to-remove b c a b₁ o x p = p .1 ∙ sym (silent (means c) (no-look-remove c o) (fullIn x) (x .records))
 value-to (to-look room) b c a b₁ o x p =
@@ -87,7 +90,7 @@ value-to (to-look room) b c a b₁ o x p =
     let u : p .0 .out₁ ≡ shown (acts x (meaning c) .0) (p .0 .out) = f .value ∙ ap (λ (y : Answer). shown y (p .0 .out)) e in
     p .0 .gives ∙ rw (n, u) (given (means c) (look-is c room o) (fullIn x) (x .records) (x .fit) (p .0 .out))
 
-pub permitted-book : (b : List ℕ) (c : Call) (a : Seen) (b₁ : List ℕ) (x : Book b) → Permitted b c a b₁
+pub permitted-book : (b : List ℕ) (c : Call) (a : Seen) (b₁ : List ℕ) (x : ProperBook b) → Permitted b c a b₁
     → (a ≡ seen (acts x (meaning c) .0)) × (b₁ ≡ bytesWith x (acts x (meaning c) .1))
 permitted-book b c a b₁ x p =
     let o = outcome-of b c a b₁ p in
@@ -102,20 +105,20 @@ one-permitted b c a a′ b₁ b₂ p p′ = go (outcome-of b c a b₁ p .1)
     number =
         let o = outcome-of b c a b₁ p in
         let o′ = outcome-of b c a′ b₂ p′ in
-        o .2 ∙ ap (λ (y : Answer). seen y .number) (one-outcome (o .1) (o′ .1) .0) ∙ sym (o′ .2)
+        o .2 ∙ ap (λ (y : Answer). seen y .number) (one-outcome lawful (o .1) (o′ .1) .0) ∙ sym (o′ .2)
 
     bytes : b₁ ≡ b₂
-    bytes = one-outcome (outcome-of b c a b₁ p .1) (outcome-of b c a′ b₂ p′ .1) .1
+    bytes = one-outcome lawful (outcome-of b c a b₁ p .1) (outcome-of b c a′ b₂ p′ .1) .1
 
     nothing : (q : Asked) (e : Seen) (b₃ : List ℕ) → e .number ≡ 9 → PermittedTo q b c e b₃ → e .value ≡ []
     nothing (to-write v) e b₃ n r = r .1
     nothing to-remove e b₃ n r = r .1
     nothing (to-look room) e b₃ n r = r .0 .gives ∙ rw n
 
-    go : {ans : Answer} → Outcome (meaning c) b ans b₁ → (a ≡ a′) × (b₁ ≡ b₂)
+    go : {ans : Answer} → Outcome Current (meaning c) b ans b₁ → (a ≡ a′) × (b₁ ≡ b₂)
     go (no-book n e f) =
         let o = outcome-of b c a b₁ p in
-        let nine : a .number ≡ 9 = o .2 ∙ ap (λ (y : Answer). seen y .number) (one-outcome (o .1) (no-book n refl f) .0) in
+        let nine : a .number ≡ 9 = o .2 ∙ ap (λ (y : Answer). seen y .number) (one-outcome lawful (o .1) (no-book n refl f) .0) in
         (same-seen a a′ number (nothing (c .asked) a b₁ nine p ∙ sym (nothing (c .asked) a′ b₂ (sym number ∙ nine) p′)), bytes)
     go (this-book x e f) = (permitted-book b c a b₁ x p .0 ∙ sym (permitted-book b c a′ b₂ x p′ .0), bytes)
 
@@ -132,7 +135,7 @@ kept (looking {k = k} ok) w full s = go (get s k)
     go (some u) = refl
 
 -- on every book each call has an outcome
-exists-to : (q : Asked) (b : List ℕ) (c : Call) → c .asked ≡ q → Book b → (a : Seen) × (b₁ : List ℕ) × PermittedTo q b c a b₁
+exists-to : (q : Asked) (b : List ℕ) (c : Call) → c .asked ≡ q → ProperBook b → (a : Seen) × (b₁ : List ℕ) × PermittedTo q b c a b₁
 exists-to (to-write v) b c o x =
     let s = acts x (meaning c) in
     (record { number = seen (s .0) .number; value = [] }, bytesWith x (s .1), (record { answer = s .0; outcome = this-book x refl refl; number = refl }, refl))
@@ -143,15 +146,15 @@ exists-to (to-look room) b c o x =
     let w : List ℕ = replicate room 0 in
     let s = acts x (meaning c) in
     let left = x .bytes ∙ ap (bytesWith x) (sym (kept (means c) (look-is c room o) (fullIn x) (x .records))) in
-    let f : Found b (meaning c) w (seen (s .0) .number) (shown (s .0) w) = record { answer = s .0; outcome = this-book x refl left; number = refl; value = refl } in
+    let f : Found Current b (meaning c) w (seen (s .0) .number) (shown (s .0) w) = record { answer = s .0; outcome = this-book x refl left; number = refl; value = refl } in
     (record { number = seen (s .0) .number; value = cond (eqb (seen (s .0) .number) 0) (take 32 (shown (s .0) w)) [] }, b, (record { out = w; out₁ = shown (s .0) w; size = length-replicate room 0; found = f; gives = refl }, refl))
 
-pub permitted-exists : (b : List ℕ) (c : Call) (x : Book b) → (a : Seen) × (b₁ : List ℕ) × Permitted b c a b₁
+pub permitted-exists : (b : List ℕ) (c : Call) (x : ProperBook b) → (a : Seen) × (b₁ : List ℕ) × Permitted b c a b₁
 permitted-exists b c x = exists-to (c .asked) b c refl x
 
 -- ---- a refusal is given exactly when the table says so
 -- the number that the records give, where it is not 0, is a row of the table
-row-of : {b : List ℕ} (x : Book b) {c : Call} {m : Meaning} → Means c m → (n : ℕ) → (n ≡ 0 → ⊥) → seen (acts x m .0) .number ≡ n → Refused b c n
+row-of : {b : List ℕ} (x : ProperBook b) {c : Call} {m : Meaning} → Means c m → (n : ℕ) → (n ≡ 0 → ⊥) → seen (acts x m .0) .number ≡ n → Refused b c n
 unfolding act
 row-of x (declines d) n nz e = rw (← e) (declined x d)
 row-of {b} x {c} (writing {k = k} {v = v} ok) n nz e = go (get (x .records) k) refl (fullIn x k (x .records)) refl e
@@ -173,7 +176,7 @@ row-of {b} x {c} (looking {k = k} {room = room} ok) n nz e = go (get (x .records
     go (some u) g q = absurd (nz (sym q))
 
 -- a row of the table, on a book, is what the records say
-pub row-says : {b : List ℕ} (x : Book b) (c : Call) {n : ℕ} → Refused b c n → seen (acts x (meaning c) .0) .number ≡ n
+pub row-says : {b : List ℕ} (x : ProperBook b) (c : Call) {n : ℕ} → Refused b c n → seen (acts x (meaning c) .0) .number ≡ n
 unfolding act
 row-says x c (bad-book n) = absurd (n x)
 row-says x c (declined y d) = rw (declined-means c d)
@@ -191,19 +194,19 @@ row-says x c (not-found {k = k} {room = room} ok g) =
 pub refused-exactly : (b : List ℕ) (c : Call) (a : Seen) (b₁ : List ℕ) → Permitted b c a b₁ → (n : ℕ) → (n ≡ 0 → ⊥) → ((a .number ≡ n) → Refused b c n) × (Refused b c n → a .number ≡ n)
 refused-exactly b c a b₁ p n nz = go (o .1)
   where
-    o : (ans : Answer) × Outcome (meaning c) b ans b₁ × (a .number ≡ seen ans .number)
+    o : (ans : Answer) × Outcome Current (meaning c) b ans b₁ × (a .number ≡ seen ans .number)
     o = outcome-of b c a b₁ p
 
-    nine : (Book b → ⊥) → {e : Call} {j : ℕ} → Refused b e j → j ≡ 9
+    nine : (ProperBook b → ⊥) → {e : Call} {j : ℕ} → Refused b e j → j ≡ 9
     nine m (bad-book y) = refl
     nine m (declined y d) = absurd (m y)
     nine m (book-full ok g w) = absurd (m (g .book))
     nine m (absent ok g) = absurd (m (g .book))
     nine m (not-found ok g) = absurd (m (g .book))
 
-    go : {ans : Answer} → Outcome (meaning c) b ans b₁ → ((a .number ≡ n) → Refused b c n) × (Refused b c n → a .number ≡ n)
+    go : {ans : Answer} → Outcome Current (meaning c) b ans b₁ → ((a .number ≡ n) → Refused b c n) × (Refused b c n → a .number ≡ n)
     go (no-book m e f) =
-        let z : a .number ≡ 9 = o .2 ∙ ap (λ (y : Answer). seen y .number) (one-outcome (o .1) (no-book m refl f) .0) in
+        let z : a .number ≡ 9 = o .2 ∙ ap (λ (y : Answer). seen y .number) (one-outcome lawful (o .1) (no-book m refl f) .0) in
         (λ q. rw (sym q ∙ z) (bad-book m), λ r. z ∙ sym (nine m r))
     go (this-book x e f) =
         let z : a .number ≡ seen (acts x (meaning c) .0) .number = ap (λ (y : Seen). y .number) (permitted-book b c a b₁ x p .0) in

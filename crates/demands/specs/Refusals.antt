@@ -8,13 +8,12 @@ use mathlib.Core.Option.{none}
 use Rattle.keys.specs.Records.{Key}
 use Rattle.keys.specs.Calls.{Call}
 use Rattle.keys.specs.Refusals.{GoodWrite, GoodRemoval, GoodLookup, Declined}
-use Rattle.book.specs.Book.{Book}
-use Rattle.demands.specs.Held.{Full, Holds}
+use Rattle.demands.specs.Held.{Full, Holds, ProperBook}
 
 -- on the bytes b: no book; by the call alone; or by what the book holds
 pub data Refused (b : List ℕ) (c : Call) : ℕ → Type 0 where
-  bad-book : (Book b → ⊥) → Refused b c 9
-  declined : {n : ℕ} → Book b → Declined c n → Refused b c n
+  bad-book : (ProperBook b → ⊥) → Refused b c 9
+  declined : {n : ℕ} → ProperBook b → Declined c n → Refused b c n
   book-full : {k : Key} {v : List ℕ} → GoodWrite c k v → (h : Holds b k none) → Full (h .book) k → Refused b c 11
   absent : {k : Key} → GoodRemoval c k → Holds b k none → Refused b c 12
   not-found : {k : Key} {room : ℕ} → GoodLookup c k room → Holds b k none → Refused b c 12

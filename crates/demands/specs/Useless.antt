@@ -17,14 +17,15 @@ use Rattle.path.specs.Read.{readPath, keyOf}
 use Rattle.path.specs.BackLaws.{exact-renders}
 use Rattle.path.specs.Cases.{cases}
 use Rattle.runs.specs.Runs.{Runs, stop, next, before}
-use Rattle.form.specs.Layout.{layout, slots, zeros, length-zeros}
-use Rattle.form.specs.V1.{V1, header}
+use Rattle.form.specs.Form.{layout, slots, zeros}
+use Rattle.form.specs.FormLaws.{length-zeros}
 use Rattle.text.specs.OrderLaws.{cmp-self}
 use Rattle.keys.specs.Records.{Key, get, put}
 use Rattle.keys.specs.Act.{writes, act, done, Seen, seen}
 use Rattle.keys.specs.Calls.{Call, write, remove, look, meaning}
-use Rattle.book.specs.Book.{Book, acts}
-use Rattle.demands.specs.Held.{Holds, Permitted, isWrite}
+use Rattle.book.specs.Book.{Current, acts}
+use Rattle.demands.specs.Held.{Holds, isWrite, ProperBook}
+use Rattle.demands.specs.Permitted.{Permitted}
 use Rattle.keys.specs.CallLaws.{writing-means, one-path}
 use Rattle.demands.specs.HeldLaws.{one-held}
 use Rattle.demands.specs.CountLaws.{count-right}
@@ -33,7 +34,7 @@ use Rattle.demands.specs.MachineLaws.{keeps-book}
 use Rattle.demands.specs.Demand3.{Taken, AcceptedAt, Demand3}
 
 -- every list of calls on every book has a run
-pub run-exists : (b : List ℕ) → Book b → (cs : List Call) → (rs : List Seen) × (b₁ : List ℕ) × Runs Permitted b cs rs b₁
+pub run-exists : (b : List ℕ) → ProperBook b → (cs : List Call) → (rs : List Seen) × (b₁ : List ℕ) × Runs Permitted b cs rs b₁
 run-exists b x [] = ([], b, stop)
 run-exists b x (c ∷ cs) =
     let p = permitted-exists b c x in
@@ -42,10 +43,10 @@ run-exists b x (c ∷ cs) =
 
 -- ---- a book of two slots without records, a path and a value
 abbrev two : List ℕ
-two = layout V1 2 []
+two = layout Current 2 tt []
 
-empty : Book two
-empty = record { slots = 2; records = []; least = omega arith; most = omega arith; fit = tt; exact = tt; sorted = tt; few = omega arith; bytes = refl }
+empty : ProperBook two
+empty = record { slots = 2; extra = tt; records = []; least = omega arith; most = omega arith; fit = tt; exact = tt; sorted = tt; few = omega arith; bytes = refl }
 
 one-of-two : 1 ≤ empty .slots - length (empty .records)
 unfolding empty
@@ -80,7 +81,7 @@ write-means = writing-means W port value (record { asked = refl; key = record { 
 
 -- the write is accepted there, and the record then stands in the book
 abbrev filled : List ℕ
-filled = layout V1 2 ((port, value) ∷ [])
+filled = layout Current 2 tt ((port, value) ∷ [])
 
 acted : acts empty (meaning W) ≡ (done, (port, value) ∷ [])
 unfolding empty act get put
@@ -91,7 +92,7 @@ unfolding empty
 writes-port a b₁ p =
     let q = permitted-book two W a b₁ empty p in
     let e = acted in
-    (q .0 ∙ ap (λ (y : _). seen (y .0)) e, q .1 ∙ ap (λ (y : _). layout V1 2 (y .1)) e)
+    (q .0 ∙ ap (λ (y : _). seen (y .0)) e, q .1 ∙ ap (λ (y : _). layout Current 2 tt (y .1)) e)
 
 port-written : Permitted two W (seen done) filled
 port-written =
@@ -167,11 +168,11 @@ module _ (r : ℕ) (nz : r ≡ 0 → ⊥) where
 
 -- ---- a book that obeys its first call, and later only says 0. It breaks `last-accepted`: the removal is not done
 pub data Once (b : List ℕ) (c : Call) (a : Seen) (b₁ : List ℕ) : Type 0 where
-  first-call : (x : Book b) → x .records ≡ [] → Permitted b c a b₁ → Once b c a b₁
-  later-call : (x : Book b) → (x .records ≡ [] → ⊥) → a ≡ seen done → b₁ ≡ b → Once b c a b₁
+  first-call : (x : ProperBook b) → x .records ≡ [] → Permitted b c a b₁ → Once b c a b₁
+  later-call : (x : ProperBook b) → (x .records ≡ [] → ⊥) → a ≡ seen done → b₁ ≡ b → Once b c a b₁
 
-one-record : Book filled
-one-record = record { slots = 2; records = (port, value) ∷ []; least = omega arith; most = omega arith; fit = ((omega arith, length-zeros 32), tt); exact = (port-key, tt); sorted = (tt, tt); few = omega arith; bytes = refl }
+one-record : ProperBook filled
+one-record = record { slots = 2; extra = tt; records = (port, value) ∷ []; least = omega arith; most = omega arith; fit = ((omega arith, length-zeros 32), tt); exact = (port-key, tt); sorted = (tt, tt); few = omega arith; bytes = refl }
 
 has-record : one-record .records ≡ [] → ⊥
 unfolding one-record
@@ -231,8 +232,8 @@ once-gives-refused h =
 pub record Miscounts (b : List ℕ) (c : Call) (a : Seen) (b₁ : List ℕ) : Type 0 where
   pub meant : List ℕ
   pub answered : Permitted b c a meant
-  pub book : Book meant
-  pub left : b₁ ≡ header (suc (length (book .records))) ++ (slots V1 (book .records) ++ zeros (288 * (book .slots - length (book .records))))
+  pub book : ProperBook meant
+  pub left : b₁ ≡ Current .header tt (suc (length (book .records))) ++ (slots Current (book .records) ++ zeros (Current .width * (book .slots - length (book .records))))
 
 abbrev miscounted : Taken Miscounts
 miscounted =
@@ -242,11 +243,11 @@ miscounted =
       book = empty;
       room = one-of-two;
       answers = seen done ∷ [];
-      end = header (suc (length (one-record .records))) ++ (slots V1 (one-record .records) ++ zeros (288 * (one-record .slots - length (one-record .records))));
+      end = Current .header tt (suc (length (one-record .records))) ++ (slots Current (one-record .records) ++ zeros (Current .width * (one-record .slots - length (one-record .records))));
       run = next (record { meant = filled; answered = port-written; book = one-record; left = refl }) stop;
     }
 
 pub miscounts-refused : ((x : Taken Miscounts) → Demand3 Miscounts x) → ⊥
 miscounts-refused h =
-    let e = count-right (suc (length (one-record .records))) (288 * (one-record .slots - length (one-record .records))) (one-record .records) (one-record .fit) (one-record .exact) (h miscounted .stays-a-book) in
+    let e = count-right (suc (length (one-record .records))) (Current .width * (one-record .slots - length (one-record .records))) (one-record .records) (one-record .fit) (one-record .exact) (h miscounted .stays-a-book) in
     omega (arith, e)

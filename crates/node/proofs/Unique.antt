@@ -3,6 +3,8 @@
 use mathlib.Core.Path.{sym, _∙_}
 use denote.Ref.{now}
 use Rattle.text.specs.Outcome.{One, OneWith}
+use Rattle.book.specs.Book.{Current}
+use Rattle.book.specs.BookLaws.{lawful}
 use Rattle.book.specs.OutcomeLaws.{one-changed, one-found, one-made}
 use Rattle.book.specs.OldestLaws.{one-oldest}
 use Rattle.node.proofs.hp_validate_identifier_chars.Reads as hp-validate-identifier-chars
@@ -132,16 +134,16 @@ pub one-hp-receipt-prefix : OneWith hp-receipt-prefix.Post (λ κs s. now (s .0)
 one-hp-receipt-prefix κs a r₁ r₂ s₁ s₂ p q = (p .0 ∙ sym (q .0), p .1 ∙ sym (q .1))
 
 pub one-hp-book-new : OneWith hp-book-new.Post (λ κs s. now (s .0))
-one-hp-book-new κs a r₁ r₂ s₁ s₂ p q = one-made _ _ _ _ _ p q
+one-hp-book-new κs a r₁ r₂ s₁ s₂ p q = one-made lawful tt _ _ _ _ _ p q
 
 pub one-hp-book-write : OneWith hp-book-write.Post (λ κs s. now (s .0))
-one-hp-book-write κs a r₁ r₂ s₁ s₂ p q = one-changed p q
+one-hp-book-write κs a r₁ r₂ s₁ s₂ p q = one-changed lawful p q
 
 pub one-hp-book-remove : OneWith hp-book-remove.Post (λ κs s. now (s .0))
-one-hp-book-remove κs a r₁ r₂ s₁ s₂ p q = one-changed p q
+one-hp-book-remove κs a r₁ r₂ s₁ s₂ p q = one-changed lawful p q
 
 pub one-hp-book-lookup : OneWith hp-book-lookup.Post (λ κs s. now (s .1 .1 .0))
-one-hp-book-lookup κs a r₁ r₂ s₁ s₂ p q = one-found p q
+one-hp-book-lookup κs a r₁ r₂ s₁ s₂ p q = one-found lawful p q
 
 pub one-hp-book-oldest : One hp-book-oldest.Post
-one-hp-book-oldest κs a r₁ r₂ s₁ s₂ p q = one-oldest _ _ _ _ p q
+one-hp-book-oldest κs a r₁ r₂ s₁ s₂ p q = one-oldest Current lawful _ _ _ _ p q

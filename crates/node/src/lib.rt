@@ -19,6 +19,7 @@ ghost use Rattle.path.specs.Read.{readingBytes, keyOf, renderOf};
 ghost use Rattle.path.specs.View.{provableFlag};
 ghost use Rattle.rows.specs.Rows.{carried, textOf, consensusParent, consensusLeaf, packetsPath};
 ghost use Rattle.render.specs.Iteration.{iterationKey};
+ghost use Rattle.book.specs.Book.{Current};
 ghost use Rattle.book.specs.Outcome.{Wrote, Removed, Looked, Made};
 ghost use Rattle.book.specs.Oldest.{Oldest};
 
@@ -263,35 +264,35 @@ pub extern "C" fn hp_receipt_prefix(out: &mut [u8]) -> Written
 
 #[no_mangle]
 pub extern "C" fn hp_book_new(book: &mut [u8]) -> u8
-    ensures { λ r. ⌜ Made (now (book .entry)) r (now (book .exit)) ⌝ }
+    ensures { λ r. ⌜ Made Current tt (now (book .entry)) r (now (book .exit)) ⌝ }
 {
     book::new_book(book)
 }
 
 #[no_mangle]
 pub extern "C" fn hp_book_write(book: &mut [u8], text: &[u8], value: &[u8]) -> u8
-    ensures { λ r. ⌜ Wrote (now (book .entry)) (now (text .entry)) (now (value .entry)) r (now (book .exit)) ⌝ }
+    ensures { λ r. ⌜ Wrote Current (now (book .entry)) (now (text .entry)) (now (value .entry)) r (now (book .exit)) ⌝ }
 {
     book::write(book, text, value)
 }
 
 #[no_mangle]
 pub extern "C" fn hp_book_remove(book: &mut [u8], text: &[u8]) -> u8
-    ensures { λ r. ⌜ Removed (now (book .entry)) (now (text .entry)) r (now (book .exit)) ⌝ }
+    ensures { λ r. ⌜ Removed Current (now (book .entry)) (now (text .entry)) r (now (book .exit)) ⌝ }
 {
     book::remove(book, text)
 }
 
 #[no_mangle]
 pub extern "C" fn hp_book_lookup(book: &[u8], text: &[u8], out: &mut [u8]) -> u8
-    ensures { λ r. ⌜ Looked (now (book .entry)) (now (text .entry)) (now (out .entry)) r (now (out .exit)) ⌝ }
+    ensures { λ r. ⌜ Looked Current (now (book .entry)) (now (text .entry)) (now (out .entry)) r (now (out .exit)) ⌝ }
 {
     book::lookup(book, text, out)
 }
 
 #[no_mangle]
 pub extern "C" fn hp_book_oldest(book: &[u8], client: &[u8]) -> Pair
-    ensures { λ r. ⌜ Oldest (now (book .entry)) (now (client .entry)) r ⌝ }
+    ensures { λ r. ⌜ Oldest Current (now (book .entry)) (now (client .entry)) r ⌝ }
 {
     book::oldest::oldest(book, client)
 }
