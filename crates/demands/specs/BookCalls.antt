@@ -17,7 +17,6 @@ use Rattle.keys.specs.Calls.{Asked, to-write, to-remove, to-look, Call, look, m
 use Rattle.book.specs.Book.{Current}
 use Rattle.book.specs.Outcome.{Found, Wrote, Removed, Looked}
 use Rattle.demands.specs.Permitted.{Permitted}
-use Rattle.demands.specs.KeepsLaws.{changed-keeps, found-keeps}
 use Rattle.demands.specs.Demand3.{Taken, Demand3}
 use Rattle.demands.specs.Demand3Laws as laws
 use Rattle.node.proofs.hp_book_write as w
@@ -80,16 +79,6 @@ pub looked : (b t out : List ℕ) (r : ℕ) (out₁ : List ℕ) → Looks b t ou
 looked b t out r out₁ x =
     let p : Looked Current (now (x .args .0)) (now (x .args .1 .0)) (now (x .args .1 .1 .0)) (x .result) (now (x .exits .1 .1 .0)) = x .ensures in
     rw (x .book-in, x .text-in, x .out-in, x .number-out, x .out-out) at p
-
--- ---- demand 1 of the three functions: a refusal changes no byte
-pub write-keeps : {b t v : List ℕ} {r : ℕ} {b₁ : List ℕ} → Writes b t v r b₁ → (r ≡ 0 → ⊥) → b₁ ≡ b
-write-keeps x z = changed-keeps (wrote _ _ _ _ _ x) z
-
-pub remove-keeps : {b t : List ℕ} {r : ℕ} {b₁ : List ℕ} → Removes b t r b₁ → (r ≡ 0 → ⊥) → b₁ ≡ b
-remove-keeps x z = changed-keeps (removed _ _ _ _ x) z
-
-pub look-keeps : {b t out : List ℕ} {r : ℕ} {out₁ : List ℕ} → Looks b t out r out₁ → (r ≡ 0 → ⊥) → out₁ ≡ out
-look-keeps x z = found-keeps (looked _ _ _ _ _ x) z
 
 -- ---- demand 3
 -- a lookup with that much room, in some buffer, and what it gives

@@ -27,6 +27,11 @@ use Rattle.node.proofs.hp_receipts_path.Reads as hp-receipts-path
 use Rattle.node.proofs.hp_commitment_prefix.Reads as hp-commitment-prefix
 use Rattle.node.proofs.hp_ack_prefix.Reads as hp-ack-prefix
 use Rattle.node.proofs.hp_receipt_prefix.Reads as hp-receipt-prefix
+use Rattle.node.proofs.hp_book_new.Reads as hp-book-new
+use Rattle.node.proofs.hp_book_write.Reads as hp-book-write
+use Rattle.node.proofs.hp_book_remove.Reads as hp-book-remove
+use Rattle.node.proofs.hp_book_lookup.Reads as hp-book-lookup
+use Rattle.demands.specs.KeepsLaws.{made-keeps, changed-keeps, found-keeps}
 
 -- what a writing call ensures, said of its refusal number and of its buffer before and after
 keeps : (x : Wanted) (n : ℕ) (before after : List ℕ) → n ≡ answer x (length before) .refusal → after ≡ left x before → (n ≡ 0 → ⊥) → after ≡ before
@@ -97,3 +102,16 @@ hp-ack-prefix-keeps κs a r s p = keeps _ _ _ _ (ap (λ y. y .refusal) (p .0)) (
 
 pub hp-receipt-prefix-keeps : Keeps hp-receipt-prefix.Post (λ κs r. r .refusal) (λ κs a. now (a .0)) (λ κs s. now (s .0))
 hp-receipt-prefix-keeps κs a r s p = keeps _ _ _ _ (ap (λ y. y .refusal) (p .0)) (p .1)
+
+-- ---- the book's calls; a lookup and `oldest` are lent the book only to be read
+pub hp-book-new-keeps : Keeps hp-book-new.Post (λ κs r. r) (λ κs a. now (a .0)) (λ κs s. now (s .0))
+hp-book-new-keeps κs a r s p = made-keeps p
+
+pub hp-book-write-keeps : Keeps hp-book-write.Post (λ κs r. r) (λ κs a. now (a .0)) (λ κs s. now (s .0))
+hp-book-write-keeps κs a r s p = changed-keeps p
+
+pub hp-book-remove-keeps : Keeps hp-book-remove.Post (λ κs r. r) (λ κs a. now (a .0)) (λ κs s. now (s .0))
+hp-book-remove-keeps κs a r s p = changed-keeps p
+
+pub hp-book-lookup-keeps : Keeps hp-book-lookup.Post (λ κs r. r) (λ κs a. now (a .1 .1 .0)) (λ κs s. now (s .1 .1 .0))
+hp-book-lookup-keeps κs a r s p = found-keeps p

@@ -1,10 +1,10 @@
 -- Demand 3, sentence by sentence, of any functions: `Does b c a b₁` says that the call c, made on the bytes b, may be answered by a and
 -- leave the bytes b₁. What a call and its path are is said in `keys` (Calls), a proper book in `book` (Book), document 01's refusals in
--- `calls` (Refusals).
+-- `keys` and here (Refusals).
 -- Assumes nothing.
 use Prim.Native.Nat.{ℕ, _<_}
 use mathlib.Core.Path.{_≡_}
-use mathlib.Core.Logic.{_↔_}
+use mathlib.Core.Logic.{_↔_, _⊎_}
 use mathlib.Core.List.{List}
 use mathlib.Core.Option.{Option, none, some}
 use lib.ListN.{length, getElem?}
@@ -12,6 +12,7 @@ use Rattle.runs.specs.Rearranged.{Rearranged}
 use Rattle.runs.specs.Runs.{Runs, before}
 use Rattle.keys.specs.Records.{Key}
 use Rattle.keys.specs.Act.{Seen}
+use Rattle.keys.specs.Refusals.{GoodLookup}
 use Rattle.keys.specs.Calls.{Call, PathOf, SamePath}
 use Rattle.book.specs.Book.{Book}
 use Rattle.demands.specs.Held.{Room, Holds, Looks, Accepted, leaves, ProperBook}
@@ -53,6 +54,11 @@ module _ (Does : List ℕ → Call → Seen → List ℕ → Type 0) where
       pub path : PathOf (made .call) k
       pub accepted : Accepted (made .call) (made .answer)
 
+    -- .. and that is its last one
+    pub record LastAt (k : Key) (i : ℕ) : Type 0 where
+      pub here : AcceptedAt k i
+      pub none-later : (j : ℕ) → i < j → AcceptedAt k j → ⊥
+
     pub record Demand3 : Type 0 where
       -- "Every call gets the same answer, .."
       pub same-answers : (y : Again) (i : ℕ) → i < length (x .calls) → getElem? (y .answers) (y .moved .to i) ≡ getElem? (x .answers) i
@@ -66,13 +72,17 @@ module _ (Does : List ℕ → Call → Seen → List ℕ → Type 0) where
       pub same-size : length (x .end) ≡ length (x .start)
       -- ".. in which each path that had an accepted write or removal holds its last accepted write, or nothing if an accepted removal
       -- came after, .."
-      pub last-accepted : (k : Key) (i : ℕ) (u : AcceptedAt k i) → ((j : ℕ) → i < j → AcceptedAt k j → ⊥) → Holds (x .end) k (leaves (u .made .call))
+      pub last-accepted : (k : Key) (i : ℕ) (u : LastAt k i) → Holds (x .end) k (leaves (u .here .made .call))
       -- ".. and every other path what it held at the start."
       pub others-keep : (k : Key) → ((i : ℕ) → AcceptedAt k i → ⊥) → (o : Option (List ℕ)) → Holds (x .start) k o → Holds (x .end) k o
+      -- (each path is of the one sort or of the other)
+      pub each-path : (k : Key) → ((i : ℕ) × LastAt k i) ⊎ ((i : ℕ) → AcceptedAt k i → ⊥)
       -- "A lookup that is not refused gives what its path holds at that point, .."
       pub lookup-gives : (i : ℕ) (m : Made i) → Looks (m .call) → m .answer .number ≡ 0
           → (k : Key) × PathOf (m .call) k × Holds (point i) k (some (m .answer .value))
       -- ".. and 12 says that it holds nothing."
       pub twelve-says : (i : ℕ) (m : Made i) → Looks (m .call) → m .answer .number ≡ 12
           → (k : Key) × PathOf (m .call) k × Holds (point i) k none
+      -- (and where it holds nothing, a lookup that its own text and room do not refuse says 12)
+      pub twelve-when : (i : ℕ) (m : Made i) (k : Key) (room : ℕ) → GoodLookup (m .call) k room → Holds (point i) k none → m .answer .number ≡ 12
       -- "Texts with the same rendering are the same path." is `SamePath`.

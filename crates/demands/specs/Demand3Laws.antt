@@ -2,7 +2,7 @@
 -- Assumes nothing.
 use Prim.Native.Nat.{ℕ, suc, _≤_, _<_}
 use mathlib.Core.Path.{_≡_, refl, sym, ap, _∙_}
-use mathlib.Core.Logic.{_⊎_, inl, inr}
+use mathlib.Core.Logic.{_↔_, _⊎_, inl, inr}
 use mathlib.Core.Bool.{Bool, true, false}
 use mathlib.Core.List.{List}
 use mathlib.Core.Option.{Option, none, some}
@@ -21,10 +21,11 @@ use Rattle.demands.specs.Held.{Holds, Looks, leaves, ProperBook}
 use Rattle.demands.specs.Permitted.{Permitted}
 use Rattle.keys.specs.CallLaws.{Means, declines, writing, removing, looking, means, declined-not}
 use Rattle.demands.specs.HeldLaws.{holds-in}
+use Rattle.demands.specs.Refusals.{Refused, not-found}
 use Rattle.demands.specs.PermittedLaws.{no-look-write, no-look-remove, permitted-book, refused-exactly}
 use Rattle.demands.specs.MachineLaws.{path-of-key, key-of-path, Good, step, good-of, book-of, size-of, keeps-book, sim, enough}
 use Rattle.demands.specs.MachineLaws as by-records
-use Rattle.demands.specs.Demand3.{Taken, Again, Made, point, AcceptedAt, Demand3}
+use Rattle.demands.specs.Demand3.{Taken, Again, Made, point, AcceptedAt, LastAt, Demand3}
 
 -- ---- one call on a book
 -- 9 is never given there
@@ -143,6 +144,9 @@ module _ (Does : List ℕ → Call → Seen → List ℕ → Type 0) (permits : 
   said-at : (i : ℕ) (m : Made Does x i) → m .answer ≡ seen (acts (book-at i) (meaning (m .call)) .0)
   said-at i m = let d = done-at i m in permitted-book (point Does x i) (m .call) (m .answer) (d .0) (book-at i) (d .1) .0
 
+  exactly : (i : ℕ) (m : Made Does x i) (n : ℕ) → (n ≡ 0 → ⊥) → (m .answer .number ≡ n) ↔ Refused (point Does x i) (m .call) n
+  exactly i m n nz = let d = done-at i m in refused-exactly (point Does x i) (m .call) (m .answer) (d .0) (d .1) n nz
+
   never-full : (i : ℕ) (m : Made Does x i) → m .answer .number ≡ 11 → ⊥
   unfolding cs
   never-full i m e = go (keyIn (meaning (m .call))) refl
@@ -180,33 +184,33 @@ module _ (Does : List ℕ → Call → Seen → List ℕ → Type 0) (permits : 
   unfolding cs
   changed k f i h q u = q i h (u .made .call) (u .made .answer) (u .made .there) (on-key k i u) (answered i (u .made)) (u .accepted)
 
-  last-accepted : (k : Key) (i : ℕ) (u : AcceptedAt Does x k i) → ((j : ℕ) → i < j → AcceptedAt Does x k j → ⊥) → Holds (x .end) k (leaves (u .made .call))
+  last-accepted : (k : Key) (i : ℕ) (u : LastAt Does x k i) → Holds (x .end) k (leaves (u .here .made .call))
   unfolding cs
-  last-accepted k i u later = go (machine.at-end M s cs g room k)
+  last-accepted k i u = go (machine.at-end M s cs g room k)
     where
       same-place : (r : LastUpdate M s cs k) → r .place ≡ i
       same-place r = order (decLt (r .place) i) (decLt i (r .place))
         where
           order : Dec (r .place < i) → Dec (i < r .place) → r .place ≡ i
-          order (yes p) q = absurd (changed k (suc (r .place)) i p (r .later) u)
-          order (no p) (yes q) = absurd (later (r .place) q (accepted-by k r))
+          order (yes p) q = absurd (changed k (suc (r .place)) i p (r .later) (u .here))
+          order (no p) (yes q) = absurd (u .none-later (r .place) q (accepted-by k r))
           order (no p) (no q) = omega arith
 
-      go : ((r : LastUpdate M s cs k) × (get (final (M .step) s cs) k ≡ leaves (r .call))) ⊎ (Unchanged M s cs k 0 × (get (final (M .step) s cs) k ≡ get s k)) → Holds (x .end) k (leaves (u .made .call))
+      go : ((r : LastUpdate M s cs k) × (get (final (M .step) s cs) k ≡ leaves (r .call))) ⊎ (Unchanged M s cs k 0 × (get (final (M .step) s cs) k ≡ get s k)) → Holds (x .end) k (leaves (u .here .made .call))
       go (inl (r, e)) =
           let p = same-place r in
           let q : getElem? (x .calls) i ≡ some (r .call) = rw p at (r .there) in
-          let c : r .call ≡ u .made .call = cc (u .made .there) in
+          let c : r .call ≡ u .here .made .call = cc (u .here .made .there) in
           holds-end k _ (e ∙ ap leaves c)
-      go (inr (q, e)) = absurd (changed k 0 i (omega arith) q u)
+      go (inr (q, e)) = absurd (changed k 0 i (omega arith) q (u .here))
 
   -- a path had a last accepted write or removal, or none
-  pub last-or-none : (k : Key) → ((i : ℕ) × AcceptedAt Does x k i × ((j : ℕ) → i < j → AcceptedAt Does x k j → ⊥)) ⊎ ((i : ℕ) → AcceptedAt Does x k i → ⊥)
-  last-or-none k = go (machine.at-end M s cs g room k)
+  each-path : (k : Key) → ((i : ℕ) × LastAt Does x k i) ⊎ ((i : ℕ) → AcceptedAt Does x k i → ⊥)
+  each-path k = go (machine.at-end M s cs g room k)
     where
       go : ((r : LastUpdate M s cs k) × (get (final (M .step) s cs) k ≡ leaves (r .call))) ⊎ (Unchanged M s cs k 0 × (get (final (M .step) s cs) k ≡ get s k))
-          → ((i : ℕ) × AcceptedAt Does x k i × ((j : ℕ) → i < j → AcceptedAt Does x k j → ⊥)) ⊎ ((i : ℕ) → AcceptedAt Does x k i → ⊥)
-      go (inl (r, e)) = inl (r .place, accepted-by k r, λ j l u. changed k (suc (r .place)) j l (r .later) u)
+          → ((i : ℕ) × LastAt Does x k i) ⊎ ((i : ℕ) → AcceptedAt Does x k i → ⊥)
+      go (inl (r, e)) = inl (r .place, record { here = accepted-by k r; none-later = λ j l u. changed k (suc (r .place)) j l (r .later) u })
       go (inr (q, e)) = inr (λ i u. changed k 0 i (omega arith) q u)
 
   others-keep : (k : Key) → ((i : ℕ) → AcceptedAt Does x k i → ⊥) → (o : Option (List ℕ)) → Holds (x .start) k o → Holds (x .end) k o
@@ -234,7 +238,7 @@ module _ (Does : List ℕ → Call → Seen → List ℕ → Type 0) (permits : 
   demand3 =
       record {
         same-answers = same-answers;
-        refused-exactly = λ i m n nz. let d = done-at i m in refused-exactly (point Does x i) (m .call) (m .answer) (d .0) (d .1) n nz;
+        refused-exactly = exactly;
         never-bad-book = λ i m e. not-nine (book-at i) (means (m .call)) (sym (ap (λ (y : Seen). y .number) (said-at i m)) ∙ e);
         never-full = never-full;
         same-bytes = same-bytes;
@@ -242,6 +246,8 @@ module _ (Does : List ℕ → Call → Seen → List ℕ → Type 0) (permits : 
         same-size = ap length at-the-end ∙ size-of (x .book) (final (M .step) s cs) (machine.good-final M s cs g);
         last-accepted = last-accepted;
         others-keep = others-keep;
+        each-path = each-path;
         lookup-gives = λ i m w e. look-gives (book-at i) (means (m .call)) w (m .answer) (said-at i m) e;
         twelve-says = λ i m w e. look-nothing (book-at i) (means (m .call)) w (sym (ap (λ (y : Seen). y .number) (said-at i m)) ∙ e);
+        twelve-when = λ i m k room ok h. exactly i m 12 (λ e. omega arith) .1 (not-found ok h);
       }

@@ -8,7 +8,7 @@ use mathlib.Core.Option.{Option, none, some}
 use Rattle.keys.specs.Records.{Key, get, put, del}
 use Rattle.keys.specs.Act.{Rec, Meaning, refuses, writes, removes, looks, Answer, says, done, gives, addTo, takeFrom, lookIn, act, seen}
 use Rattle.book.specs.Book.{Current, bytesWith, fullIn}
-use Rattle.book.specs.Outcome.{Outcome, no-book, this-book, Changed, Found, shown}
+use Rattle.book.specs.Outcome.{Outcome, no-book, this-book, Changed, Found, shown, Made, no-size, new-book}
 
 -- ---- a refusal changes no byte
 act-keeps : (full : Key → List Rec → Bool) (m : Meaning) (s : List Rec) → (seen (act full m s .0) .number ≡ 0 → ⊥) → act full m s .1 ≡ s
@@ -46,3 +46,7 @@ shown-keeps (gives v) out z = absurd (z refl)
 
 pub found-keeps : {b : List ℕ} {m : Meaning} {out : List ℕ} {r : ℕ} {out₁ : List ℕ} → Found Current b m out r out₁ → (r ≡ 0 → ⊥) → out₁ ≡ out
 found-keeps {out = out} x z = x .value ∙ shown-keeps (x .answer) out (λ e. z (x .number ∙ e))
+
+pub made-keeps : {b : List ℕ} {r : ℕ} {b₁ : List ℕ} → Made Current tt b r b₁ → (r ≡ 0 → ⊥) → b₁ ≡ b
+made-keeps (no-size n e f) z = f
+made-keeps (new-book C s e f) z = absurd (z e)

@@ -1,6 +1,7 @@
 -- The demands as theorems over the contracts that the sources have. `Written` holds what demands 1 and 2 share. Demand 3 is `Demand3`, in
 -- the words of `Held`, `Refusals` and `BookCalls`; `Useless` shows which line each useless book breaks. Files that end in `Laws` may be
 -- skipped.
+pub mod KeepsLaws
 pub mod Demand1
 pub mod Demand2
 pub mod Written
@@ -9,7 +10,6 @@ pub mod HeldLaws
 pub mod Refusals
 pub mod Permitted
 pub mod PermittedLaws
-pub mod KeepsLaws
 pub mod CountLaws
 pub mod MachineLaws
 pub mod Demand3

@@ -97,31 +97,6 @@ permitted-book b c a b₁ x p =
     let e = on-book x (o .1) in
     (same-seen a _ (o .2 ∙ ap (λ (y : Answer). seen y .number) (e .0)) (value-to (c .asked) b c a b₁ refl x p), e .1)
 
--- a call has one outcome, on every buffer
-pub one-permitted : (b : List ℕ) (c : Call) (a a′ : Seen) (b₁ b₂ : List ℕ) → Permitted b c a b₁ → Permitted b c a′ b₂ → (a ≡ a′) × (b₁ ≡ b₂)
-one-permitted b c a a′ b₁ b₂ p p′ = go (outcome-of b c a b₁ p .1)
-  where
-    number : a .number ≡ a′ .number
-    number =
-        let o = outcome-of b c a b₁ p in
-        let o′ = outcome-of b c a′ b₂ p′ in
-        o .2 ∙ ap (λ (y : Answer). seen y .number) (one-outcome lawful (o .1) (o′ .1) .0) ∙ sym (o′ .2)
-
-    bytes : b₁ ≡ b₂
-    bytes = one-outcome lawful (outcome-of b c a b₁ p .1) (outcome-of b c a′ b₂ p′ .1) .1
-
-    nothing : (q : Asked) (e : Seen) (b₃ : List ℕ) → e .number ≡ 9 → PermittedTo q b c e b₃ → e .value ≡ []
-    nothing (to-write v) e b₃ n r = r .1
-    nothing to-remove e b₃ n r = r .1
-    nothing (to-look room) e b₃ n r = r .0 .gives ∙ rw n
-
-    go : {ans : Answer} → Outcome Current (meaning c) b ans b₁ → (a ≡ a′) × (b₁ ≡ b₂)
-    go (no-book n e f) =
-        let o = outcome-of b c a b₁ p in
-        let nine : a .number ≡ 9 = o .2 ∙ ap (λ (y : Answer). seen y .number) (one-outcome lawful (o .1) (no-book n refl f) .0) in
-        (same-seen a a′ number (nothing (c .asked) a b₁ nine p ∙ sym (nothing (c .asked) a′ b₂ (sym number ∙ nine) p′)), bytes)
-    go (this-book x e f) = (permitted-book b c a b₁ x p .0 ∙ sym (permitted-book b c a′ b₂ x p′ .0), bytes)
-
 -- a lookup leaves the records as they are
 kept : {c : Call} {m : Meaning} → Means c m → Looks c → (full : Key → List Rec → Bool) (s : List Rec) → act full m s .1 ≡ s
 unfolding act

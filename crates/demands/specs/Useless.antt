@@ -127,7 +127,7 @@ ignored =
     }
 
 pub ignores-refused : ((x : Taken Ignores) → Demand3 Ignores x) → ⊥
-ignores-refused h = none-before port value (h ignored .last-accepted port 0 here later)
+ignores-refused h = none-before port value (h ignored .last-accepted port 0 (record { here = here; none-later = later }))
   where
     here : AcceptedAt Ignores ignored port 0
     here = record { made = record { call = W; answer = seen done; there = refl; said = refl }; path = port-key; accepted = (tt, refl) }
@@ -199,7 +199,7 @@ obeyed-once =
     }
 
 pub once-refused : ((x : Taken Once) → Demand3 Once x) → ⊥
-once-refused h = still-there (h obeyed-once .last-accepted port 1 here later)
+once-refused h = still-there (h obeyed-once .last-accepted port 1 (record { here = here; none-later = later }))
   where
     here : AcceptedAt Once obeyed-once port 1
     here = record { made = record { call = remove port; answer = seen done; there = refl; said = refl }; path = port-key; accepted = (tt, refl) }

@@ -36,13 +36,6 @@ effOf (writes k v) x = some v
 effOf (removes k) x = none
 effOf (looks k) x = x
 
--- what an accepted write or removal leaves
-abbrev pub putOf : Meaning → Option (List ℕ)
-putOf (refuses n) = none
-putOf (writes k v) = some v
-putOf (removes k) = none
-putOf (looks k) = none
-
 pub dec-some : (o : Option Key) (k : Key) → Dec (o ≡ some k)
 dec-some none k = no (λ e. let z : _≡_ {A = ℕ} 0 1 = cc in omega arith)
 dec-some (some j) k = go (List-discrete ℕ-discrete j k)

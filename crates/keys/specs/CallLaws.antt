@@ -16,10 +16,9 @@ use Rattle.path.specs.declared.Refusal.the-variants.{TooLong, NotAscii}
 use Rattle.path.specs.declared.Reading.the-variants.{Refused as Unread}
 use Rattle.path.specs.Kinds.{kinds}
 use Rattle.path.specs.Read.{readFirst, readingOf, readPath, keyBy, keyOf}
-use Rattle.path.specs.BackLaws.{key-exact}
 use Rattle.keys.specs.Records.{Key}
 use Rattle.keys.specs.Act.{Meaning, refuses, writes, removes, looks}
-use Rattle.keys.specs.Calls.{keyed, Asked, to-write, to-remove, to-look, Call, under, meaning, PathOf, SamePath}
+use Rattle.keys.specs.Calls.{keyed, Asked, to-write, to-remove, to-look, Call, under, meaning, PathOf}
 use Rattle.keys.specs.Refusals.{HasKey, GoodWrite, GoodRemoval, GoodLookup, Declined, too-long, not-ascii, not-a-path, key-too-long, bad-length, no-room}
 
 -- a text that has no rendering
@@ -107,7 +106,3 @@ declined-not (no-room q h l) = (λ e. omega arith, λ e. omega arith, λ e. omeg
 
 pub one-path : (c : Call) (j k : Key) → PathOf c j → PathOf c k → j ≡ k
 one-path c j k p q = cc
-
--- a text and its rendering are the same path, whatever is asked
-pub own-rendering : (c : Call) (k : Key) (q : Asked) → PathOf c k → SamePath c (record { text = k; asked = q })
-own-rendering c k q p = (k, p, key-exact (c .text) k p .2)

@@ -9,7 +9,7 @@ use lib.Dec.{leb}
 use lib.ListN.{length, take, drop}
 use lib.Seq.{take-at}
 use Rattle.text.specs.PutLaws.{left-fits, length-left, put-zero}
-use borrow.Author.Tests.{le-leb, lt-leb, leb-true, eq-eqb, ne-eqb}
+use borrow.Author.Tests.{leb-true}
 use Rattle.text.specs.Part.{same}
 use Rattle.text.specs.PartLaws.{same-refl}
 use Rattle.text.specs.Put.{Wanted, text}
@@ -23,6 +23,8 @@ use Rattle.path.specs.BackLaws.{read-exact, exact-renders}
 use Rattle.path.specs.Read.{keyOf, keyBy, readPath, renderPath, refusalOf}
 use Rattle.keys.specs.Act.{Meaning, refuses, writes, removes, looks}
 use Rattle.text.specs.declared.Written.{Written}
+use Rattle.keys.specs.Refusals.{HasKey, bad-length, no-room}
+use Rattle.keys.specs.CallLaws.{declined-means, writing-means, removing-means, looking-means}
 use Rattle.keys.specs.Calls.{Asked, to-write, to-remove, to-look, write, remove, look, under, meaning, Exact, keyed, keyAnswer}
 
 -- ---- exact keys, by the mark of a reading
@@ -50,35 +52,22 @@ exact-refused t r h x =
     let z : _≡_ {A = ℕ} 0 1 = cc in
     omega arith
 
--- ---- the refusals of a text are 1, 2 and 3
-pub record Low (n : ℕ) : Type 0 where
-  pub least : 1 ≤ n
-  pub most : n ≤ 3
+-- ---- a refusal of a text is no success, and not the 4 of a short buffer
+pub record Own (n : ℕ) : Type 0 where
+  pub refused : n ≡ 0 → ⊥
+  pub no-four : n ≡ 4 → ⊥
 
-low : (r : Refusal) → Low (refusalOf r)
-low TooLong = record { least = omega arith; most = omega arith }
-low NotAscii = record { least = omega arith; most = omega arith }
-low NotAPath = record { least = omega arith; most = omega arith }
+own : (r : Refusal) → Own (refusalOf r)
+own TooLong = record { refused = λ e. omega arith; no-four = λ e. omega arith }
+own NotAscii = record { refused = λ e. omega arith; no-four = λ e. omega arith }
+own NotAPath = record { refused = λ e. omega arith; no-four = λ e. omega arith }
 
-pub key-low : (t : List ℕ) (n : ℕ) → keyOf t ≡ put.refused n → Low n
-key-low t n h = go (readPath t) refl
+key-own : (t : List ℕ) (n : ℕ) → keyOf t ≡ put.refused n → Own n
+key-own t n h = go (readPath t) refl
   where
-    go : (r : Reading) → readPath t ≡ r → Low n
+    go : (r : Reading) → readPath t ≡ r → Own n
     go (Read p e) q = let w = key-read t p e q in let z : _≡_ {A = ℕ} 0 1 = cc in absurd (let y : ⊥ = omega arith in y)
-    go (Refused r) q = let w = key-refused t r q in let e : refusalOf r ≡ n = cc in rw e at (low r)
-
--- ---- what a call means, by its key
-pub keyed-refused : (n : ℕ) (f : List ℕ → Meaning) → keyed (put.refused n) f ≡ refuses n
-unfolding keyed
-keyed-refused n f = refl
-
-pub keyed-long : (k : List ℕ) (f : List ℕ → Meaning) → 255 < length k → keyed (text k) f ≡ refuses 10
-unfolding keyed
-keyed-long k f h = rw (lt-leb (length k) 255 h)
-
-pub keyed-fits : (k : List ℕ) (f : List ℕ → Meaning) → length k ≤ 255 → keyed (text k) f ≡ f k
-unfolding keyed
-keyed-fits k f h = rw (le-leb (length k) 255 h)
+    go (Refused r) q = let w = key-refused t r q in let e : refusalOf r ≡ n = cc in rw e at (own r)
 
 -- ---- a key's field, by the writer of keys: its 4 is 10
 pub answer-long : (t : List ℕ) → put.answer (keyOf t) 255 .refusal ≡ 4 → keyAnswer (keyOf t) ≡ put.refusal 10
@@ -86,7 +75,7 @@ unfolding put.answer keyAnswer
 answer-long t h = go (keyOf t) refl h
   where
     go : (w : Wanted) → keyOf t ≡ w → put.answer w 255 .refusal ≡ 4 → keyAnswer w ≡ put.refusal 10
-    go (put.refused n) e q = absurd (let l = key-low t n e in let z : ⊥ = omega arith in z)
+    go (put.refused n) e q = absurd (key-own t n e .no-four q)
     go (text k) e q = fits (leb (length k) 255) q
       where
         fits : (v : Bool) → (cond v (put.done (length k)) (put.refusal 4)) .refusal ≡ 4 → cond v (put.done (length k)) (put.refusal 10) ≡ put.refusal 10
@@ -129,7 +118,7 @@ unfolding keyAnswer
 key-here t field blank n lb h en ef = go (keyOf t) refl h en ef
   where
     go : (w : Wanted) → keyOf t ≡ w → keyAnswer w .refusal ≡ 0 → n ≡ keyAnswer w .length → field ≡ put.left w blank → Keyed t field n
-    go (put.refused m) e z l f = absurd (let q = key-low t m e in let y : ⊥ = omega arith in y)
+    go (put.refused m) e z l f = absurd (key-own t m e .refused z)
     go (text k) e z l f = fits (leb (length k) 255) refl z l
       where
         fits : (v : Bool) → leb (length k) 255 ≡ v → (cond v (put.done (length k)) (put.refusal 10)) .refusal ≡ 0 → n ≡ (cond v (put.done (length k)) (put.refusal 10)) .length → Keyed t field n
@@ -147,24 +136,23 @@ key-here t field blank n lb h en ef = go (keyOf t) refl h en ef
 
 -- what a call with a key means
 module _ (t field : List ℕ) (n : ℕ) (k : Keyed t field n) where
-  known : (q : Asked) → meaning (record { text = t; asked = q }) ≡ under q (k .key)
-  unfolding meaning
-  known q = ap (λ (w : Wanted). keyed w (under q)) (k .reads) ∙ keyed-fits (k .key) (under q) (k .short)
+  has : (q : Asked) → HasKey (record { text = t; asked = q }) (k .key)
+  has q = record { path = k .reads; fits = k .short }
 
   pub look-means : (room : ℕ) → 32 ≤ room → meaning (look t room) ≡ looks (k .key)
-  look-means room h = known (to-look room) ∙ rw (le-leb 32 room h)
+  look-means room h = looking-means (look t room) (k .key) room (record { asked = refl; key = has (to-look room); wide = h })
 
   pub look-short : (room : ℕ) → room < 32 → meaning (look t room) ≡ refuses 4
-  look-short room h = known (to-look room) ∙ rw (lt-leb 32 room h)
+  look-short room h = declined-means (look t room) (no-room refl (has (to-look room)) h)
 
   pub write-means : (v : List ℕ) → length v ≡ 32 → meaning (write t v) ≡ writes (k .key) v
-  write-means v h = known (to-write v) ∙ rw (eq-eqb (length v) 32 h)
+  write-means v h = writing-means (write t v) (k .key) v (record { asked = refl; key = has (to-write v); size = h })
 
   pub write-bad : (v : List ℕ) → (length v ≡ 32 → ⊥) → meaning (write t v) ≡ refuses 6
-  write-bad v h = known (to-write v) ∙ rw (ne-eqb (length v) 32 h)
+  write-bad v h = declined-means (write t v) (bad-length refl (has (to-write v)) h)
 
   pub remove-means : meaning (remove t) ≡ removes (k .key)
-  remove-means = known to-remove
+  remove-means = removing-means (remove t) (k .key) (record { asked = refl; key = has to-remove })
 
 -- the same, from what the writer of the field answers
 module _ (t : List ℕ) (w : Written) (e : w ≡ keyAnswer (keyOf t)) where

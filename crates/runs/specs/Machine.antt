@@ -222,37 +222,3 @@ module _ (M : Independent) where
           inl
           (record { place = suc (r .place); call = r .call; answer = r .answer; there = r .there; isOn = r .isOn; said = r .said; accepted = r .accepted; later = unchanged-later s c cs k (suc (r .place)) (r .later) }, e)
       go (inr (q, e)) = decided q e (M .isKey k c) (M .isUpd c (M .step s c .0))
-
--- the same machine, with more known of its good states
-abbrev pub strengthen : (M : Independent) (Extra : M .State → Type 0) → ((s : M .State) (c : M .Call) → M .Good s → Extra s → Extra (M .step s c .1)) → Independent
-strengthen M Extra keep =
-    record {
-      State = M .State;
-      Call = M .Call;
-      Answer = M .Answer;
-      Key = M .Key;
-      Cell = M .Cell;
-      Purse = M .Purse;
-      step = M .step;
-      Good = λ s. M .Good s × Extra s;
-      get = M .get;
-      free = M .free;
-      charge = M .charge;
-      key = M .key;
-      isKey = M .isKey;
-      refusal = M .refusal;
-      ans = M .ans;
-      eff = M .eff;
-      Upd = M .Upd;
-      isUpd = M .isUpd;
-      put = M .put;
-      good = λ s c g. (M .good s c (g .0), keep s c (g .0) (g .1));
-      pays = λ s c g. M .pays s c (g .0);
-      refuses = λ s c g. M .refuses s c (g .0);
-      says = λ s c g. M .says s c (g .0);
-      does = λ s c g. M .does s c (g .0);
-      spares = λ s c g. M .spares s c (g .0);
-      puts = M .puts;
-      keeps = M .keeps;
-      ext = λ s t g h. M .ext s t (g .0) (h .0);
-    }

@@ -6,8 +6,7 @@ use mathlib.Core.Option.{some}
 use Prim.Native.Nat.{ℕ, zero, suc, _<_}
 use native.Mathlib.Omega.{arith}
 use lib.ListN.{length, getElem?}
-use Rattle.runs.specs.Rearranged.{Rearranged}
-use Rattle.runs.specs.Machine.{Independent, answers, final, Enough, SameKey, same-answers, same-final}
+use Rattle.runs.specs.Machine.{Independent, answers, final}
 
 pub data Runs {B Call Answer : Type 0} (Does : B → Call → Answer → B → Type 0) : B → List Call → List Answer → B → Type 0 where
   stop : {b : B} → Runs Does b [] [] b
@@ -24,16 +23,6 @@ module _ (M : Independent) {B : Type 0} (Does : B → M .Call → M .Answer → 
       let w : (a ≡ M .step s c .0) × (b₁ ≡ bytes (M .step s c .1)) = sim s c a b₁ g (rw e at d) in
       let h = simulates r (M .step s c .1) (M .good s c g) (w .1) in
       ((λ i. w .0 i ∷ h .0 i), h .1)
-
-  -- THE THEOREM over buffers: any run of a rearranged list has each call's answer and leaves the same bytes
-  module _ {Same : M .Call → M .Call → Type 0} (same : (c d : M .Call) → SameKey M c d → Same c d)
-      (s : M .State) (g : M .Good s) (cs ds : List (M .Call)) (room : Enough M s cs) (R : Rearranged Same cs ds) where
-    pub same-runs : {rs qs : List (M .Answer)} {b₁ b₂ : B} → Runs Does (bytes s) cs rs b₁ → Runs Does (bytes s) ds qs b₂
-        → ((i : ℕ) → i < length cs → getElem? qs (R .to i) ≡ getElem? rs i) × (b₂ ≡ b₁)
-    same-runs x y =
-        let p = simulates x s g refl in
-        let q = simulates y s g refl in
-        (λ i h. rw (p .0, q .0) (same-answers M same s g cs ds room R i h), q .1 ∙ ap bytes (same-final M same s g cs ds room R) ∙ sym (p .1))
 
 -- ---- the points of a run
 module _ {B Call Answer : Type 0} {Does : B → Call → Answer → B → Type 0} where
