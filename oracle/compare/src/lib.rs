@@ -1,7 +1,8 @@
 //! Three voices on the same questions: the library over its C interface, the original as it runs,
 //! and the model of document 01. The library equals the model always; the original equals it
-//! wherever docs/DIFFERENCES.md lists no difference.
+//! wherever docs/DIFFERENCES.md lists no difference. Of books the original knows nothing.
 pub mod batch;
+pub mod books;
 pub mod call;
 pub mod identifiers;
 #[cfg_attr(feature = "linked", path = "linked.rs")]
@@ -31,8 +32,4 @@ impl Size {
 pub type Sets = &'static [(&'static str, fn(&mut set::Set, Size))];
 
 /// The families of sets that this build can run.
-pub const FAMILIES: &[Sets] = &[
-    identifiers::SETS,
-    paths::SETS,
-    renderings::SETS,
-];
+pub const FAMILIES: &[Sets] = &[identifiers::SETS, paths::SETS, renderings::SETS, books::SETS];

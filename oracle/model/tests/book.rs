@@ -101,9 +101,11 @@ fn book() -> Vec<u8> {
     book.bytes()
 }
 
+type Damage = fn(&mut Vec<u8>);
+
 #[test]
 fn no_books() {
-    let damages: [(&str, fn(&mut Vec<u8>)); 13] = [
+    let damages: [(&str, Damage); 13] = [
         ("mark", |b| b[2] = b'b'),
         ("version", |b| b[4] = 2),
         ("last byte of the header", |b| b[7] = 1),
