@@ -8,6 +8,7 @@ pub mod identifiers;
 #[cfg_attr(feature = "linked", path = "linked.rs")]
 #[cfg_attr(not(feature = "linked"), path = "served.rs")]
 pub mod library;
+pub mod no_books;
 pub mod paths;
 pub mod renderings;
 pub mod set;
@@ -32,4 +33,5 @@ impl Size {
 pub type Sets = &'static [(&'static str, fn(&mut set::Set, Size))];
 
 /// The families of sets that this build can run.
-pub const FAMILIES: &[Sets] = &[identifiers::SETS, paths::SETS, renderings::SETS, books::SETS];
+pub const FAMILIES: &[Sets] =
+    &[identifiers::SETS, paths::SETS, renderings::SETS, books::SETS, no_books::SETS];
