@@ -34,18 +34,6 @@ impl Spelt {
         Self { kind, first, second, numbers: [0, 0] }
     }
 
-    /// The plain path of a kind with the n-th identifiers and numbers; kinds 1 to 3 have one path.
-    pub fn numbered(kind: u8, n: u64) -> Self {
-        let first = match KINDS[usize::from(kind) - 1] {
-            [_, Part::First(Identifier::Connection), ..] => format!("connection-{n}"),
-            [_, Part::First(Identifier::Client), ..] => format!("07-tendermint-{}", n % 7),
-            [_, Part::First(Identifier::Port)] => format!("icahost.{n}"),
-            [Part::Upgrade, ..] => "upgradedIBCState".into(),
-            _ => "transfer".into(),
-        };
-        Self { kind, first, second: format!("channel-{n}"), numbers: [n % 3, 1_000 + 37 * n] }
-    }
-
     /// A path whose rendering has this length, from 200 to 300 bytes: an upgrade path.
     pub fn long(length: usize, random: &mut Random) -> Self {
         let kind = 18 + random.below(2) as u8;
