@@ -1,7 +1,6 @@
 //! Calls on a full book, each beside one reading of every key that the book holds.
 use std::cell::RefCell;
 use std::hint::black_box;
-use std::rc::Rc;
 
 use hostpath::{book_size, Refusal, BOOK_VALUE, READING};
 use model::path::{render, KINDS};
@@ -133,9 +132,8 @@ pub fn count(operation: &str, records: usize, times: usize) {
 pub fn families() -> Vec<Family> {
     let mut all = vec![];
     for records in RECORDS {
-        let desk = Rc::new(RefCell::new(Desk::new(records)));
         let side = |operation| {
-            let desk = Rc::clone(&desk);
+            let desk = RefCell::new(Desk::new(records));
             move || desk.borrow_mut().run(operation)
         };
         for (name, operation) in &OPERATIONS[1..] {
