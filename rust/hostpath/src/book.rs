@@ -80,9 +80,7 @@ pub fn book_write(book: &mut [u8], text: &[u8], value: &[u8]) -> Result<(), Refu
 
 /// Removes what the rendering of a text holds. 9, 1, 2, 3, 10, 12.
 pub fn book_remove(book: &mut [u8], text: &[u8]) -> Result<(), Refusal> {
-    done(unsafe {
-        raw::hp_book_remove(book.as_mut_ptr(), book.len(), text.as_ptr(), text.len())
-    })
+    done(unsafe { raw::hp_book_remove(book.as_mut_ptr(), book.len(), text.as_ptr(), text.len()) })
 }
 
 /// Copies the 32 bytes that the rendering of a text holds. 9, 1, 2, 3, 10, 4, 12.

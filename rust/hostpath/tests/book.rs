@@ -48,3 +48,17 @@ fn sizes() {
     assert_eq!(hostpath::book_lookup(&buffer, EXACT, &mut out), Ok(()));
     assert_eq!((&out[..BOOK_VALUE], out[BOOK_VALUE]), (&[1; BOOK_VALUE][..], b'.'));
 }
+
+/// A lent buffer may begin at any address.
+#[test]
+fn addresses() {
+    let mut room = [0xa5; book_size(2) + 32];
+    for at in 0..32 {
+        let mut book = Book::new(&mut room[at..at + book_size(2)]).unwrap();
+        assert_eq!(book.write(b"ports/transfer", &[1; BOOK_VALUE]), Ok(()));
+        assert_eq!(book.write(EXACT, &[2; BOOK_VALUE]), Ok(()));
+        assert_eq!(book.lookup(b"ports/transfer"), Ok([1; BOOK_VALUE]));
+        assert_eq!(book.remove(EXACT), Ok(()));
+        assert!(room[at + book_size(2)..].iter().all(|byte| *byte == 0xa5));
+    }
+}

@@ -8,8 +8,14 @@ extern "C" {
     fn hp_book_write(b: *mut u8, n: usize, text: *const u8, m: usize, v: *const u8, k: usize)
         -> u8;
     fn hp_book_remove(book: *mut u8, n: usize, text: *const u8, m: usize) -> u8;
-    fn hp_book_lookup(b: *const u8, n: usize, text: *const u8, m: usize, out: *mut u8, k: usize)
-        -> u8;
+    fn hp_book_lookup(
+        b: *const u8,
+        n: usize,
+        text: *const u8,
+        m: usize,
+        out: *mut u8,
+        k: usize,
+    ) -> u8;
     fn hp_book_oldest(book: *const u8, n: usize, client: *const u8, m: usize) -> Pair;
 }
 
