@@ -1,9 +1,11 @@
-/* IBC host paths and identifiers: the C interface of libnode.a.
+/* IBC host paths and identifiers, and books of records under such paths: the C interface of libnode.a.
  *
  * Every call takes any bytes and any numbers. A text is a pointer and a count of bytes, a null
- * pointer with count 0 among them; `out` is a lent buffer and its size, which lies apart from every
- * text. A success writes from byte 0 of `out` and leaves the bytes after what it wrote. A refusal
- * changes no byte of `out`; its length, numbers and value are 0.
+ * pointer with count 0 among them; `out` and `book` are lent buffers, each a pointer and a size in the
+ * same way. What a call may write lies apart from all else that is lent to it: `out` from every text
+ * and from the book, and a book that is written from the text and the value. A success writes from
+ * byte 0 of `out` and leaves the bytes after what it wrote. A refusal changes no byte of any buffer;
+ * its length, numbers and value are 0.
  *
  * The numbers after a call are its refusals, in the order in which they are looked for; 0 is done.
  * The library is proved in Rattle; rust/hostpath has the same calls for Rust.
@@ -25,10 +27,10 @@ enum hp_refusal {
     HP_NOT_A_PATH = 3,    /* no kind fits */
     HP_NO_ROOM = 4,       /* out is too short */
     HP_BAD_CHAR = 5,      /* a byte that no identifier has */
-    HP_BAD_LENGTH = 6,    /* an identifier too short or too long */
+    HP_BAD_LENGTH = 6,    /* an identifier too short or too long, or a value that is not 32 bytes */
     HP_BAD_PREFIX = 7,    /* not the name and `-`, or a leading zero after them */
     HP_BAD_NUMBER = 8,    /* no number after them */
-    HP_BAD_BOOK = 9,      /* no book */
+    HP_BAD_BOOK = 9,      /* a buffer that is no book */
     HP_KEY_TOO_LONG = 10, /* a rendering of more than 255 bytes */
     HP_FULL = 11,         /* no free slot for a new key */
     HP_ABSENT = 12,       /* no such record */
@@ -112,6 +114,33 @@ struct hp_written hp_commitment_prefix(uint8_t *out, size_t out_len);
 struct hp_written hp_ack_prefix(uint8_t *out, size_t out_len);
 /* `receipts`: 4. */
 struct hp_written hp_receipt_prefix(uint8_t *out, size_t out_len);
+
+/* Books. */
+
+/* A book of C slots, C from 1 to HP_BOOK_MOST, is a buffer of HP_BOOK_HEAD + HP_BOOK_SLOT * C bytes.
+ * Header: `HPB`, version 1 and the count of records in 2 bytes each, high byte first, and a zero byte.
+ * Slot: the key's length, 1 byte; the key, HP_BOOK_KEY bytes, zero filled; the value, HP_BOOK_VALUE
+ * bytes. Used slots come first, in strictly rising byte order of key, and the others are all zero. A
+ * key is the rendering of a path. Any other buffer is no book, and every call but the first looks. */
+enum {
+    HP_BOOK_HEAD = 8,
+    HP_BOOK_SLOT = 288,
+    HP_BOOK_MOST = 200,
+    HP_BOOK_KEY = 255,
+    HP_BOOK_VALUE = 32
+};
+
+/* Makes the buffer, whatever it holds, a book without records; its size alone is looked at: 9. */
+uint8_t hp_book_new(uint8_t *book, size_t book_len);
+/* The rendering of the text holds the value from now on, anew or in place of what it held: 9, 1, 2, 3, 10, 6, 11. */
+uint8_t hp_book_write(uint8_t *book, size_t book_len, const uint8_t *text, size_t text_len, const uint8_t *value, size_t value_len);
+/* The rendering of the text holds nothing from now on: 9, 1, 2, 3, 10, 12. */
+uint8_t hp_book_remove(uint8_t *book, size_t book_len, const uint8_t *text, size_t text_len);
+/* What the rendering of the text holds, in 32 bytes; wants that room even where it holds nothing: 9, 1, 2, 3, 10, 4, 12. */
+uint8_t hp_book_lookup(const uint8_t *book, size_t book_len, const uint8_t *text, size_t text_len, uint8_t *out, size_t out_len);
+/* Revision number and height of the client's first record `clients/C/consensusStates/R-h` in byte order of
+ * key, in which 10 stands before 9: 9, the client's 2, 5, 6; then 12. */
+struct hp_pair hp_book_oldest(const uint8_t *book, size_t book_len, const uint8_t *client, size_t client_len);
 
 #ifdef __cplusplus
 }

@@ -4,12 +4,44 @@
  *
  * A batch: its size in 4 bytes, then requests. A request: function and kind, 1 byte each; two numbers
  * of 8 bytes; the lengths of two texts and the size of the lent buffer, 4 bytes each; the texts. A reply:
- * the refusal, 1 byte; length or value, 8 bytes; the lent buffer with the guards around it. Low byte
- * first. compare/src/call.rs and compare/src/batch.rs have the same.
+ * the refusal, 1 byte; two numbers of 8 bytes, the first a length or value; the lent buffer with the guards
+ * around it; and after a call on a book, the book with its guards. Low byte first. compare/src/call.rs and
+ * compare/src/batch.rs have the same.
+ *
+ * The book stays here from one request to the next. What is empty is lent as a null pointer.
  */
 #include "hostpath.h"
 
-enum { GUARD = 8, WATCH = 0xa5, ROOM = 1 << 23 };
+/* There is no C library; a compiler may call these by itself too. */
+void *memcpy(void *to, const void *from, size_t count) {
+    for (size_t i = 0; i < count; i++) ((uint8_t *)to)[i] = ((const uint8_t *)from)[i];
+    return to;
+}
+
+void *memmove(void *to, const void *from, size_t count) {
+    if ((const uint8_t *)to <= (const uint8_t *)from) return memcpy(to, from, count);
+    for (size_t i = count; i-- > 0;) ((uint8_t *)to)[i] = ((const uint8_t *)from)[i];
+    return to;
+}
+
+void *memset(void *to, int byte, size_t count) {
+    for (size_t i = 0; i < count; i++) ((uint8_t *)to)[i] = (uint8_t)byte;
+    return to;
+}
+
+int memcmp(const void *left, const void *right, size_t count) {
+    for (size_t i = 0; i < count; i++) {
+        int apart = ((const uint8_t *)left)[i] - ((const uint8_t *)right)[i];
+        if (apart != 0) return apart;
+    }
+    return 0;
+}
+
+int bcmp(const void *left, const void *right, size_t count) {
+    return memcmp(left, right, count);
+}
+
+enum { GUARD = 8, WATCH = 0xa5, ROOM = 1 << 23, BOOK = 1 << 16, HEAD = 17 };
 
 enum function {
     VALIDATE_IDENTIFIER_CHARS,
@@ -42,6 +74,12 @@ enum function {
     COMMITMENT_PREFIX,
     ACK_PREFIX,
     RECEIPT_PREFIX,
+    BOOK_LEND,
+    BOOK_NEW,
+    BOOK_WRITE,
+    BOOK_REMOVE,
+    BOOK_LOOKUP,
+    BOOK_OLDEST,
 };
 
 struct request {
@@ -53,6 +91,8 @@ struct request {
 
 static uint8_t requests[ROOM];
 static uint8_t replies[ROOM];
+static uint8_t book[GUARD + BOOK + GUARD];
+static size_t book_len;
 
 static struct hp_written number(uint8_t refusal) {
     struct hp_written answer = {refusal, 0};
@@ -106,6 +146,50 @@ static struct hp_written call(const struct request *q, uint8_t *out) {
     }
 }
 
+static long system_call(long which, long descriptor, const void *bytes, size_t count) {
+    long answer;
+    __asm__ volatile("syscall"
+                     : "=a"(answer)
+                     : "a"(which), "D"(descriptor), "S"(bytes), "d"(count)
+                     : "rcx", "r11", "memory");
+    return answer;
+}
+
+static void leave(long status) {
+    for (;;) system_call(60, status, 0, 0);
+}
+
+/* What a request lends is the book of the calls after it. */
+static void lend(const struct request *q) {
+    if (q->first_len > BOOK) leave(2);
+    book_len = q->first_len;
+    memset(book, WATCH, GUARD + book_len + GUARD);
+    memcpy(book + GUARD, q->first, book_len);
+}
+
+static struct hp_pair call_book(const struct request *q, uint8_t *out) {
+    struct hp_pair answer = {0, 0, 0};
+    const uint8_t *x = q->first, *y = q->second;
+    size_t m = q->first_len, n = q->second_len;
+    uint8_t *lent = book_len ? book + GUARD : 0;
+    switch ((enum function)q->function) {
+    case BOOK_LEND: lend(q); return answer;
+    case BOOK_NEW: answer.refusal = hp_book_new(lent, book_len); return answer;
+    case BOOK_WRITE: answer.refusal = hp_book_write(lent, book_len, x, m, y, n); return answer;
+    case BOOK_REMOVE: answer.refusal = hp_book_remove(lent, book_len, x, m); return answer;
+    case BOOK_LOOKUP: answer.refusal = hp_book_lookup(lent, book_len, x, m, out, q->room); return answer;
+    case BOOK_OLDEST: return hp_book_oldest(lent, book_len, x, m);
+    default: answer.refusal = 255; return answer;
+    }
+}
+
+static struct hp_pair answer_to(const struct request *q, uint8_t *out) {
+    if (q->function >= BOOK_LEND) return call_book(q, out);
+    struct hp_written written = call(q, out);
+    struct hp_pair answer = {written.refusal, written.length, 0};
+    return answer;
+}
+
 static uint64_t low_first(const uint8_t *bytes, int count) {
     uint64_t value = 0;
     for (int i = count; i-- > 0;) value = value << 8 | bytes[i];
@@ -121,33 +205,28 @@ static size_t parse(const uint8_t *at, struct request *q) {
     q->first_len = low_first(at + 18, 4);
     q->second_len = low_first(at + 22, 4);
     q->room = low_first(at + 26, 4);
-    q->first = at + 30;
-    q->second = q->first + q->first_len;
+    q->first = q->first_len ? at + 30 : 0;
+    q->second = q->second_len ? at + 30 + q->first_len : 0;
     return 30 + q->first_len + q->second_len;
+}
+
+/* The most that a reply takes. */
+static size_t reply_size(const struct request *q) {
+    return HEAD + GUARD + q->room + GUARD + sizeof book;
 }
 
 /* Lends a watched buffer in the reply itself; gives the reply's size. */
 static size_t reply(const struct request *q, uint8_t *to) {
-    uint8_t *lent = to + 9;
+    uint8_t *lent = to + HEAD;
     size_t size = GUARD + q->room + GUARD;
-    for (size_t i = 0; i < size; i++) lent[i] = WATCH;
-    struct hp_written answer = call(q, lent + GUARD);
+    memset(lent, WATCH, size);
+    struct hp_pair answer = answer_to(q, q->room ? lent + GUARD : 0);
     to[0] = answer.refusal;
-    for (int i = 0; i < 8; i++) to[1 + i] = (uint8_t)(answer.length >> 8 * i);
-    return 9 + size;
-}
-
-static long system_call(long which, long descriptor, const void *bytes, size_t count) {
-    long answer;
-    __asm__ volatile("syscall"
-                     : "=a"(answer)
-                     : "a"(which), "D"(descriptor), "S"(bytes), "d"(count)
-                     : "rcx", "r11", "memory");
-    return answer;
-}
-
-static void leave(long status) {
-    for (;;) system_call(60, status, 0, 0);
+    for (int i = 0; i < 8; i++) to[1 + i] = (uint8_t)(answer.number >> 8 * i);
+    for (int i = 0; i < 8; i++) to[9 + i] = (uint8_t)(answer.height >> 8 * i);
+    if (q->function < BOOK_LEND) return HEAD + size;
+    memcpy(lent + size, book, GUARD + book_len + GUARD);
+    return HEAD + size + GUARD + book_len + GUARD;
 }
 
 /* Reads or writes all of it; where that cannot be, the program ends. */
@@ -171,7 +250,7 @@ __attribute__((used)) static void serve(void) {
         while (at < size) {
             struct request q;
             at += parse(requests + at, &q);
-            if (sizeof replies - used < 9 + GUARD + q.room + GUARD) leave(2);
+            if (sizeof replies - used < reply_size(&q)) leave(2);
             used += reply(&q, replies + used);
         }
         all(1, replies, used);
@@ -179,32 +258,3 @@ __attribute__((used)) static void serve(void) {
 }
 
 __asm__(".globl _start\n_start:\n\txor %ebp, %ebp\n\tand $-16, %rsp\n\tcall serve\n");
-
-/* What a compiler may call by itself. */
-void *memcpy(void *to, const void *from, size_t count) {
-    for (size_t i = 0; i < count; i++) ((uint8_t *)to)[i] = ((const uint8_t *)from)[i];
-    return to;
-}
-
-void *memmove(void *to, const void *from, size_t count) {
-    if ((const uint8_t *)to <= (const uint8_t *)from) return memcpy(to, from, count);
-    for (size_t i = count; i-- > 0;) ((uint8_t *)to)[i] = ((const uint8_t *)from)[i];
-    return to;
-}
-
-void *memset(void *to, int byte, size_t count) {
-    for (size_t i = 0; i < count; i++) ((uint8_t *)to)[i] = (uint8_t)byte;
-    return to;
-}
-
-int memcmp(const void *left, const void *right, size_t count) {
-    for (size_t i = 0; i < count; i++) {
-        int apart = ((const uint8_t *)left)[i] - ((const uint8_t *)right)[i];
-        if (apart != 0) return apart;
-    }
-    return 0;
-}
-
-int bcmp(const void *left, const void *right, size_t count) {
-    return memcmp(left, right, count);
-}

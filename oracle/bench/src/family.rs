@@ -7,26 +7,27 @@ const ROUNDS: usize = 25;
 /// What a round of the slower side takes at least.
 const ROUND: Duration = Duration::from_millis(2);
 
-/// A pass over all texts of a family, by each side.
+/// A pass over all texts of a family, by each side: the original and the library, or a call on a book
+/// and the readings of its keys.
 pub struct Family {
     pub name: String,
-    original: Box<dyn Fn()>,
-    library: Box<dyn Fn()>,
+    upper: Box<dyn Fn()>,
+    lower: Box<dyn Fn()>,
 }
 
 impl Family {
-    pub fn new(name: String, original: impl Fn() + 'static, library: impl Fn() + 'static) -> Self {
-        Self { name, original: Box::new(original), library: Box::new(library) }
+    pub fn new(name: String, upper: impl Fn() + 'static, lower: impl Fn() + 'static) -> Self {
+        Self { name, upper: Box::new(upper), lower: Box::new(lower) }
     }
 
-    /// The sides take turns at going first.
+    /// Time of the first side over time of the second. The sides take turns at going first.
     pub fn ratio(&self) -> f64 {
         let passes = self.passes();
         let round = |turn: usize| {
-            let before = (turn % 2 == 1).then(|| time(passes, &self.original));
-            let library = time(passes, &self.library);
-            let original = before.unwrap_or_else(|| time(passes, &self.original));
-            original.as_secs_f64() / library.as_secs_f64()
+            let before = (turn % 2 == 1).then(|| time(passes, &self.upper));
+            let lower = time(passes, &self.lower);
+            let upper = before.unwrap_or_else(|| time(passes, &self.upper));
+            upper.as_secs_f64() / lower.as_secs_f64()
         };
         let mut ratios: Vec<f64> = (0..ROUNDS).map(round).collect();
         ratios.sort_by(f64::total_cmp);
@@ -34,7 +35,7 @@ impl Family {
     }
 
     fn passes(&self) -> u32 {
-        let slower = |passes| time(passes, &self.original).max(time(passes, &self.library));
+        let slower = |passes| time(passes, &self.upper).max(time(passes, &self.lower));
         (0..)
             .map(|doubled| 1 << doubled)
             .find(|passes| slower(*passes) >= ROUND)

@@ -7,42 +7,81 @@ use crate::call::{Call, Function};
 pub const WATCH: u8 = 0xa5;
 pub const GUARD: usize = 8;
 
-/// What stands in a reply before the lent buffer: the refusal, and the length or value.
-pub const HEAD: usize = 9;
+/// What stands in a reply before the lent buffers: the refusal and two numbers.
+pub const HEAD: usize = 17;
 
-/// Refusal, and length or value: what a call returns.
-#[derive(Clone, Copy)]
+/// What a call returns: refusal, and a length or value, or a pair of numbers.
+#[derive(Clone, Copy, Default)]
 pub struct Returned {
     pub refusal: u8,
-    pub length: u64,
+    pub numbers: [u64; 2],
 }
 
-/// The size of a reply to a call with so large a buffer.
-fn size(room: usize) -> usize {
-    HEAD + GUARD + room + GUARD
+impl Returned {
+    pub fn new(refusal: u8, number: u64) -> Self {
+        Self { refusal, numbers: [number, 0] }
+    }
+
+    pub fn bytes(self) -> impl Iterator<Item = u8> {
+        [self.refusal].into_iter().chain(self.numbers.into_iter().flat_map(u64::to_le_bytes))
+    }
+}
+
+/// What a call is to return, and to leave in what is lent to it.
+pub struct Expected<'a> {
+    pub returned: Returned,
+    /// The size of the buffer for what it writes.
+    pub room: usize,
+    /// Written from byte 0 of that buffer; the rest is left.
+    pub text: &'a [u8],
+    /// All of the book, for a call that is lent one.
+    pub book: Option<&'a [u8]>,
+}
+
+/// The size of a reply to a call with so large a buffer, and so large a book if any.
+fn size(room: usize, book: Option<usize>) -> usize {
+    let guarded = |size| GUARD + size + GUARD;
+    HEAD + guarded(room) + book.map_or(0, guarded)
 }
 
 /// Puts a reply whose lent buffer is as it was, and gives the place of that buffer.
 pub fn put_reply(replies: &mut Vec<u8>, returned: Returned, room: usize) -> usize {
-    replies.push(returned.refusal);
-    replies.extend(returned.length.to_le_bytes());
+    replies.extend(returned.bytes());
     let lent = replies.len() + GUARD;
     replies.resize(lent + room + GUARD, WATCH);
     lent
 }
 
-/// A reply as a difference shows it: of watched bytes at the ends of a buffer only how many there are.
-pub struct Reply<'a>(&'a [u8]);
+/// A book with the guards around it.
+pub fn guarded(book: &[u8]) -> Vec<u8> {
+    [&[WATCH; GUARD], book, &[WATCH; GUARD]].concat()
+}
+
+/// A reply as a difference shows it: of watched bytes at the ends of a buffer only how many there are,
+/// and of a book nothing.
+pub struct Reply<'a> {
+    head: &'a [u8],
+    lent: &'a [u8],
+}
+
+impl<'a> Reply<'a> {
+    fn new(bytes: &'a [u8], room: usize) -> Self {
+        let (head, rest) = bytes.split_at(HEAD);
+        Self { head, lent: &rest[..GUARD + room + GUARD] }
+    }
+}
 
 impl Display for Reply<'_> {
     fn fmt(&self, out: &mut Formatter<'_>) -> fmt::Result {
-        let (head, lent) = self.0.split_at(HEAD);
-        let length = head[1..].iter().rfold(0, |value, byte| value << 8 | u64::from(*byte));
+        let Self { head, lent } = self;
+        let number =
+            |bytes: &[u8]| bytes.iter().rfold(0, |value, byte| value << 8 | u64::from(*byte));
+        let (a, b) = (number(&head[1..9]), number(&head[9..]));
         let watched = |byte: &&u8| **byte == WATCH;
         let before = lent.iter().take_while(watched).count();
         let after = lent[before..].iter().rev().take_while(watched).count();
         let text = lent[before..lent.len() - after].escape_ascii();
-        write!(out, "{}, length {length}, buffer {before} \"{text}\" {after}", head[0])
+        write!(out, "{}, numbers {a} and {b}, buffer {before} \"{text}\" {after}", head[0])
     }
 }
 
@@ -53,6 +92,16 @@ pub struct Difference<'a> {
     pub room: usize,
     pub ours: Reply<'a>,
     pub expected: Reply<'a>,
+    /// The first byte that differs in the book and its guards, counted from the book's start.
+    pub in_book: Option<isize>,
+}
+
+impl Display for Difference<'_> {
+    fn fmt(&self, out: &mut Formatter<'_>) -> fmt::Result {
+        let Self { call, room, ours, expected, .. } = self;
+        write!(out, "{call} with room {room}: library {ours}; document 01 {expected}")?;
+        self.in_book.map_or(Ok(()), |at| write!(out, "; books differ first at byte {at}"))
+    }
 }
 
 struct Waiting {
@@ -62,6 +111,7 @@ struct Waiting {
     numbers: [u64; 2],
     lengths: [usize; 2],
     room: usize,
+    book: Option<usize>,
 }
 
 #[derive(Default)]
@@ -85,15 +135,17 @@ impl Batch {
         &self.expected
     }
 
-    /// Adds a call of a check; it is to return this, to write this text into its lent buffer and to
-    /// leave the rest.
-    pub fn push(&mut self, check: u64, call: Call, room: usize, returned: Returned, text: &[u8]) {
+    /// Adds a call of a check.
+    pub fn push(&mut self, check: u64, call: Call, expected: Expected) {
+        let Expected { returned, room, text, book } = expected;
         let Call { function, kind, texts, numbers } = call;
         let lengths = texts.map(<[u8]>::len);
         texts.iter().for_each(|text| self.texts.extend_from_slice(text));
-        self.waiting.push(Waiting { check, function, kind, numbers, lengths, room });
+        let size = book.map(<[u8]>::len);
+        self.waiting.push(Waiting { check, function, kind, numbers, lengths, room, book: size });
         let lent = put_reply(&mut self.expected, returned, room);
         self.expected[lent..lent + text.len()].copy_from_slice(text);
+        self.expected.extend(book.into_iter().flat_map(guarded));
     }
 
     /// Each call with the size of its buffer.
@@ -116,12 +168,15 @@ impl Batch {
         }
         let mut at = 0;
         let beside = |(waiting, (call, room)): (&Waiting, (Call<'a>, usize))| {
-            let place = at..at + size(room);
+            let place = at..at + size(room, waiting.book);
             at = place.end;
             let (ours, expected) = (&replies[place.clone()], &self.expected[place]);
-            let (check, differ) = (waiting.check, ours != expected);
-            let (ours, expected) = (Reply(ours), Reply(expected));
-            differ.then_some(Difference { check, call, room, ours, expected })
+            let apart = ours.iter().zip(expected).position(|(ours, expected)| ours != expected)?;
+            let in_book =
+                apart.checked_sub(size(room, None)).map(|at| at as isize - GUARD as isize);
+            let (check, ours, expected) =
+                (waiting.check, Reply::new(ours, room), Reply::new(expected, room));
+            Some(Difference { check, call, room, ours, expected, in_book })
         };
         self.waiting.iter().zip(self.calls()).filter_map(beside).collect()
     }

@@ -35,6 +35,20 @@ pub enum Function {
     CommitmentPrefix,
     AckPrefix,
     ReceiptPrefix,
+    /// No call: the text is what the calls below are lent as a book from now on.
+    BookLend,
+    BookNew,
+    BookWrite,
+    BookRemove,
+    BookLookup,
+    BookOldest,
+}
+
+impl Function {
+    /// Whether a reply shows the book.
+    pub fn has_book(self) -> bool {
+        self as u8 >= Self::BookLend as u8
+    }
 }
 
 /// A call's arguments but for the lent buffer. What a call lacks is not looked at.

@@ -1,12 +1,14 @@
 //! Three voices on the same questions: the library over its C interface, the original as it runs,
 //! and the model of document 01. The library equals the model always; the original equals it
-//! wherever docs/DIFFERENCES.md lists no difference.
+//! wherever docs/DIFFERENCES.md lists no difference. Of books the original knows nothing.
 pub mod batch;
+pub mod books;
 pub mod call;
 pub mod identifiers;
 #[cfg_attr(feature = "linked", path = "linked.rs")]
 #[cfg_attr(not(feature = "linked"), path = "served.rs")]
 pub mod library;
+pub mod no_books;
 pub mod paths;
 pub mod renderings;
 pub mod set;
@@ -31,8 +33,5 @@ impl Size {
 pub type Sets = &'static [(&'static str, fn(&mut set::Set, Size))];
 
 /// The families of sets that this build can run.
-pub const FAMILIES: &[Sets] = &[
-    identifiers::SETS,
-    paths::SETS,
-    renderings::SETS,
-];
+pub const FAMILIES: &[Sets] =
+    &[identifiers::SETS, paths::SETS, renderings::SETS, books::SETS, no_books::SETS];

@@ -1,12 +1,14 @@
 //! The library linked into this program, called through the crate that the node uses.
-use hostpath::{Refusal, Written};
+use hostpath::{Pair, Refusal, Written};
 
-use crate::batch::{put_reply, Batch, Returned, HEAD};
+use crate::batch::{guarded, put_reply, Batch, Returned, GUARD, HEAD};
 use crate::call::{Call, Function};
 
 #[derive(Default)]
 pub struct Library {
     replies: Vec<u8>,
+    /// The book that calls are lent, between its guards.
+    book: Vec<u8>,
 }
 
 impl Library {
@@ -17,10 +19,21 @@ impl Library {
     pub fn send(&mut self, batch: &Batch) {
         for (call, room) in batch.calls() {
             let head = self.replies.len();
-            let lent = put_reply(&mut self.replies, Returned { refusal: 0, length: 0 }, room);
-            let returned = answer(&call, &mut self.replies[lent..lent + room]);
-            self.replies[head] = returned.refusal;
-            self.replies[head + 1..head + HEAD].copy_from_slice(&returned.length.to_le_bytes());
+            let lent = put_reply(&mut self.replies, Returned::default(), room);
+            let out = &mut self.replies[lent..lent + room];
+            let returned = match call.function {
+                Function::BookLend => {
+                    self.book = guarded(call.texts[0]);
+                    Returned::default()
+                }
+                function if function.has_book() => answer_book(&call, &mut self.book, out),
+                _ => answer(&call, out),
+            };
+            let told = self.replies[head..head + HEAD].iter_mut().zip(returned.bytes());
+            told.for_each(|(to, byte)| *to = byte);
+            if call.function.has_book() {
+                self.replies.extend_from_slice(&self.book);
+            }
         }
     }
 
@@ -32,11 +45,28 @@ impl Library {
 }
 
 fn number(answer: Result<(), Refusal>) -> Returned {
-    Returned { refusal: answer.map_or_else(Refusal::number, |()| 0), length: 0 }
+    Returned::new(answer.map_or_else(Refusal::number, |()| 0), 0)
 }
 
 fn written(answer: Written) -> Returned {
-    Returned { refusal: answer.refusal, length: answer.length }
+    Returned::new(answer.refusal, answer.length)
+}
+
+fn answer_book(call: &Call, guarded: &mut [u8], out: &mut [u8]) -> Returned {
+    let [first, second] = call.texts;
+    let end = guarded.len() - GUARD;
+    let book = &mut guarded[GUARD..end];
+    match call.function {
+        Function::BookNew => number(hostpath::book_new(book)),
+        Function::BookWrite => number(hostpath::book_write(book, first, second)),
+        Function::BookRemove => number(hostpath::book_remove(book, first)),
+        Function::BookLookup => number(hostpath::book_lookup(book, first, out)),
+        Function::BookOldest => {
+            let Pair { refusal, number, height } = hostpath::book_oldest(book, first);
+            Returned { refusal, numbers: [number, height] }
+        }
+        _ => unreachable!("{call} is no call on a book"),
+    }
 }
 
 fn answer(call: &Call, out: &mut [u8]) -> Returned {
@@ -69,11 +99,11 @@ fn answer_path(call: &Call, out: &mut [u8]) -> Returned {
         Function::Read => {
             let answer = number(hostpath::read(first, out));
             let length = if answer.refusal == 0 { hostpath::READING as u64 } else { 0 };
-            Returned { length, ..answer }
+            Returned::new(answer.refusal, length)
         }
         Function::IsProvable => {
             let flag = hostpath::is_provable(kind);
-            Returned { refusal: flag.refusal, length: flag.value.into() }
+            Returned::new(flag.refusal, flag.value.into())
         }
         Function::Key => written(hostpath::key(first, out)),
         Function::Render => written(hostpath::render(kind, first, second, a, b, out)),

@@ -1,5 +1,6 @@
-//! `compare quick` is for the gate, `compare full` for the list of differences. The last line counts
-//! sets; the status is 0 where no set has a difference that is not listed.
+//! `compare quick` is for the gate, `compare full` for the list of differences; a word more, and only the
+//! sets whose names begin with it are run. The last line counts sets; the status is 0 where no set has a
+//! difference that is not listed.
 use std::process::ExitCode;
 use std::time::Instant;
 
@@ -12,13 +13,15 @@ fn main() -> ExitCode {
         Some("quick") => Size::Quick,
         Some("full") => Size::Full,
         _ => {
-            eprintln!("compare quick|full");
+            eprintln!("compare quick|full [SETS]");
             return ExitCode::from(2);
         }
     };
+    let chosen = std::env::args().nth(2).unwrap_or_default();
     let mut library = Library::start();
     let (mut passed, mut failed) = (0, 0);
-    for (name, run) in FAMILIES.iter().copied().flatten() {
+    let sets = FAMILIES.iter().copied().flatten();
+    for (name, run) in sets.filter(|(name, _)| name.starts_with(&chosen)) {
         let begun = Instant::now();
         let mut set = Set::new(&mut library);
         run(&mut set, size);

@@ -1,10 +1,11 @@
 //! One set of checks: what was asked, how often the voices differed, and the first differences whole.
 use std::fmt::{self, Debug, Display, Formatter};
 
+use model::book::{Answer, Given};
 use model::NO_ROOM;
 
-use crate::batch::{Batch, Difference, Returned};
-use crate::call::Call;
+use crate::batch::{Batch, Expected, Returned};
+use crate::call::{Call, Function};
 use crate::library::Library;
 
 /// Where the original may differ: a reason for each kind that docs/DIFFERENCES.md lists.
@@ -63,6 +64,8 @@ pub struct Set<'a> {
     last: u64,
     shown: Vec<String>,
     listed: [u64; REASONS.len()],
+    /// How often each refusal, or 0, is the answer of a call on a book.
+    answers: [u64; 15],
 }
 
 impl<'a> Set<'a> {
@@ -76,6 +79,7 @@ impl<'a> Set<'a> {
             last: 0,
             shown: vec![],
             listed: Default::default(),
+            answers: Default::default(),
         }
     }
 
@@ -92,15 +96,15 @@ impl<'a> Set<'a> {
     pub fn number(&mut self, call: Call, theirs: Theirs<u8>, model: Result<(), u8>) {
         let refusal = model.err().unwrap_or(0);
         self.checks += 1;
-        self.ask(call, 0, Returned { refusal, length: 0 }, b"");
+        self.ask(call, 0, Returned::new(refusal, 0), b"");
         self.agree(theirs, &refusal, call);
     }
 
     /// A check of a call whose answer is a yes or no.
     pub fn flag(&mut self, call: Call, theirs: Theirs<Result<bool, u8>>, model: Result<bool, u8>) {
         let returned = match model {
-            Ok(value) => Returned { refusal: 0, length: value.into() },
-            Err(refusal) => Returned { refusal, length: 0 },
+            Ok(value) => Returned::new(0, value.into()),
+            Err(refusal) => Returned::new(refusal, 0),
         };
         self.checks += 1;
         self.ask(call, 0, returned, b"");
@@ -136,8 +140,27 @@ impl<'a> Set<'a> {
                 Ok(_) => (NO_ROOM, &[][..]),
                 Err(refusal) => (*refusal, &[][..]),
             };
-            self.ask(call, room, Returned { refusal, length: text.len() as u64 }, text);
+            self.ask(call, room, Returned::new(refusal, text.len() as u64), text);
         }
+    }
+
+    /// Lends these bytes as the book of the calls that follow.
+    pub fn lend_book(&mut self, bytes: &[u8]) {
+        let call = Call::new(Function::BookLend, [bytes, b""], [0, 0]);
+        let returned = Returned::default();
+        self.push(call, Expected { returned, room: 0, text: b"", book: Some(bytes) });
+    }
+
+    /// A call that is lent the book, which holds these bytes afterwards.
+    pub fn on_book(&mut self, call: Call, room: usize, answer: &Answer, after: &[u8]) {
+        let (returned, text) = match answer {
+            Ok(Given::Nothing) => (Returned::default(), &[][..]),
+            Ok(Given::Value(value)) => (Returned::default(), &value[..]),
+            Ok(Given::Heights(numbers)) => (Returned { refusal: 0, numbers: *numbers }, &[][..]),
+            Err(refusal) => (Returned::new(*refusal, 0), &[][..]),
+        };
+        self.answers[usize::from(returned.refusal)] += 1;
+        self.push(call, Expected { returned, room, text, book: Some(after) });
     }
 
     /// The original and the model say the same, or the difference is a listed one.
@@ -157,7 +180,11 @@ impl<'a> Set<'a> {
     }
 
     fn ask(&mut self, call: Call, room: usize, returned: Returned, text: &[u8]) {
-        self.batch.push(self.checks, call, room, returned, text);
+        self.push(call, Expected { returned, room, text, book: None });
+    }
+
+    fn push(&mut self, call: Call, expected: Expected) {
+        self.batch.push(self.checks, call, expected);
         if self.batch.is_full() {
             self.turn();
         }
@@ -167,13 +194,11 @@ impl<'a> Set<'a> {
     fn turn(&mut self) {
         if let Some(sent) = self.sent.take() {
             let replies = self.library.receive(sent.expected().len());
-            for Difference { check, call, room, ours, expected } in sent.differences(&replies) {
-                if check != self.last {
-                    self.differ(|| {
-                        format!("{call} with room {room}: library {ours}; document 01 {expected}")
-                    });
+            for difference in sent.differences(&replies) {
+                if difference.check != self.last {
+                    self.differ(|| difference.to_string());
                 }
-                self.last = check;
+                self.last = difference.check;
             }
         }
         if !self.batch.is_empty() {
@@ -201,6 +226,10 @@ impl Display for Set<'_> {
         write!(out, "{} checks, {} differences", self.checks, self.differences)?;
         for (reason, count) in REASONS.iter().zip(self.listed).filter(|(_, count)| *count > 0) {
             write!(out, ", {count} listed ({reason})")?;
+        }
+        let answers = self.answers.iter().enumerate().filter(|(_, count)| **count > 0);
+        for (turn, (answer, count)) in answers.enumerate() {
+            write!(out, "{} {count} of {answer}", if turn == 0 { "; answers:" } else { "," })?;
         }
         Ok(())
     }

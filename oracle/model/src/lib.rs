@@ -1,9 +1,11 @@
 //! Document 01 as a program, written from the document and from neither the original nor the port,
 //! and pools of texts to try all three on. Plain and slow on purpose.
+pub mod book;
 pub mod identifier;
 pub mod path;
 pub mod pool;
 pub mod random;
+pub mod spelling;
 pub mod table;
 
 /// A refusal's number in document 01.
@@ -17,6 +19,10 @@ pub const BAD_CHAR: Refusal = 5;
 pub const BAD_LENGTH: Refusal = 6;
 pub const BAD_PREFIX: Refusal = 7;
 pub const BAD_NUMBER: Refusal = 8;
+pub const BAD_BOOK: Refusal = 9;
+pub const KEY_TOO_LONG: Refusal = 10;
+pub const FULL: Refusal = 11;
+pub const ABSENT: Refusal = 12;
 pub const BAD_SEGMENT: Refusal = 13;
 pub const BAD_KIND: Refusal = 14;
 

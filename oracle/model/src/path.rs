@@ -95,7 +95,7 @@ impl Reading {
             KINDS[usize::from(self.kind) - 1],
             self.first.of(text),
             self.second.of(text),
-            self.numbers,
+            self.numbers.map(|n| n.to_string()),
         )
     }
 }
@@ -181,7 +181,7 @@ pub fn render(
             Word(_) | Number | Heights => {}
         }
     }
-    let text = joined(shape, first, second, numbers);
+    let text = joined(shape, first, second, numbers.map(|n| n.to_string()));
     hold(text.len() <= MOST, TOO_LONG)?;
     Ok(text)
 }
@@ -191,12 +191,13 @@ fn segment(upgrade: &[u8]) -> Result<(), Refusal> {
     hold(!upgrade.contains(&b'/'), BAD_SEGMENT)
 }
 
-fn joined(shape: &[Part], first: &[u8], second: &[u8], [a, b]: [u64; 2]) -> Vec<u8> {
+/// The parts of a shape with slashes between them; numbers as they are spelt.
+pub fn joined(shape: &[Part], first: &[u8], second: &[u8], [a, b]: [String; 2]) -> Vec<u8> {
     let shown = |part: &Part| match part {
         Word(word) => word.as_bytes().to_vec(),
         First(_) | Upgrade => first.to_vec(),
         Second(_) => second.to_vec(),
-        Number => a.to_string().into_bytes(),
+        Number => a.clone().into_bytes(),
         Heights => format!("{a}-{b}").into_bytes(),
     };
     shape.iter().map(shown).collect::<Vec<_>>().join(&b'/')

@@ -26,6 +26,12 @@ impl Random {
         &pool[self.below(pool.len())]
     }
 
+    pub fn shuffle<T>(&mut self, all: &mut [T]) {
+        for left in (2..=all.len()).rev() {
+            all.swap(left - 1, self.below(left));
+        }
+    }
+
     /// Mostly a byte that the rules speak of; now and then any other.
     fn byte(&mut self) -> u8 {
         match self.below(32) {

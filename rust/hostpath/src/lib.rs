@@ -1,4 +1,5 @@
-//! IBC host paths and identifiers by a proved library: safe calls over its C interface.
+//! IBC host paths and identifiers, and books of records under such paths, by a proved library: safe
+//! calls over its C interface.
 //!
 //! Every call takes any bytes and any numbers, and comes back with an answer or a numbered
 //! [`Refusal`]. A refusal changes no byte of a lent buffer; a success writes from its byte 0 and
@@ -9,9 +10,11 @@
 #![no_std]
 
 mod answer;
+mod book;
 mod identifiers;
 mod paths;
 
 pub use answer::{Flag, Pair, Refusal, Written};
+pub use book::*;
 pub use identifiers::*;
 pub use paths::*;

@@ -2,8 +2,11 @@
 use std::collections::BTreeSet;
 
 const HEADER: &str = include_str!("../../../include/hostpath.h");
-const DECLARED: [&str; 2] =
-    [include_str!("../src/identifiers.rs"), include_str!("../src/paths.rs")];
+const DECLARED: [&str; 3] = [
+    include_str!("../src/book.rs"),
+    include_str!("../src/identifiers.rs"),
+    include_str!("../src/paths.rs"),
+];
 
 /// The words that stand before a bracket and begin with `hp_`.
 fn calls(source: &str) -> BTreeSet<&str> {

@@ -1,0 +1,197 @@
+//! Buffers that are no books, and some that just are: of every length near a book's, with bytes changed,
+//! with slots out of order, with slots by chance.
+use model::book::{Book, Call, HEAD, KEY, MOST, SLOT, VALUE};
+use model::pool::Pools;
+use model::random::Random;
+use model::spelling::Spelt;
+
+use crate::books::{slots, Chance, Lent};
+use crate::set::Set;
+use crate::{Sets, Size};
+
+pub const SETS: Sets = &[
+    ("books, lengths of buffers", lengths),
+    ("books, each byte changed", changed),
+    ("books, spoilt", spoilt),
+    ("books, slots by chance", slots_by_chance),
+];
+
+const STATE: &[u8] = b"clients/07-tendermint-4/consensusStates/7-2";
+
+/// Every call on a buffer: where it is no book each gives 9 and leaves it, until a new one is made of it.
+fn probe(set: &mut Set, bytes: &[u8]) {
+    let mut lent = Lent::new(set, bytes);
+    let calls = [
+        Call::Lookup(STATE.to_vec(), VALUE),
+        Call::Oldest(b"07-tendermint-4".to_vec()),
+        Call::Write(STATE.to_vec(), vec![3; VALUE]),
+        Call::Remove(STATE.to_vec()),
+        Call::Write(b"ports/transfer".to_vec(), vec![4; VALUE]),
+        Call::New,
+        Call::Write(b"ports/transfer".to_vec(), vec![5; VALUE]),
+    ];
+    for call in calls {
+        lent.check(set, &call);
+    }
+}
+
+/// Buffers of every length up to that of two slots, and around those of the largest books.
+fn lengths(set: &mut Set, _: Size) {
+    let around = |slots| HEAD + SLOT * slots - 2..=HEAD + SLOT * slots + 2;
+    for length in (0..=600).chain((199..=201).flat_map(around)) {
+        for byte in [0, 1, 0xff] {
+            let mut bytes = vec![byte; length];
+            probe(set, &bytes);
+            let head = length.min(HEAD);
+            bytes[..head].copy_from_slice(&b"HPB\0\x01\0\0\0"[..head]);
+            probe(set, &bytes);
+        }
+        let mut bytes = one_record(1);
+        bytes.resize(length, 0);
+        probe(set, &bytes);
+    }
+}
+
+/// The state that `probe` asks for, in a book of so many slots.
+fn one_record(slots: usize) -> Vec<u8> {
+    let mut book = Book::empty(slots);
+    book.write(STATE, &[1; VALUE]).expect("it has room");
+    book.bytes()
+}
+
+/// A full book: the state, the longest keys and others by chance.
+fn full(slots: usize, random: &mut Random) -> Vec<u8> {
+    let mut book = Book::of(&one_record(slots)).expect("a book");
+    let mut path = Spelt::longest();
+    while book.free() > 0 {
+        book.write(&path.exact(), &[9; VALUE]).expect("it has room");
+        path = Spelt::chance(random);
+    }
+    book.bytes()
+}
+
+/// Each byte of some books, header and slots, used and unused, to other values.
+fn changed(set: &mut Set, size: Size) {
+    let mut random = Random(10);
+    let few: Vec<u8> = vec![0, 1, 2, b'+', b'-', b'/', b'0', b'9', b'a', 127, 128, 255];
+    let values = size.pick(few, (0..=255).collect());
+    for book in [one_record(1), one_record(2), full(3, &mut random)] {
+        for at in 0..book.len() {
+            for value in &values {
+                let mut bytes = book.clone();
+                bytes[at] = *value;
+                probe(set, &bytes);
+            }
+            let mut bytes = book.clone();
+            bytes[at] = bytes[at].wrapping_add(random.of(&[1, 255]));
+            probe(set, &bytes);
+        }
+    }
+    let book = full(MOST, &mut random);
+    for at in (0..HEAD).chain((HEAD..book.len()).step_by(size.pick(487, 11))) {
+        let mut bytes = book.clone();
+        bytes[at] = bytes[at].wrapping_add(random.of(&[1, 128, 255]));
+        probe(set, &bytes);
+    }
+}
+
+/// The place of a chance slot.
+fn slot(bytes: &[u8], random: &mut Random) -> usize {
+    HEAD + SLOT * random.below((bytes.len() - HEAD) / SLOT)
+}
+
+type Spoil = fn(&mut Vec<u8>, &mut Random);
+
+const SPOILS: [Spoil; 12] = [
+    |bytes, random| bytes[6] = bytes[6].wrapping_add(random.of(&[1, 2, 254, 255])),
+    |bytes, random| bytes[5..7].copy_from_slice(&random.word().to_be_bytes()[..2]),
+    |bytes, random| exchange(bytes, random),
+    |bytes, random| {
+        let (from, to) = (slot(bytes, random), slot(bytes, random));
+        bytes.copy_within(from..from + SLOT, to);
+    },
+    |bytes, random| {
+        let at = slot(bytes, random);
+        bytes[at..at + SLOT].fill(0);
+    },
+    |bytes, random| widen(bytes, random),
+    |bytes, random| {
+        let at = slot(bytes, random);
+        bytes[at] = bytes[at].wrapping_add(random.of(&[1, 255]));
+    },
+    |bytes, random| {
+        let at = slot(bytes, random) + KEY;
+        bytes[at] = bytes[at].wrapping_add(1);
+    },
+    |bytes, random| {
+        let at = slot(bytes, random) + random.below(SLOT);
+        bytes[at] = random.word() as u8;
+    },
+    |bytes, random| bytes.truncate(bytes.len() - random.of(&[1, SLOT, 8])),
+    |bytes, random| bytes.resize(bytes.len() + random.of(&[1, SLOT, 8]), 0),
+    |bytes, random| {
+        let at = slot(bytes, random);
+        bytes[at..].rotate_left(SLOT);
+    },
+];
+
+/// Two slots in each other's place.
+fn exchange(bytes: &mut [u8], random: &mut Random) {
+    let (one, other) = (slot(bytes, random), slot(bytes, random));
+    (0..SLOT).for_each(|at| bytes.swap(one + at, other + at));
+}
+
+/// A byte put into a key, so that a number may be loose.
+fn widen(bytes: &mut [u8], random: &mut Random) {
+    let at = slot(bytes, random);
+    let inside = at + 1 + random.below(usize::from(bytes[at]) + 1).min(KEY - 1);
+    bytes.copy_within(inside..at + KEY, inside + 1);
+    bytes[inside] = random.of(b"0+19");
+    bytes[at] = bytes[at].wrapping_add(1);
+}
+
+/// Books with a wrong count, slots exchanged, doubled, emptied or moved, keys made loose, and the rest
+/// of what makes a buffer no book; now and then two of them at once.
+fn spoilt(set: &mut Set, size: Size) {
+    let (mut random, pools) = (Random(11), Pools::default());
+    for turn in 0..size.pick(6_000, 120_000) {
+        let slots = slots(&mut random);
+        let mut bytes = if turn % 2 == 0 {
+            full(slots, &mut random)
+        } else {
+            Chance::new(&mut random, &pools, slots).book(slots, slots).bytes()
+        };
+        for _ in 0..1 + usize::from(random.one_in(4)) {
+            if bytes.len() >= HEAD + SLOT {
+                random.of(&SPOILS)(&mut bytes, &mut random);
+            }
+        }
+        probe(set, &bytes);
+    }
+}
+
+/// A header that is right, over slots of chance bytes, of short keys, or of keys in any order.
+fn slots_by_chance(set: &mut Set, size: Size) {
+    let mut random = Random(12);
+    for turn in 0..size.pick(6_000, 120_000) {
+        let slots = slots(&mut random);
+        let count = 1 + random.below(slots.min(8));
+        let mut bytes = Book::empty(slots).bytes();
+        bytes[6] = count as u8;
+        for used in bytes[HEAD..].chunks_mut(SLOT).take(count) {
+            match turn % 3 {
+                0 => used.fill_with(|| random.word() as u8),
+                1 => put_key(used, &[random.of(b"/09ab"), random.of(b"/09ab")]),
+                _ => put_key(used, &Spelt::chance(&mut random).spelling(&mut random)),
+            }
+        }
+        probe(set, &bytes);
+    }
+}
+
+/// As much of a key as a slot can hold.
+fn put_key(slot: &mut [u8], key: &[u8]) {
+    let length = key.len().min(KEY);
+    slot[0] = length as u8;
+    slot[1..=length].copy_from_slice(&key[..length]);
+}

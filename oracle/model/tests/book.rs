@@ -1,0 +1,167 @@
+//! Document 01's sentences on the book, asked of the model.
+use model::book::{is_book, key, Book, Buffer, Call, Given, HEAD, SLOT, VALUE};
+use model::pool::Pools;
+use model::random::Random;
+use model::spelling::{odd, Spelt};
+use model::{ABSENT, BAD_BOOK, BAD_LENGTH, FULL, KEY_TOO_LONG, NOT_ASCII, NOT_A_PATH};
+use model::{NO_ROOM, TOO_LONG};
+
+const LOOSE: &[u8] = b"clients/07-tendermint-4/consensusStates/007-+2";
+const EXACT: &[u8] = b"clients/07-tendermint-4/consensusStates/7-2";
+const ONE: [u8; VALUE] = [1; VALUE];
+const TWO: [u8; VALUE] = [2; VALUE];
+
+#[test]
+fn spellings_are_one_path() {
+    let mut book = Book::empty(1);
+    assert_eq!(book.write(LOOSE, &ONE), Ok(()));
+    assert_eq!(book.lookup(EXACT, VALUE), Ok(ONE));
+    assert_eq!(book.write(EXACT, &TWO), Ok(()));
+    assert_eq!(book.lookup(LOOSE, VALUE), Ok(TWO));
+    assert_eq!(book.remove(LOOSE), Ok(()));
+    assert_eq!(book.lookup(EXACT, VALUE), Err(ABSENT));
+}
+
+#[test]
+fn indexes_are_kept_as_written() {
+    let mut book = Book::empty(2);
+    assert_eq!(book.write(b"channelEnds/ports/ab/channels/channel-1", &ONE), Ok(()));
+    assert_eq!(book.write(b"channelEnds/ports/ab/channels/channel-+01", &TWO), Ok(()));
+    assert_eq!(book.free(), 0);
+}
+
+#[test]
+fn refusals_in_order() {
+    let mut book = Book::empty(1);
+    let long = Spelt::long(256, &mut Random(1)).exact();
+    for (text, refusal) in [
+        (&[0xff; 4097][..], TOO_LONG),
+        (b"\xff", NOT_ASCII),
+        (b"x", NOT_A_PATH),
+        (&long, KEY_TOO_LONG),
+    ] {
+        assert_eq!(book.write(text, b""), Err(refusal));
+        assert_eq!(book.remove(text), Err(refusal));
+        assert_eq!(book.lookup(text, 0), Err(refusal));
+    }
+    assert_eq!(book.lookup(EXACT, 31), Err(NO_ROOM));
+    assert_eq!(book.lookup(EXACT, 32), Err(ABSENT));
+    assert_eq!(book.remove(EXACT), Err(ABSENT));
+    assert_eq!(book.write(b"ports/ab", &ONE), Ok(()));
+    assert_eq!(book.write(EXACT, &[0; 31]), Err(BAD_LENGTH));
+    assert_eq!(book.write(EXACT, &[0; 33]), Err(BAD_LENGTH));
+    assert_eq!(book.write(EXACT, &ONE), Err(FULL));
+    assert_eq!(book.write(b"ports/ab", &TWO), Ok(()));
+    assert_eq!(book.oldest(b"short"), Err(BAD_LENGTH));
+    assert_eq!(book.oldest(b"07-tendermint-4"), Err(ABSENT));
+}
+
+#[test]
+fn ten_is_judged_on_the_rendering() {
+    let text = [&b"x/"[..], &[b'0'; 400], b"5/upgradedClient"].concat();
+    assert_eq!(key(&text), Ok(b"x/5/upgradedClient".to_vec()));
+    assert_eq!(key(&Spelt::long(255, &mut Random(1)).exact()).map(|key| key.len()), Ok(255));
+    assert_eq!(key(&Spelt::longest().exact()).map(|key| key.len()), Ok(251));
+}
+
+#[test]
+fn oldest_is_first_in_byte_order() {
+    let mut book = Book::empty(3);
+    for text in [
+        "clients/07-tendermint-4/consensusStates/9-1",
+        "clients/07-tendermint-4/consensusStates/10-3",
+    ] {
+        assert_eq!(book.write(text.as_bytes(), &ONE), Ok(()));
+    }
+    assert_eq!(
+        book.write(b"clients/07-tendermint-4/consensusStates/1-1/processedTime", &ONE),
+        Ok(())
+    );
+    assert_eq!(book.oldest(b"07-tendermint-4"), Ok([10, 3]));
+    assert_eq!(book.oldest(b"07-tendermint-"), Err(ABSENT));
+}
+
+#[test]
+fn layout() {
+    let mut book = Book::empty(2);
+    book.write(b"ports/ab", &ONE).unwrap();
+    let mut bytes = vec![0; HEAD + 2 * SLOT];
+    bytes[..HEAD].copy_from_slice(b"HPB\0\x01\0\x01\0");
+    bytes[8..17].copy_from_slice(b"\x08ports/ab");
+    bytes[264..296].copy_from_slice(&ONE);
+    assert_eq!(book.bytes(), bytes);
+    assert_eq!(Book::of(&bytes), Some(book));
+}
+
+/// What every damage below is done to: three slots, two of them used.
+fn book() -> Vec<u8> {
+    let mut book = Book::empty(3);
+    book.write(EXACT, &ONE).unwrap();
+    book.write(b"ports/ab", &TWO).unwrap();
+    book.bytes()
+}
+
+type Damage = fn(&mut Vec<u8>);
+
+#[test]
+fn no_books() {
+    let damages: [(&str, Damage); 13] = [
+        ("mark", |b| b[2] = b'b'),
+        ("version", |b| b[4] = 2),
+        ("last byte of the header", |b| b[7] = 1),
+        ("count too small", |b| b[6] = 1),
+        ("count too large", |b| b[6] = 3),
+        ("count beyond the slots", |b| b[5] = 1),
+        ("a key twice", |b| b.copy_within(HEAD..HEAD + SLOT, HEAD + SLOT)),
+        ("keys falling", |b| b[HEAD..HEAD + 2 * SLOT].rotate_left(SLOT)),
+        ("a loose key", |b| {
+            b[HEAD] += 1;
+            b[HEAD + 41..HEAD + 45].copy_from_slice(b"7-02");
+        }),
+        ("fill after a key", |b| b[HEAD + 255] = 1),
+        ("a key of no length", |b| b[HEAD..HEAD + 256].fill(0)),
+        ("an unused slot", |b| *b.last_mut().unwrap() = 1),
+        ("length", |b| b.push(0)),
+    ];
+    assert!(is_book(&book()));
+    for (name, damage) in damages {
+        let mut bytes = book();
+        damage(&mut bytes);
+        assert!(!is_book(&bytes), "{name}");
+        let mut buffer = Buffer::of(&bytes);
+        assert_eq!(buffer.act(&Call::Remove(EXACT.to_vec())), Err(BAD_BOOK), "{name}");
+        assert_eq!(buffer.bytes(), bytes, "{name}");
+    }
+}
+
+#[test]
+fn new_looks_at_the_length_alone() {
+    for (length, answer) in [
+        (0, Err(BAD_BOOK)),
+        (8, Err(BAD_BOOK)),
+        (296, Ok(Given::Nothing)),
+        (297, Err(BAD_BOOK)),
+        (57_608, Ok(Given::Nothing)),
+        (57_896, Err(BAD_BOOK)),
+    ] {
+        let mut buffer = Buffer::of(&vec![7; length]);
+        assert_eq!(buffer.act(&Call::New), answer, "{length}");
+        assert_eq!(is_book(&buffer.bytes()), answer.is_ok(), "{length}");
+    }
+}
+
+/// A book stays one by every call, and its bytes say all of it.
+#[test]
+fn books_stay_books() {
+    let (mut random, pools) = (Random(7), Pools::default());
+    for slots in (1..20).chain([199, 200]) {
+        let mut book = Book::empty(slots);
+        for _ in 0..3 * slots {
+            let path = Spelt::chance(&mut random);
+            let _ = book.write(&path.spelling(&mut random), &ONE);
+            let _ = book.remove(&odd(&pools, &mut random));
+            let _ = book.write(&odd(&pools, &mut random), &TWO);
+        }
+        assert_eq!(Book::of(&book.bytes()), Some(book));
+    }
+}
