@@ -19,7 +19,7 @@ use Rattle.keys.specs.TextLaws.{exact-yes, exact-no, exact-refused}
 use Rattle.form.specs.Form.{layout, SlotOk}
 use Rattle.form.specs.V1.{V1, header, countIn, stored}
 use Rattle.form.specs.V1Laws.{v1-lawful}
-use Rattle.form.specs.Search.{code}
+use Rattle.form.specs.Compare.{code}
 use Rattle.form.specs.Tells.{Tells, tells-true, tells-false}
 use Rattle.book.specs.Book.{Book}
 use Rattle.book.specs.Check.{Frame, SlotGood, Rises}

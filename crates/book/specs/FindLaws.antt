@@ -18,7 +18,7 @@ use Rattle.keys.specs.SplitLaws.{AllBefore, put-between, put-over, get-between,
 use Rattle.keys.specs.Act.{Meaning, refuses, writes, removes, looks, says, done, gives, Rec}
 use Rattle.form.specs.Form.{Form, AllFit, layout, place, keyAt, inserted, removed}
 use Rattle.form.specs.FormLaws.{Lawful, layout-inserted, layout-replaced, layout-removed, fit-take, fit-drop}
-use Rattle.form.specs.Search.{code}
+use Rattle.form.specs.Compare.{code}
 use Rattle.book.specs.Book.{Book, Counts}
 use Rattle.book.specs.BookLaws.{parted, sizes, record-is, key-is}
 use Rattle.book.specs.Find.{Placed, Spotted}

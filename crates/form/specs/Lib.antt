@@ -5,5 +5,8 @@ pub mod Form
 pub mod FormLaws
 pub mod V1
 pub mod V1Laws
-pub mod Search
+pub mod Compare
+pub mod CompareLaws
+pub mod WordsLaws
+pub mod BlankLaws
 pub mod Tells

@@ -12,11 +12,11 @@ ghost use Rattle.text.specs.Put.{put};
 ghost use Rattle.form.specs.Moves.{raised, lowered};
 ghost use Rattle.form.specs.Form.{zeros, inserted, removed, SlotOk};
 ghost use Rattle.form.specs.V1.{V1, slot, header, countIn, stored};
-ghost use Rattle.form.specs.Search.{code, word, Agree, Alike, Bytes};
+ghost use Rattle.form.specs.Compare.{code, Agree, quad, highSum, lowSum, Apart};
 ghost use Rattle.form.specs.Tells.{Tells};
 
 // Moves the bytes from `from` up to `to` up by `by` places, the last one first.
-pub fn raise(book: &mut [u8], from: usize, to: usize, by: usize)
+fn raise(book: &mut [u8], from: usize, to: usize, by: usize)
     requires { ⌜ from ≤ to ⌝ }
     requires { do ⌜ to + by ≤ (← ⟦book.len()⟧) ⌝ }
     ensures { λ _. ⌜ now (book .exit) ≡ raised from to by (now (book .entry)) ⌝ }
@@ -29,7 +29,7 @@ pub fn raise(book: &mut [u8], from: usize, to: usize, by: usize)
 }
 
 // Moves the bytes from `from` up to `to` down by `by` places, the first one first.
-pub fn lower(book: &mut [u8], from: usize, to: usize, by: usize)
+fn lower(book: &mut [u8], from: usize, to: usize, by: usize)
     requires { ⌜ (by ≤ from) × (from ≤ to) ⌝ }
     requires { do ⌜ to ≤ (← ⟦book.len()⟧) ⌝ }
     ensures { λ _. ⌜ now (book .exit) ≡ lowered from to by (now (book .entry)) ⌝ }
@@ -105,7 +105,7 @@ pub fn take_out(book: &mut [u8], place: usize, count: usize)
 }
 
 // How `key` stands to the key in the slot at `at`, where the first `start` bytes are the same: 0 before it, 1 the same, 2 after it.
-pub fn compare_from(book: &[u8], at: usize, key: &[u8], start: usize) -> u8
+fn compare_from(book: &[u8], at: usize, key: &[u8], start: usize) -> u8
     requires { do ⌜ at + 256 ≤ (← ⟦book.len()⟧) ⌝ }
     requires { ⌜ Agree (now key) (now book) at start ⌝ }
     ensures { λ r. ⌜ r ≡ code (cmp (now (key .entry)) (stored (now (book .entry)) at)) ⌝ }
@@ -143,39 +143,44 @@ fn long(x: u8) -> u64
     x as u64
 }
 
-// Eight bytes as a number, the first byte lowest: one load.
-fn eight(s: &[u8], at: usize) -> u64
-    requires { do ⌜ at + 8 ≤ (← ⟦s.len()⟧) ⌝ }
-    ensures { λ r. ⌜ (r ≡ word (now (s .entry)) at) × Bytes (now (s .entry)) ⌝ }
+// Four digits to base 256 as a number.
+fn four(a: u8, b: u8, c: u8, d: u8) -> u64
+    ensures { λ r. ⌜ (r ≡ quad a b c d) × (r < 4294967296) ⌝ }
 {
-    long(s[at])
-        + 256
-            * (long(s[at + 1])
-                + 256
-                    * (long(s[at + 2])
-                        + 256
-                            * (long(s[at + 3])
-                                + 256
-                                    * (long(s[at + 4])
-                                        + 256
-                                            * (long(s[at + 5])
-                                                + 256
-                                                    * (long(s[at + 6]) + 256 * long(s[at + 7])))))))
+    ((long(a) * 256 + long(b)) * 256 + long(c)) * 256 + long(d)
 }
 
-// How many bytes are surely the same, of the n from a and from b on: a multiple of eight.
-fn same_start(s: &[u8], a: usize, b: usize, n: usize) -> usize
-    requires { do ⌜ (a + n ≤ (← ⟦s.len()⟧)) × (b + n ≤ (← ⟦s.len()⟧)) ⌝ }
-    ensures { λ r. ⌜ (r ≤ n) × Alike (now (s .entry)) a b r ⌝ }
+// Eight bytes as a number, the first byte highest: one load and a turn of its bytes.
+fn high_eight(s: &[u8], at: usize) -> u64
+    requires { do ⌜ at + 8 ≤ (← ⟦s.len()⟧) ⌝ }
+    ensures { λ r. ⌜ r ≡ highSum (now (s .entry)) at ⌝ }
+{
+    four(s[at], s[at + 1], s[at + 2], s[at + 3]) * 4294967296
+        + four(s[at + 4], s[at + 5], s[at + 6], s[at + 7])
+}
+
+// Eight bytes as a number, the first byte lowest: one load.
+fn low_eight(s: &[u8], at: usize) -> u64
+    requires { do ⌜ at + 8 ≤ (← ⟦s.len()⟧) ⌝ }
+    ensures { λ r. ⌜ r ≡ lowSum (now (s .entry)) at ⌝ }
+{
+    four(s[at + 7], s[at + 6], s[at + 5], s[at + 4]) * 4294967296
+        + four(s[at + 3], s[at + 2], s[at + 1], s[at])
+}
+
+// The place of the first eight bytes, up to place m, that differ from a and from b on; m where none do.
+fn apart(s: &[u8], a: usize, b: usize, m: usize) -> usize
+    requires { do ⌜ (a + m + 8 ≤ (← ⟦s.len()⟧)) × (b + m + 8 ≤ (← ⟦s.len()⟧)) ⌝ }
+    ensures { λ r. ⌜ Apart (now (s .entry)) a b m r ⌝ }
 {
     let mut i = 0;
-    while i + 8 <= n {
-        if eight(s, a + i) != eight(s, b + i) {
+    while i < m {
+        if low_eight(s, a + i) != low_eight(s, b + i) {
             return i;
         }
         i += 8;
     }
-    i
+    m
 }
 
 fn least(a: usize, b: usize) -> usize
@@ -189,12 +194,24 @@ pub fn compare_next(book: &[u8], at: usize) -> u8
     requires { do ⌜ at + 576 ≤ (← ⟦book.len()⟧) ⌝ }
     ensures { λ r. ⌜ r ≡ code (cmp (stored (now (book .entry)) at) (stored (now (book .entry)) (at + 288))) ⌝ }
 {
-    let n = least(wide(book[at]), wide(book[at + 288]));
-    let start = same_start(book, at + 1, at + 289, n);
-    compare_from(book, at + 288, key_at(book, at), start)
+    let key = key_at(book, at);
+    let n = least(key.len(), wide(book[at + 288]));
+    if n < 8 {
+        return compare_key(book, at + 288, key);
+    }
+    let i = apart(book, at + 1, at + 289, n - 8);
+    let x = high_eight(book, at + 1 + i);
+    let y = high_eight(book, at + 289 + i);
+    if x < y {
+        return 0;
+    }
+    if y < x {
+        return 2;
+    }
+    compare_from(book, at + 288, key, n)
 }
 
-pub fn wide(x: u8) -> usize
+fn wide(x: u8) -> usize
     ensures { λ r. ⌜ (r ≡ x) × (r < 256) ⌝ }
 {
     x as usize
@@ -219,7 +236,7 @@ pub fn key_at(book: &[u8], at: usize) -> &[u8]
 }
 
 // Whether each byte of `s` is zero. The loop has no early exit, so that it can take many bytes at a time.
-pub fn all_zero(s: &[u8]) -> bool
+fn blank(s: &[u8]) -> bool
     ensures { λ r. ⌜ r ≡ every (λ b. eqb b 0) (now (s .entry)) ⌝ }
 {
     let mut top: u8 = 0;
@@ -229,6 +246,26 @@ pub fn all_zero(s: &[u8]) -> bool
         i += 1;
     }
     top < 1
+}
+
+// Whether each byte of `s` is zero, by parts of 128 bytes: the last one may share bytes with the one before it.
+pub fn all_zero(s: &[u8]) -> bool
+    ensures { λ r. ⌜ r ≡ every (λ b. eqb b 0) (now (s .entry)) ⌝ }
+{
+    let n = s.len();
+    if n < 128 {
+        return blank(s);
+    }
+    let last = n - 128;
+    let mut i = 0;
+    while i < last {
+        let end = i + 128;
+        if !blank(&s[i..end]) {
+            return false;
+        }
+        i = end;
+    }
+    blank(&s[last..n])
 }
 
 // Whether the slot at `at` is a record's: the bytes behind its key are zero.

@@ -8,7 +8,8 @@ use borrow.Author.Needs.{needs}
 use lib.ListN.{length, getD, take}
 use Rattle.text.specs.Order.{cmp}
 use Rattle.form.specs.V1.{stored}
-use Rattle.form.specs.Search.{agree-rest, code, rest, out-longer, out-lt, out-gt, out-same, out-shorter, turn}
+use Rattle.form.specs.Compare.{code}
+use Rattle.form.specs.CompareLaws.{agree-rest, rest, out-longer, out-lt, out-gt, out-same, out-shorter, turn}
 use Rattle.form.proofs.compare_from.Statement.{statement}
 use Rattle.form.proofs.compare_from.Tie as tie
 use Rattle.form.proofs.compare_from.Reads as reads

@@ -1,97 +1,137 @@
 -- `form::compare_next` meets its contract.
 -- Assumes nothing.
-use mathlib.Core.Path.{_≡_, refl, sym, ap, _∙_}
+use mathlib.Core.Path.{_≡_, sym, ap, _∙_}
 use mathlib.Core.List.{List}
 use Prim.Native.Nat.{ℕ, _+_}
 use Rattle.text.specs.Order.{cmp}
-use Rattle.form.specs.Search.{code, alike-agree}
+use Rattle.form.specs.Compare.{code}
 use Rattle.form.specs.V1.{stored}
+use Rattle.form.specs.WordsLaws.{high-sum, next-lt, next-gt, next-same}
 use native.Mathlib.Omega.{arith}
 use borrow.Author.Needs.{needs}
 use Rattle.form.proofs.compare_next.Statement.{statement}
 use Rattle.form.proofs.compare_next.Tie as tie
-use Rattle.form.proofs.compare_next.Reads as reads
-use Rattle.form.proofs.compare_next.Lts as lts
-use Rattle.form.proofs.compare_from.Reads as compare-from-reads
-use Rattle.form.proofs.key_at.Reads as key-at-reads
-use Rattle.form.proofs.least.Reads as least-reads
-use Rattle.form.proofs.same_start.Reads as same-start-reads
-use Rattle.form.proofs.wide.Reads as wide-reads
 
--- src/lib.rt:186:24
-shared-slice-read-wide : tie.Need-shared-slice-read-wide
-shared-slice-read-wide c = search needs
-
--- src/lib.rt:186:19
-wide-requires : tie.Need-wide-requires
-wide-requires c κs = search needs
-
--- src/lib.rt:186:45
-add-wide : tie.Need-add-wide
-add-wide c = search needs
-
--- src/lib.rt:186:40
-shared-slice-read-wide-2 : tie.Need-shared-slice-read-wide-2
-shared-slice-read-wide-2 c = search needs
-
--- src/lib.rt:186:35
-wide-requires-2 : tie.Need-wide-requires-2
-wide-requires-2 c κs = search needs
-
--- src/lib.rt:186:9
-least-requires : tie.Need-least-requires
-least-requires c κs = search needs
-
--- src/lib.rt:187:34
-add-same-start : tie.Need-add-same-start
-add-same-start c = search needs
-
--- src/lib.rt:187:42
-add-same-start-2 : tie.Need-add-same-start-2
-add-same-start-2 c = search needs
-
--- src/lib.rt:187:9
-same-start-requires : tie.Need-same-start-requires
-same-start-requires c κs = search needs
-
--- src/lib.rt:188:24
-add-compare-from : tie.Need-add-compare-from
-add-compare-from c = search needs
-
--- src/lib.rt:188:34
 key-at-requires : tie.Need-key-at-requires
 key-at-requires c κs = search needs
 
--- src/lib.rt:188:5
-compare-from-requires : tie.Need-compare-from-requires
-compare-from-requires c κs =
-    let a = c .before .before .before .before .before .before .before .before .args in
-    let w = c .before .before .before .before .before .wide .ensures in
-    let v = c .before .before .before .wide2 .ensures in
-    let l = c .before .before .least .ensures in
-    let s = c .before .same-start .ensures in
-    (omega arith, alike-agree (a .book .now) _ (a .at) (c .before .before .least .result) _ (omega arith) (omega (arith, w)) (omega (arith, v)) (c .key-at .ensures) (omega (arith, w, l)) (omega (arith, v, l)) (s .0) (s .1))
+add-wide : tie.Need-add-wide
+add-wide c = search needs
 
--- src/lib.rt:182:1
+shared-slice-read-wide : tie.Need-shared-slice-read-wide
+shared-slice-read-wide c = search needs
+
+wide-requires : tie.Need-wide-requires
+wide-requires c κs = search needs
+
+least-requires : tie.Need-least-requires
+least-requires c κs = search needs
+
+add-compare-key : tie.Need-add-compare-key
+add-compare-key c = search needs
+
+compare-key-requires : tie.Need-compare-key-requires
+compare-key-requires c κs = search needs
+
 returns : tie.Need-returns
 returns c =
-    let a = c .before .before .before .before .before .before .before .before .before .args in
-    c .compare-from .ensures ∙ ap (λ (l : List ℕ). code (cmp l (stored (a .book .now) (a .at + 288)))) (c .before .key-at .ensures)
+    let a = c .before .before .before .before .before .before .before .args in
+    c .compare-key .ensures ∙ ap (λ (l : List ℕ). code (cmp l (stored (a .book .now) (a .at + 288)))) (c .before .before .before .before .before .key-at .ensures)
+
+add-apart : tie.Need-add-apart
+add-apart c = search needs
+
+add-apart-2 : tie.Need-add-apart-2
+add-apart-2 c = search needs
+
+apart-requires : tie.Need-apart-requires
+apart-requires c κs = search needs
+
+add-high-eight : tie.Need-add-high-eight
+add-high-eight c = search needs
+
+add-high-eight-2 : tie.Need-add-high-eight-2
+add-high-eight-2 c = search needs
+
+high-eight-requires : tie.Need-high-eight-requires
+high-eight-requires c κs = search needs
+
+add-high-eight-3 : tie.Need-add-high-eight-3
+add-high-eight-3 c = search needs
+
+add-high-eight-4 : tie.Need-add-high-eight-4
+add-high-eight-4 c = search needs
+
+high-eight-requires-2 : tie.Need-high-eight-requires-2
+high-eight-requires-2 c κs = search needs
+
+returns-2 : tie.Need-returns-2
+returns-2 c =
+    let a = c .before .before .before .before .before .before .before .before .before .before .args in
+    let s = a .book .now in
+    let k = c .before .before .before .before .before .before .before .before .key-at in
+    let n = c .before .before .before .before .before .least in
+    let i = c .before .before .before .apart in
+    let g = c .before .before .before .before .before .before .before .before .before .shared-slice-known .given in
+    let x = c .before .before .high-eight .ensures ∙ high-sum s (a .at + 1 + i .result) in
+    let y = c .before .high-eight2 .ensures ∙ high-sum s (a .at + 289 + i .result) in
+    next-lt s _ (a .at) (n .result) (i .result) (omega arith) (λ j. omega (arith, g j)) (k .ensures) (n .ensures .0) (omega (arith, c .before .before .before .before .before .before .wide .ensures, n .ensures)) (omega (arith, i .ensures .within)) (i .ensures .alike) (rw (← x, ← y) (c .if2 .taken))
+
+returns-3 : tie.Need-returns-3
+returns-3 c =
+    let a = c .before .before .before .before .before .before .before .before .before .before .before .args in
+    let s = a .book .now in
+    let k = c .before .before .before .before .before .before .before .before .before .key-at in
+    let n = c .before .before .before .before .before .before .least in
+    let i = c .before .before .before .before .apart in
+    let g = c .before .before .before .before .before .before .before .before .before .before .shared-slice-known .given in
+    let x = c .before .before .before .high-eight .ensures ∙ high-sum s (a .at + 1 + i .result) in
+    let y = c .before .before .high-eight2 .ensures ∙ high-sum s (a .at + 289 + i .result) in
+    next-gt s _ (a .at) (n .result) (i .result) (omega arith) (λ j. omega (arith, g j)) (k .ensures) (n .ensures .0) (omega (arith, c .before .before .before .before .before .before .before .wide .ensures, n .ensures)) (omega (arith, i .ensures .within)) (i .ensures .alike) (rw (← x, ← y) (c .if3 .taken))
+
+add-compare-from : tie.Need-add-compare-from
+add-compare-from c = search needs
+
+compare-from-requires : tie.Need-compare-from-requires
+compare-from-requires c κs =
+    let a = c .before .before .before .before .before .before .before .before .before .before .before .args in
+    let s = a .book .now in
+    let k = c .before .before .before .before .before .before .before .before .before .key-at in
+    let n = c .before .before .before .before .before .before .least in
+    let i = c .before .before .before .before .apart in
+    let g = c .before .before .before .before .before .before .before .before .before .before .shared-slice-known .given in
+    let x = c .before .before .before .high-eight .ensures ∙ high-sum s (a .at + 1 + i .result) in
+    let y = c .before .before .high-eight2 .ensures ∙ high-sum s (a .at + 289 + i .result) in
+    (omega arith, next-same s _ (a .at) (n .result) (i .result) (omega arith) (λ j. omega (arith, g j)) (k .ensures) (n .ensures .0) (omega (arith, c .before .before .before .before .before .before .before .wide .ensures, n .ensures)) (omega (arith, i .ensures .within)) (i .ensures .alike) (i .ensures .last) (sym x ∙ (let e : c .before .before .before .high-eight .result ≡ c .before .before .high-eight2 .result = omega arith in e) ∙ y))
+
+returns-4 : tie.Need-returns-4
+returns-4 c =
+    let a = c .before .before .before .before .before .before .before .before .before .before .before .before .args in
+    c .compare-from .ensures ∙ ap (λ (l : List ℕ). code (cmp l (stored (a .book .now) (a .at + 288)))) (c .before .before .before .before .before .before .before .before .before .before .key-at .ensures)
 
 pub compare-next-spec : {M : Type 1} → statement M
 compare-next-spec =
     tie.close
     (tie.spec
+    key-at-requires
+    add-wide
     shared-slice-read-wide
     wide-requires
-    add-wide
-    shared-slice-read-wide-2
-    wide-requires-2
     least-requires
-    add-same-start
-    add-same-start-2
-    same-start-requires
+    add-compare-key
+    compare-key-requires
+    returns
+    add-apart
+    add-apart-2
+    apart-requires
+    add-high-eight
+    add-high-eight-2
+    high-eight-requires
+    add-high-eight-3
+    add-high-eight-4
+    high-eight-requires-2
+    returns-2
+    returns-3
     add-compare-from
-    key-at-requires
     compare-from-requires
-    returns)
+    returns-4)

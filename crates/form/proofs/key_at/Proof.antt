@@ -4,7 +4,7 @@ use Prim.Native.Nat.{ℕ, _+_, _-_}
 use lib.ListN.{take, drop, getD}
 use native.Mathlib.Omega.{arith}
 use mathlib.Core.Path.{_≡_, refl, sym, ap, _∙_}
-use Rattle.form.specs.Search.{stored-part}
+use Rattle.form.specs.CompareLaws.{stored-part}
 use borrow.Author.Needs.{needs}
 use Rattle.form.proofs.key_at.Statement.{statement}
 use Rattle.form.proofs.key_at.Tie as tie

@@ -1,19 +1,16 @@
--- A key compared with the key of a slot, byte by byte. Assumes nothing.
+-- Laws of keys in slots: a key compared with the key of a slot, byte by byte.
+-- Assumes nothing.
 use mathlib.Core.Path.{_≡_, refl, sym, ap, _∙_}
 use mathlib.Core.List.{List, [], _∷_, _++_}
 use Prim.Native.Nat.{ℕ, zero, suc, _+_, _*_, _-_, _<_, _≤_, Ordering, Ordering·lt, Ordering·eq, Ordering·gt}
 use native.Mathlib.Numerals.{add-one}
-use native.Mathlib.Decide.{decLt}
 use native.Mathlib.Omega.{arith}
 use lib.ListN.{length, take, drop, getD, length-take, length-drop, drop-of-length-le}
 use lib.Seq.{drop-drop, drop-cons, getD-take, getD-drop, length-take-le}
-use Rattle.text.specs.Order.{by, cmp}
-use Rattle.form.specs.V1.{recordOf, stored}
+use Rattle.text.specs.Order.{cmp}
 use Rattle.text.specs.OrderLaws.{cmp-cons-lt, cmp-cons-gt, cmp-cons-eq, cmp-nil, cmp-nil-cons, cmp-cons-nil}
-
--- the number for an order: 0 below, 1 the same, 2 above
-abbrev pub code : Ordering → ℕ
-code o = by o 0 1 2
+use Rattle.form.specs.V1.{recordOf, stored}
+use Rattle.form.specs.Compare.{code, Agree, Alike}
 
 module _ (a b : List ℕ) (i : ℕ) where
   -- the order of the rest of two keys
@@ -88,11 +85,6 @@ module _ (book key : List ℕ) (at n i : ℕ) (hb : at + 256 ≤ length book) (e
   turn h k d = rest-eq key (stored book at) i h (omega (arith, lb)) (d ∙ sym (xb k)) ∙ inv
 
 -- ---- a comparison that starts behind what two keys share
-pub record Agree (key book : List ℕ) (at start : ℕ) : Type 0 where
-  pub short : start ≤ length key
-  pub within : start ≤ getD book at 0
-  pub same : (j : ℕ) → j < start → getD key j 0 ≡ getD book (at + 1 + j) 0
-
 skip-same : (a b : List ℕ) (i : ℕ) → i ≤ length a → i ≤ length b → ((j : ℕ) → j < i → getD a j 0 ≡ getD b j 0) → rest a b i ≡ cmp a b
 skip-same a b zero ha hb h = refl
 skip-same a b (suc i) ha hb h =
@@ -103,58 +95,6 @@ pub agree-rest : (key book : List ℕ) (at start : ℕ) → at + 256 ≤ length 
 agree-rest key book at start hb hn g =
     let lb : length (stored book at) ≡ getD book at 0 = length-stored book at (omega arith) in
     skip-same key (stored book at) start (g .short) (omega (arith, g .within)) (λ j l. g .same j l ∙ sym (getD-stored book at j (omega (arith, g .within))))
-
-pub agree-none : (key book : List ℕ) (at : ℕ) → Agree key book at 0
-agree-none key book at = record { short = omega arith; within = omega arith; same = λ j l. absurd (let z : ⊥ = omega arith in z) }
-
--- each is a byte
-abbrev pub Bytes : List ℕ → Type 0
-Bytes s = (i : ℕ) → getD s i 0 < 256
-
--- the same bytes from a and from b on
-abbrev pub Alike : List ℕ → ℕ → ℕ → ℕ → Type 0
-Alike s a b n = (j : ℕ) → j < n → getD s (a + j) 0 ≡ getD s (b + j) 0
-
--- eight bytes as a number, the first lowest
-unfoldable pub word : List ℕ → ℕ → ℕ
-word s at =
-    getD s at 0 + 256 * (getD s (at + 1) 0 + 256 * (getD s (at + 2) 0 + 256 * (getD s (at + 3) 0 + 256 * (getD s (at + 4) 0 + 256 * (getD s (at + 5) 0 + 256 * (getD s (at + 6) 0 + 256 * getD s (at + 7) 0))))))
-
-split : (x y m n : ℕ) → x < 256 → y < 256 → x + 256 * m ≡ y + 256 * n → (x ≡ y) × (m ≡ n)
-split x y m n h k e = (omega arith, omega arith)
-
-by-eight : (P : ℕ → Type 0) → P 0 → P 1 → P 2 → P 3 → P 4 → P 5 → P 6 → P 7 → (j : ℕ) → j < 8 → P j
-by-eight P a b c d e f g h zero l = a
-by-eight P a b c d e f g h (suc zero) l = b
-by-eight P a b c d e f g h (suc (suc zero)) l = c
-by-eight P a b c d e f g h (suc (suc (suc zero))) l = d
-by-eight P a b c d e f g h (suc (suc (suc (suc zero)))) l = e
-by-eight P a b c d e f g h (suc (suc (suc (suc (suc zero))))) l = f
-by-eight P a b c d e f g h (suc (suc (suc (suc (suc (suc zero)))))) l = g
-by-eight P a b c d e f g h (suc (suc (suc (suc (suc (suc (suc zero))))))) l = h
-by-eight P a b c d e f g h (suc (suc (suc (suc (suc (suc (suc (suc j)))))))) l = absurd (let z : ⊥ = omega arith in z)
-
-pub word-alike : (s : List ℕ) (a b : ℕ) → ((i : ℕ) → getD s i 0 < 256) → word s a ≡ word s b → Alike s a b 8
-unfolding word
-word-alike s a b h e =
-    let p0 = split _ _ _ _ (h a) (h b) e in
-    let p1 = split _ _ _ _ (h (a + 1)) (h (b + 1)) (p0 .1) in
-    let p2 = split _ _ _ _ (h (a + 2)) (h (b + 2)) (p1 .1) in
-    let p3 = split _ _ _ _ (h (a + 3)) (h (b + 3)) (p2 .1) in
-    let p4 = split _ _ _ _ (h (a + 4)) (h (b + 4)) (p3 .1) in
-    let p5 = split _ _ _ _ (h (a + 5)) (h (b + 5)) (p4 .1) in
-    let p6 = split _ _ _ _ (h (a + 6)) (h (b + 6)) (p5 .1) in
-    by-eight (λ j. getD s (a + j) 0 ≡ getD s (b + j) 0) (ap (λ (q : ℕ). getD s q 0) (let q : a + 0 ≡ a = omega arith in q) ∙ p0 .0 ∙ ap (λ (q : ℕ). getD s q 0) (let q : b ≡ b + 0 = omega arith in q)) (p1 .0) (p2 .0) (p3 .0) (p4 .0) (p5 .0) (p6 .0) (p6 .1)
-
-pub alike-more : (s : List ℕ) (a b i : ℕ) → Bytes s → Alike s a b i → word s (a + i) ≡ word s (b + i) → Alike s a b (i + 8)
-alike-more s a b i h g e j l = go (decLt j i)
-  where
-    go : Dec (j < i) → getD s (a + j) 0 ≡ getD s (b + j) 0
-    go (yes q) = g j q
-    go (no q) =
-        ap (λ (m : ℕ). getD s m 0) (let w : a + j ≡ a + i + (j - i) = omega arith in w)
-        ∙ word-alike s (a + i) (b + i) h e (j - i) (omega arith)
-        ∙ ap (λ (m : ℕ). getD s m 0) (let w : b + i + (j - i) ≡ b + j = omega arith in w)
 
 pub alike-agree : (s key : List ℕ) (at n r : ℕ) → at + 576 ≤ length s → getD s at 0 ≤ 255 → getD s (at + 288) 0 ≤ 255 → key ≡ stored s at → n ≤ getD s at 0 → n ≤ getD s (at + 288) 0 → r ≤ n → Alike s (at + 1) (at + 289) r → Agree key s (at + 288) r
 alike-agree s key at n r hs ha hb ek na nb rn g =
