@@ -105,6 +105,18 @@ pub fn book_oldest(book: &[u8], client: &[u8]) -> Pair {
 
 /// A book in a lent buffer of [`book_size`] bytes. Texts with one rendering are one path, and a
 /// record stands under the rendering.
+///
+/// ```
+/// use hostpath::{book_size, Book, Refusal};
+///
+/// let mut buffer = [0; book_size(200)];
+/// let mut book = Book::new(&mut buffer)?;
+/// book.write(b"clients/07-tendermint-4/consensusStates/007-2", &[1; 32])?;
+/// // a height's zeros are no part of its path, and an identifier's are
+/// assert_eq!(book.lookup(b"clients/07-tendermint-4/consensusStates/7-2"), Ok([1; 32]));
+/// assert_eq!(book.lookup(b"clients/007-tendermint-4/consensusStates/7-2"), Err(Refusal::ABSENT));
+/// # Ok::<(), Refusal>(())
+/// ```
 #[derive(Debug)]
 pub struct Book<'a>(&'a mut [u8]);
 
