@@ -1,15 +1,24 @@
--- Demand 1: a refusal changes no byte of a lent buffer. (That every call ends with an answer is what the gate proves.)
+-- Demand 1, of each exported call: it accepts all bytes and numbers, comes back with an answer or a refusal whose number document 01 lists for
+-- the call, with length, numbers and value 0, and a refusal changes no byte of a lent buffer. What is said of each is `Demand1` in `Shape`; a
+-- line here has the numbers listed, where the refusal and the other numbers stand in the answer, and where the buffer stands.
 -- Assumes nothing.
-use mathlib.Core.Path.{_≡_, ap, _∙_}
 use Prim.Native.Nat.{ℕ}
-use mathlib.Core.List.{List}
-use lib.ListN.{length}
+use mathlib.Core.Path.{_≡_, refl, ap, subst, sym}
+use mathlib.Core.List.{List, [], _∷_}
 use denote.Ref.{now}
-use Rattle.text.specs.Put.{Wanted, answer, left}
-use Rattle.text.specs.PutLaws.{refusal-keeps}
+use Rattle.text.specs.Bytes.{bytes}
+use Rattle.text.specs.Put.{text}
+use Rattle.identifiers.specs.Owned.{newClient, newChannel}
+use Rattle.path.specs.Kinds.{word}
+use Rattle.path.specs.Read.{renderOf, keyOf, readingBytes}
+use Rattle.rows.specs.Rows.{carried, textOf, consensusParent, consensusLeaf, packetsPath}
+use Rattle.keys.specs.Calls.{write, remove}
+use Rattle.render.specs.Iteration.{iterationKey}
+use Rattle.demands.specs.Shape.{Listed, Demand1}
+use Rattle.demands.specs.ShapeLaws.{writes, writes-number, checks, readings, key-wants, reading-wants, renderings, render-wants, clients, client-wants, channel-wants, leaf-wants, update-wants, parent-wants, ends, packets-wants, plain-of, indexed-of, chars-number, length-number, prefix-number, named-index-number}
+use Rattle.demands.specs.BookNumberLaws.{writeNumbers, removeNumbers, lookNumbers, write-listed, remove-listed, provable-demand, made-demand, changed-demand, found-demand, oldest-demand}
 use Rattle.node.proofs.hp_client_id_new.Reads as hp-client-id-new
 use Rattle.node.proofs.hp_channel_id_new.Reads as hp-channel-id-new
-use Rattle.node.proofs.hp_read.Reads as hp-read
 use Rattle.node.proofs.hp_key.Reads as hp-key
 use Rattle.node.proofs.hp_render.Reads as hp-render
 use Rattle.node.proofs.hp_iteration_key.Reads as hp-iteration-key
@@ -27,91 +36,131 @@ use Rattle.node.proofs.hp_receipts_path.Reads as hp-receipts-path
 use Rattle.node.proofs.hp_commitment_prefix.Reads as hp-commitment-prefix
 use Rattle.node.proofs.hp_ack_prefix.Reads as hp-ack-prefix
 use Rattle.node.proofs.hp_receipt_prefix.Reads as hp-receipt-prefix
+use Rattle.node.proofs.hp_validate_identifier_chars.Reads as hp-validate-identifier-chars
+use Rattle.node.proofs.hp_validate_identifier_length.Reads as hp-validate-identifier-length
+use Rattle.node.proofs.hp_validate_prefix_length.Reads as hp-validate-prefix-length
+use Rattle.node.proofs.hp_validate_named_u64_index.Reads as hp-validate-named-u64-index
+use Rattle.node.proofs.hp_validate_client_type.Reads as hp-validate-client-type
+use Rattle.node.proofs.hp_validate_client_identifier.Reads as hp-validate-client-identifier
+use Rattle.node.proofs.hp_validate_connection_identifier.Reads as hp-validate-connection-identifier
+use Rattle.node.proofs.hp_validate_port_identifier.Reads as hp-validate-port-identifier
+use Rattle.node.proofs.hp_validate_channel_identifier.Reads as hp-validate-channel-identifier
+use Rattle.node.proofs.hp_read.Reads as hp-read
+use Rattle.node.proofs.hp_is_provable.Reads as hp-is-provable
 use Rattle.node.proofs.hp_book_new.Reads as hp-book-new
 use Rattle.node.proofs.hp_book_write.Reads as hp-book-write
 use Rattle.node.proofs.hp_book_remove.Reads as hp-book-remove
 use Rattle.node.proofs.hp_book_lookup.Reads as hp-book-lookup
-use Rattle.demands.specs.KeepsLaws.{made-keeps, changed-keeps, found-keeps}
+use Rattle.node.proofs.hp_book_oldest.Reads as hp-book-oldest
 
--- what a writing call ensures, said of its refusal number and of its buffer before and after
-keeps : (x : Wanted) (n : ℕ) (before after : List ℕ) → n ≡ answer x (length before) .refusal → after ≡ left x before → (n ≡ 0 → ⊥) → after ≡ before
-keeps x n before after p q h = q ∙ refusal-keeps x before (λ e. h (p ∙ e))
+-- a text that is always there: only the room can lack
+abbrev room : List ℕ
+room = 4 ∷ []
 
--- a contract under which a refusal leaves the buffer as it was
-module _ {L : Type 0} {A R S : L → Type 0} (Post : (κs : L) → A κs → R κs → S κs → Type 0) where
-  abbrev pub Keeps : ((κs : L) → R κs → ℕ) → ((κs : L) → A κs → List ℕ) → ((κs : L) → S κs → List ℕ) → Type 0
-  Keeps refusal before after = (κs : L) (a : A κs) (r : R κs) (s : S κs) → Post κs a r s → (refusal κs r ≡ 0 → ⊥) → after κs s ≡ before κs a
+-- ---- calls that write a text
+pub hp-client-id-new-holds : Demand1 hp-client-id-new.Pre hp-client-id-new.Post clients (λ κs r. r .refusal) (λ κs r. r .length ∷ []) (λ κs a. now (a .1 .1 .0)) (λ κs s. now (s .1 .1 .0))
+hp-client-id-new-holds = writes clients _ _ (λ κs a. tt) (λ κs r. r) (λ κs a. newClient (now (a .0)) (a .1 .0)) refl refl (λ κs a. client-wants _ _) (λ κs a r s p. p)
 
--- ---- each exported call that writes
-pub hp-client-id-new-keeps : Keeps hp-client-id-new.Post (λ κs r. r .refusal) (λ κs a. now (a .1 .1 .0)) (λ κs s. now (s .1 .1 .0))
-hp-client-id-new-keeps κs a r s p = keeps _ _ _ _ (ap (λ y. y .refusal) (p .0)) (p .1)
+pub hp-channel-id-new-holds : Demand1 hp-channel-id-new.Pre hp-channel-id-new.Post room (λ κs r. r .refusal) (λ κs r. r .length ∷ []) (λ κs a. now (a .1 .0)) (λ κs s. now (s .1 .0))
+hp-channel-id-new-holds = writes room _ _ (λ κs a. tt) (λ κs r. r) (λ κs a. newChannel (a .0)) refl refl (λ κs a. channel-wants _ _) (λ κs a r s p. p)
 
-pub hp-channel-id-new-keeps : Keeps hp-channel-id-new.Post (λ κs r. r .refusal) (λ κs a. now (a .1 .0)) (λ κs s. now (s .1 .0))
-hp-channel-id-new-keeps κs a r s p = keeps _ _ _ _ (ap (λ y. y .refusal) (p .0)) (p .1)
+pub hp-key-holds : Demand1 hp-key.Pre hp-key.Post readings (λ κs r. r .refusal) (λ κs r. r .length ∷ []) (λ κs a. now (a .1 .0)) (λ κs s. now (s .1 .0))
+hp-key-holds = writes readings _ _ (λ κs a. tt) (λ κs r. r) (λ κs a. keyOf (now (a .0))) refl refl (λ κs a. key-wants _) (λ κs a r s p. p)
 
-pub hp-read-keeps : Keeps hp-read.Post (λ κs r. r) (λ κs a. now (a .1 .0)) (λ κs s. now (s .1 .0))
-hp-read-keeps κs a r s p = keeps _ _ _ _ (p .0) (p .1)
+pub hp-render-holds : Demand1 hp-render.Pre hp-render.Post renderings (λ κs r. r .refusal) (λ κs r. r .length ∷ []) (λ κs a. now (a .1 .1 .1 .1 .1 .0)) (λ κs s. now (s .1 .1 .1 .1 .1 .0))
+hp-render-holds = writes renderings _ _ (λ κs a. tt) (λ κs r. r) (λ κs a. renderOf (a .0) (carried (now (a .1 .0)) (now (a .1 .1 .0)) (a .1 .1 .1 .0) (a .1 .1 .1 .1 .0))) refl refl (λ κs a. render-wants _ _) (λ κs a r s p. p)
 
-pub hp-key-keeps : Keeps hp-key.Post (λ κs r. r .refusal) (λ κs a. now (a .1 .0)) (λ κs s. now (s .1 .0))
-hp-key-keeps κs a r s p = keeps _ _ _ _ (ap (λ y. y .refusal) (p .0)) (p .1)
+pub hp-iteration-key-holds : Demand1 hp-iteration-key.Pre hp-iteration-key.Post room (λ κs r. r .refusal) (λ κs r. r .length ∷ []) (λ κs a. now (a .1 .1 .0)) (λ κs s. now (s .1 .1 .0))
+hp-iteration-key-holds = writes room _ _ (λ κs a. tt) (λ κs r. r) (λ κs a. text (iterationKey (a .0) (a .1 .0))) refl refl (λ κs a. tt) (λ κs a r s p. p)
 
-pub hp-render-keeps : Keeps hp-render.Post (λ κs r. r .refusal) (λ κs a. now (a .1 .1 .1 .1 .1 .0)) (λ κs s. now (s .1 .1 .1 .1 .1 .0))
-hp-render-keeps κs a r s p = keeps _ _ _ _ (ap (λ y. y .refusal) (p .0)) (p .1)
+pub hp-client-state-prefix-holds : Demand1 hp-client-state-prefix.Pre hp-client-state-prefix.Post room (λ κs r. r .refusal) (λ κs r. r .length ∷ []) (λ κs a. now (a .0)) (λ κs s. now (s .0))
+hp-client-state-prefix-holds = writes room _ _ (λ κs a. tt) (λ κs r. r) (λ κs a. text (bytes "clients")) refl refl (λ κs a. tt) (λ κs a r s p. p)
 
-pub hp-iteration-key-keeps : Keeps hp-iteration-key.Post (λ κs r. r .refusal) (λ κs a. now (a .1 .1 .0)) (λ κs s. now (s .1 .1 .0))
-hp-iteration-key-keeps κs a r s p = keeps _ _ _ _ (ap (λ y. y .refusal) (p .0)) (p .1)
+pub hp-client-state-leaf-holds : Demand1 hp-client-state-leaf.Pre hp-client-state-leaf.Post room (λ κs r. r .refusal) (λ κs r. r .length ∷ []) (λ κs a. now (a .0)) (λ κs s. now (s .0))
+hp-client-state-leaf-holds = writes room _ _ (λ κs a. tt) (λ κs r. r) (λ κs a. text (bytes "clientState")) refl refl (λ κs a. tt) (λ κs a r s p. p)
 
-pub hp-client-state-prefix-keeps : Keeps hp-client-state-prefix.Post (λ κs r. r .refusal) (λ κs a. now (a .0)) (λ κs s. now (s .0))
-hp-client-state-prefix-keeps κs a r s p = keeps _ _ _ _ (ap (λ y. y .refusal) (p .0)) (p .1)
+pub hp-consensus-state-parent-holds : Demand1 hp-consensus-state-parent.Pre hp-consensus-state-parent.Post clients (λ κs r. r .refusal) (λ κs r. r .length ∷ []) (λ κs a. now (a .1 .0)) (λ κs s. now (s .1 .0))
+hp-consensus-state-parent-holds = writes clients _ _ (λ κs a. tt) (λ κs r. r) (λ κs a. textOf consensusParent (carried (now (a .0)) [] 0 0)) refl refl (λ κs a. parent-wants _) (λ κs a r s p. p)
 
-pub hp-client-state-leaf-keeps : Keeps hp-client-state-leaf.Post (λ κs r. r .refusal) (λ κs a. now (a .0)) (λ κs s. now (s .0))
-hp-client-state-leaf-keeps κs a r s p = keeps _ _ _ _ (ap (λ y. y .refusal) (p .0)) (p .1)
+pub hp-consensus-state-leaf-holds : Demand1 hp-consensus-state-leaf.Pre hp-consensus-state-leaf.Post room (λ κs r. r .refusal) (λ κs r. r .length ∷ []) (λ κs a. now (a .1 .1 .0)) (λ κs s. now (s .1 .1 .0))
+hp-consensus-state-leaf-holds = writes room _ _ (λ κs a. tt) (λ κs r. r) (λ κs a. textOf (consensusLeaf []) (carried [] [] (a .0) (a .1 .0))) refl refl (λ κs a. leaf-wants _ _ _) (λ κs a r s p. p)
 
-pub hp-consensus-state-parent-keeps : Keeps hp-consensus-state-parent.Post (λ κs r. r .refusal) (λ κs a. now (a .1 .0)) (λ κs s. now (s .1 .0))
-hp-consensus-state-parent-keeps κs a r s p = keeps _ _ _ _ (ap (λ y. y .refusal) (p .0)) (p .1)
+pub hp-update-time-leaf-holds : Demand1 hp-update-time-leaf.Pre hp-update-time-leaf.Post room (λ κs r. r .refusal) (λ κs r. r .length ∷ []) (λ κs a. now (a .1 .1 .0)) (λ κs s. now (s .1 .1 .0))
+hp-update-time-leaf-holds = writes room _ _ (λ κs a. tt) (λ κs r. r) (λ κs a. textOf (consensusLeaf (word (bytes "processedTime") ∷ [])) (carried [] [] (a .0) (a .1 .0))) refl refl (λ κs a. update-wants _ _ _ _) (λ κs a r s p. p)
 
-pub hp-consensus-state-leaf-keeps : Keeps hp-consensus-state-leaf.Post (λ κs r. r .refusal) (λ κs a. now (a .1 .1 .0)) (λ κs s. now (s .1 .1 .0))
-hp-consensus-state-leaf-keeps κs a r s p = keeps _ _ _ _ (ap (λ y. y .refusal) (p .0)) (p .1)
+pub hp-update-height-leaf-holds : Demand1 hp-update-height-leaf.Pre hp-update-height-leaf.Post room (λ κs r. r .refusal) (λ κs r. r .length ∷ []) (λ κs a. now (a .1 .1 .0)) (λ κs s. now (s .1 .1 .0))
+hp-update-height-leaf-holds = writes room _ _ (λ κs a. tt) (λ κs r. r) (λ κs a. textOf (consensusLeaf (word (bytes "processedHeight") ∷ [])) (carried [] [] (a .0) (a .1 .0))) refl refl (λ κs a. update-wants _ _ _ _) (λ κs a r s p. p)
 
-pub hp-update-time-leaf-keeps : Keeps hp-update-time-leaf.Post (λ κs r. r .refusal) (λ κs a. now (a .1 .1 .0)) (λ κs s. now (s .1 .1 .0))
-hp-update-time-leaf-keeps κs a r s p = keeps _ _ _ _ (ap (λ y. y .refusal) (p .0)) (p .1)
+pub hp-connection-prefix-holds : Demand1 hp-connection-prefix.Pre hp-connection-prefix.Post room (λ κs r. r .refusal) (λ κs r. r .length ∷ []) (λ κs a. now (a .0)) (λ κs s. now (s .0))
+hp-connection-prefix-holds = writes room _ _ (λ κs a. tt) (λ κs r. r) (λ κs a. text (bytes "connections")) refl refl (λ κs a. tt) (λ κs a r s p. p)
 
-pub hp-update-height-leaf-keeps : Keeps hp-update-height-leaf.Post (λ κs r. r .refusal) (λ κs a. now (a .1 .1 .0)) (λ κs s. now (s .1 .1 .0))
-hp-update-height-leaf-keeps κs a r s p = keeps _ _ _ _ (ap (λ y. y .refusal) (p .0)) (p .1)
+pub hp-channel-end-prefix-holds : Demand1 hp-channel-end-prefix.Pre hp-channel-end-prefix.Post room (λ κs r. r .refusal) (λ κs r. r .length ∷ []) (λ κs a. now (a .0)) (λ κs s. now (s .0))
+hp-channel-end-prefix-holds = writes room _ _ (λ κs a. tt) (λ κs r. r) (λ κs a. text (bytes "channelEnds")) refl refl (λ κs a. tt) (λ κs a r s p. p)
 
-pub hp-connection-prefix-keeps : Keeps hp-connection-prefix.Post (λ κs r. r .refusal) (λ κs a. now (a .0)) (λ κs s. now (s .0))
-hp-connection-prefix-keeps κs a r s p = keeps _ _ _ _ (ap (λ y. y .refusal) (p .0)) (p .1)
+pub hp-commitments-path-holds : Demand1 hp-commitments-path.Pre hp-commitments-path.Post ends (λ κs r. r .refusal) (λ κs r. r .length ∷ []) (λ κs a. now (a .1 .1 .0)) (λ κs s. now (s .1 .1 .0))
+hp-commitments-path-holds = writes ends _ _ (λ κs a. tt) (λ κs r. r) (λ κs a. textOf (packetsPath (bytes "commitments")) (carried (now (a .0)) (now (a .1 .0)) 0 0)) refl refl (λ κs a. packets-wants _ _) (λ κs a r s p. p)
 
-pub hp-channel-end-prefix-keeps : Keeps hp-channel-end-prefix.Post (λ κs r. r .refusal) (λ κs a. now (a .0)) (λ κs s. now (s .0))
-hp-channel-end-prefix-keeps κs a r s p = keeps _ _ _ _ (ap (λ y. y .refusal) (p .0)) (p .1)
+pub hp-acks-path-holds : Demand1 hp-acks-path.Pre hp-acks-path.Post ends (λ κs r. r .refusal) (λ κs r. r .length ∷ []) (λ κs a. now (a .1 .1 .0)) (λ κs s. now (s .1 .1 .0))
+hp-acks-path-holds = writes ends _ _ (λ κs a. tt) (λ κs r. r) (λ κs a. textOf (packetsPath (bytes "acks")) (carried (now (a .0)) (now (a .1 .0)) 0 0)) refl refl (λ κs a. packets-wants _ _) (λ κs a r s p. p)
 
-pub hp-commitments-path-keeps : Keeps hp-commitments-path.Post (λ κs r. r .refusal) (λ κs a. now (a .1 .1 .0)) (λ κs s. now (s .1 .1 .0))
-hp-commitments-path-keeps κs a r s p = keeps _ _ _ _ (ap (λ y. y .refusal) (p .0)) (p .1)
+pub hp-receipts-path-holds : Demand1 hp-receipts-path.Pre hp-receipts-path.Post ends (λ κs r. r .refusal) (λ κs r. r .length ∷ []) (λ κs a. now (a .1 .1 .0)) (λ κs s. now (s .1 .1 .0))
+hp-receipts-path-holds = writes ends _ _ (λ κs a. tt) (λ κs r. r) (λ κs a. textOf (packetsPath (bytes "receipts")) (carried (now (a .0)) (now (a .1 .0)) 0 0)) refl refl (λ κs a. packets-wants _ _) (λ κs a r s p. p)
 
-pub hp-acks-path-keeps : Keeps hp-acks-path.Post (λ κs r. r .refusal) (λ κs a. now (a .1 .1 .0)) (λ κs s. now (s .1 .1 .0))
-hp-acks-path-keeps κs a r s p = keeps _ _ _ _ (ap (λ y. y .refusal) (p .0)) (p .1)
+pub hp-commitment-prefix-holds : Demand1 hp-commitment-prefix.Pre hp-commitment-prefix.Post room (λ κs r. r .refusal) (λ κs r. r .length ∷ []) (λ κs a. now (a .0)) (λ κs s. now (s .0))
+hp-commitment-prefix-holds = writes room _ _ (λ κs a. tt) (λ κs r. r) (λ κs a. text (bytes "commitments")) refl refl (λ κs a. tt) (λ κs a r s p. p)
 
-pub hp-receipts-path-keeps : Keeps hp-receipts-path.Post (λ κs r. r .refusal) (λ κs a. now (a .1 .1 .0)) (λ κs s. now (s .1 .1 .0))
-hp-receipts-path-keeps κs a r s p = keeps _ _ _ _ (ap (λ y. y .refusal) (p .0)) (p .1)
+pub hp-ack-prefix-holds : Demand1 hp-ack-prefix.Pre hp-ack-prefix.Post room (λ κs r. r .refusal) (λ κs r. r .length ∷ []) (λ κs a. now (a .0)) (λ κs s. now (s .0))
+hp-ack-prefix-holds = writes room _ _ (λ κs a. tt) (λ κs r. r) (λ κs a. text (bytes "acks")) refl refl (λ κs a. tt) (λ κs a r s p. p)
 
-pub hp-commitment-prefix-keeps : Keeps hp-commitment-prefix.Post (λ κs r. r .refusal) (λ κs a. now (a .0)) (λ κs s. now (s .0))
-hp-commitment-prefix-keeps κs a r s p = keeps _ _ _ _ (ap (λ y. y .refusal) (p .0)) (p .1)
+pub hp-receipt-prefix-holds : Demand1 hp-receipt-prefix.Pre hp-receipt-prefix.Post room (λ κs r. r .refusal) (λ κs r. r .length ∷ []) (λ κs a. now (a .0)) (λ κs s. now (s .0))
+hp-receipt-prefix-holds = writes room _ _ (λ κs a. tt) (λ κs r. r) (λ κs a. text (bytes "receipts")) refl refl (λ κs a. tt) (λ κs a r s p. p)
 
-pub hp-ack-prefix-keeps : Keeps hp-ack-prefix.Post (λ κs r. r .refusal) (λ κs a. now (a .0)) (λ κs s. now (s .0))
-hp-ack-prefix-keeps κs a r s p = keeps _ _ _ _ (ap (λ y. y .refusal) (p .0)) (p .1)
+pub hp-read-holds : Demand1 hp-read.Pre hp-read.Post readings (λ κs r. r) (λ κs r. []) (λ κs a. now (a .1 .0)) (λ κs s. now (s .1 .0))
+hp-read-holds = writes-number readings _ _ (λ κs a. tt) (λ κs r. r) (λ κs a. readingBytes (now (a .0))) refl refl (λ κs a. reading-wants _) (λ κs a r s p. p)
 
-pub hp-receipt-prefix-keeps : Keeps hp-receipt-prefix.Post (λ κs r. r .refusal) (λ κs a. now (a .0)) (λ κs s. now (s .0))
-hp-receipt-prefix-keeps κs a r s p = keeps _ _ _ _ (ap (λ y. y .refusal) (p .0)) (p .1)
+-- ---- calls that are lent nothing to write
+pub hp-validate-identifier-chars-holds : Demand1 hp-validate-identifier-chars.Pre hp-validate-identifier-chars.Post (2 ∷ 5 ∷ []) (λ κs r. r) (λ κs r. []) (λ κs a. []) (λ κs s. [])
+hp-validate-identifier-chars-holds = checks (2 ∷ 5 ∷ []) (λ κs a. tt) (λ κs r. r) (λ κs a r s p. subst (Listed (2 ∷ 5 ∷ [])) (sym p) (chars-number (Listed (2 ∷ 5 ∷ [])) refl refl refl _))
+
+pub hp-validate-identifier-length-holds : Demand1 hp-validate-identifier-length.Pre hp-validate-identifier-length.Post (2 ∷ 6 ∷ []) (λ κs r. r) (λ κs r. []) (λ κs a. []) (λ κs s. [])
+hp-validate-identifier-length-holds = checks (2 ∷ 6 ∷ []) (λ κs a. tt) (λ κs r. r) (λ κs a r s p. subst (Listed (2 ∷ 6 ∷ [])) (sym p) (length-number (Listed (2 ∷ 6 ∷ [])) refl refl refl _ _ _))
+
+pub hp-validate-prefix-length-holds : Demand1 hp-validate-prefix-length.Pre hp-validate-prefix-length.Post (2 ∷ 6 ∷ []) (λ κs r. r) (λ κs r. []) (λ κs a. []) (λ κs s. [])
+hp-validate-prefix-length-holds = checks (2 ∷ 6 ∷ []) (λ κs a. tt) (λ κs r. r) (λ κs a r s p. subst (Listed (2 ∷ 6 ∷ [])) (sym p) (prefix-number (Listed (2 ∷ 6 ∷ [])) refl refl refl _ _ _))
+
+pub hp-validate-named-u64-index-holds : Demand1 hp-validate-named-u64-index.Pre hp-validate-named-u64-index.Post (2 ∷ 7 ∷ 8 ∷ []) (λ κs r. r) (λ κs r. []) (λ κs a. []) (λ κs s. [])
+hp-validate-named-u64-index-holds = checks (2 ∷ 7 ∷ 8 ∷ []) (λ κs a. tt) (λ κs r. r) (λ κs a r s p. subst (Listed (2 ∷ 7 ∷ 8 ∷ [])) (sym p) (named-index-number (Listed (2 ∷ 7 ∷ 8 ∷ [])) refl refl refl refl _ _))
+
+pub hp-validate-client-type-holds : Demand1 hp-validate-client-type.Pre hp-validate-client-type.Post (2 ∷ 5 ∷ 6 ∷ []) (λ κs r. r) (λ κs r. []) (λ κs a. []) (λ κs s. [])
+hp-validate-client-type-holds = checks (2 ∷ 5 ∷ 6 ∷ []) (λ κs a. tt) (λ κs r. r) (λ κs a r s p. subst (Listed (2 ∷ 5 ∷ 6 ∷ [])) (sym p) (plain-of (Listed (2 ∷ 5 ∷ 6 ∷ [])) refl refl refl refl 7 43 _))
+
+pub hp-validate-client-identifier-holds : Demand1 hp-validate-client-identifier.Pre hp-validate-client-identifier.Post (2 ∷ 5 ∷ 6 ∷ []) (λ κs r. r) (λ κs r. []) (λ κs a. []) (λ κs s. [])
+hp-validate-client-identifier-holds = checks (2 ∷ 5 ∷ 6 ∷ []) (λ κs a. tt) (λ κs r. r) (λ κs a r s p. subst (Listed (2 ∷ 5 ∷ 6 ∷ [])) (sym p) (plain-of (Listed (2 ∷ 5 ∷ 6 ∷ [])) refl refl refl refl 9 64 _))
+
+pub hp-validate-connection-identifier-holds : Demand1 hp-validate-connection-identifier.Pre hp-validate-connection-identifier.Post (2 ∷ 5 ∷ 6 ∷ 7 ∷ 8 ∷ []) (λ κs r. r) (λ κs r. []) (λ κs a. []) (λ κs s. [])
+hp-validate-connection-identifier-holds = checks (2 ∷ 5 ∷ 6 ∷ 7 ∷ 8 ∷ []) (λ κs a. tt) (λ κs r. r) (λ κs a r s p. subst (Listed (2 ∷ 5 ∷ 6 ∷ 7 ∷ 8 ∷ [])) (sym p) (indexed-of (Listed (2 ∷ 5 ∷ 6 ∷ 7 ∷ 8 ∷ [])) refl refl refl refl refl refl 10 64 _ _))
+
+pub hp-validate-port-identifier-holds : Demand1 hp-validate-port-identifier.Pre hp-validate-port-identifier.Post (2 ∷ 5 ∷ 6 ∷ []) (λ κs r. r) (λ κs r. []) (λ κs a. []) (λ κs s. [])
+hp-validate-port-identifier-holds = checks (2 ∷ 5 ∷ 6 ∷ []) (λ κs a. tt) (λ κs r. r) (λ κs a r s p. subst (Listed (2 ∷ 5 ∷ 6 ∷ [])) (sym p) (plain-of (Listed (2 ∷ 5 ∷ 6 ∷ [])) refl refl refl refl 2 128 _))
+
+pub hp-validate-channel-identifier-holds : Demand1 hp-validate-channel-identifier.Pre hp-validate-channel-identifier.Post (2 ∷ 5 ∷ 6 ∷ 7 ∷ 8 ∷ []) (λ κs r. r) (λ κs r. []) (λ κs a. []) (λ κs s. [])
+hp-validate-channel-identifier-holds = checks (2 ∷ 5 ∷ 6 ∷ 7 ∷ 8 ∷ []) (λ κs a. tt) (λ κs r. r) (λ κs a r s p. subst (Listed (2 ∷ 5 ∷ 6 ∷ 7 ∷ 8 ∷ [])) (sym p) (indexed-of (Listed (2 ∷ 5 ∷ 6 ∷ 7 ∷ 8 ∷ [])) refl refl refl refl refl refl 8 64 _ _))
+
+pub hp-is-provable-holds : Demand1 hp-is-provable.Pre hp-is-provable.Post (14 ∷ []) (λ κs r. r .refusal) (λ κs r. r .value ∷ []) (λ κs a. []) (λ κs s. [])
+hp-is-provable-holds = provable-demand (λ κs a. tt) (λ κs a. a .0) (λ κs r. r) (λ κs a r s p. p)
 
 -- ---- the book's calls; a lookup and `oldest` are lent the book only to be read
-pub hp-book-new-keeps : Keeps hp-book-new.Post (λ κs r. r) (λ κs a. now (a .0)) (λ κs s. now (s .0))
-hp-book-new-keeps κs a r s p = made-keeps p
+pub hp-book-new-holds : Demand1 hp-book-new.Pre hp-book-new.Post (9 ∷ []) (λ κs r. r) (λ κs r. []) (λ κs a. now (a .0)) (λ κs s. now (s .0))
+hp-book-new-holds = made-demand (λ κs a. tt) (λ κs r. r) (λ κs a. now (a .0)) (λ κs s. now (s .0)) (λ κs a r s p. p)
 
-pub hp-book-write-keeps : Keeps hp-book-write.Post (λ κs r. r) (λ κs a. now (a .0)) (λ κs s. now (s .0))
-hp-book-write-keeps κs a r s p = changed-keeps p
+pub hp-book-write-holds : Demand1 hp-book-write.Pre hp-book-write.Post writeNumbers (λ κs r. r) (λ κs r. []) (λ κs a. now (a .0)) (λ κs s. now (s .0))
+hp-book-write-holds = changed-demand (λ κs a. tt) (λ κs r. r) (λ κs a. now (a .0)) (λ κs s. now (s .0)) writeNumbers (λ κs a. write (now (a .1 .0)) (now (a .1 .1 .0))) (λ κs a b x b₁ o. write-listed _ _ o) (λ κs a r s p. p)
 
-pub hp-book-remove-keeps : Keeps hp-book-remove.Post (λ κs r. r) (λ κs a. now (a .0)) (λ κs s. now (s .0))
-hp-book-remove-keeps κs a r s p = changed-keeps p
+pub hp-book-remove-holds : Demand1 hp-book-remove.Pre hp-book-remove.Post removeNumbers (λ κs r. r) (λ κs r. []) (λ κs a. now (a .0)) (λ κs s. now (s .0))
+hp-book-remove-holds = changed-demand (λ κs a. tt) (λ κs r. r) (λ κs a. now (a .0)) (λ κs s. now (s .0)) removeNumbers (λ κs a. remove (now (a .1 .0))) (λ κs a b x b₁ o. remove-listed _ o) (λ κs a r s p. p)
 
-pub hp-book-lookup-keeps : Keeps hp-book-lookup.Post (λ κs r. r) (λ κs a. now (a .1 .1 .0)) (λ κs s. now (s .1 .1 .0))
-hp-book-lookup-keeps κs a r s p = found-keeps p
+pub hp-book-lookup-holds : Demand1 hp-book-lookup.Pre hp-book-lookup.Post lookNumbers (λ κs r. r) (λ κs r. []) (λ κs a. now (a .1 .1 .0)) (λ κs s. now (s .1 .1 .0))
+hp-book-lookup-holds = found-demand (λ κs a. tt) (λ κs r. r) (λ κs a. now (a .1 .1 .0)) (λ κs s. now (s .1 .1 .0)) (λ κs a. now (a .0)) (λ κs a. now (a .1 .0)) (λ κs a r s p. p)
+
+pub hp-book-oldest-holds : Demand1 hp-book-oldest.Pre hp-book-oldest.Post (9 ∷ 2 ∷ 5 ∷ 6 ∷ 12 ∷ []) (λ κs r. r .refusal) (λ κs r. r .number ∷ r .height ∷ []) (λ κs a. []) (λ κs s. [])
+hp-book-oldest-holds = oldest-demand (λ κs a. tt) (λ κs r. r) (λ κs a. now (a .0)) (λ κs a. now (a .1 .0)) (λ κs a r s p. p)

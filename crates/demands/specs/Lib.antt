@@ -1,7 +1,10 @@
 -- The demands as theorems over the contracts that the sources have. `Written` holds what demands 1 and 2 share. Demand 3 is `Demand3`, in
 -- the words of `Held`, `Refusals` and `BookCalls`; `Useless` shows which line each useless book breaks. Files that end in `Laws` may be
 -- skipped.
+pub mod Shape
+pub mod ShapeLaws
 pub mod KeepsLaws
+pub mod BookNumberLaws
 pub mod Demand1
 pub mod Demand2
 pub mod Written

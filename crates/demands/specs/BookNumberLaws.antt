@@ -1,0 +1,182 @@
+-- Demand 1 of the book's calls and of the flag: their refusal numbers.
+-- Assumes nothing.
+use Prim.Native.Nat.{ℕ}
+use mathlib.Core.Path.{_≡_, refl, sym, ap, subst, _∙_}
+use mathlib.Core.Bool.{Bool, true, false, cond, _&&_}
+use mathlib.Core.List.{List, [], _∷_}
+use mathlib.Core.Option.{Option, none, some}
+use native.Mathlib.Omega.{arith}
+use lib.Dec.{eqb, leb}
+use lib.ListN.{length}
+use Rattle.identifiers.specs.Check.{checkOf}
+use Rattle.identifiers.specs.Check as check
+use Rattle.path.specs.declared.number.Flag.{Flag}
+use Rattle.path.specs.View.{provable, provableFlag}
+use Rattle.keys.specs.Records.{Key, get, put, del}
+use Rattle.keys.specs.Act.{Rec, Meaning, Answer, act, addTo, takeFrom, lookIn, seen}
+use Rattle.keys.specs.Calls.{Call, write, remove, look, meaning}
+use Rattle.keys.specs.Refusals.{GoodWrite, GoodRemoval, GoodLookup, Declined, too-long, not-ascii, not-a-path, key-too-long, bad-length, no-room}
+use Rattle.keys.specs.CallLaws.{Means, declines, writing, removing, looking, means}
+use Rattle.book.specs.Book.{Current, fullIn}
+use Rattle.book.specs.Outcome.{Outcome, no-book, this-book, Changed, Found, Looked, Made, no-size, new-book}
+use Rattle.book.specs.declared.oldest.StateAnswer.{StateAnswer}
+use Rattle.book.specs.declared.oldest.StateAnswer.the-variants.{State, Nothing}
+use Rattle.book.specs.declared.oldest.Pair.{Pair}
+use Rattle.book.specs.Oldest.{firstState, pair, pairOf, oldestIn, Oldest}
+use Rattle.book.specs.Oldest as oldest
+use Rattle.demands.specs.KeepsLaws.{made-keeps, changed-keeps, found-keeps}
+use Rattle.demands.specs.Shape.{Listed, AllZero, Demand1}
+use Rattle.demands.specs.ShapeLaws.{plain-of}
+
+-- ---- the number of an answer, for any property that 0 and the call's refusals have
+module _ (P : ℕ → Type 0) (zero : P 0) (c : Call) (own : (n : ℕ) → Declined c n → P n)
+    (full-of : (k : Key) (v : List ℕ) → GoodWrite c k v → P 11) (absent-of : (k : Key) → GoodRemoval c k → P 12) (nothing-of : (k : Key) (room : ℕ) → GoodLookup c k room → P 12) where
+  act-of : {m : Meaning} → Means c m → (full : Key → List Rec → Bool) (s : List Rec) → P (seen (act full m s .0) .number)
+  unfolding act
+  act-of (declines d) full s = own _ d
+  act-of (writing {k = k} {v = v} ok) full s = go (get s k) (full k s)
+    where
+      go : (x : Option (List ℕ)) (f : Bool) → P (seen (addTo x f (put s k v) s .0) .number)
+      go (some u) f = zero
+      go none true = full-of k v ok
+      go none false = zero
+  act-of (removing {k = k} ok) full s = go (get s k)
+    where
+      go : (x : Option (List ℕ)) → P (seen (takeFrom x (del s k) s .0) .number)
+      go none = absent-of k ok
+      go (some u) = zero
+  act-of (looking {k = k} {room = room} ok) full s = go (get s k)
+    where
+      go : (x : Option (List ℕ)) → P (seen (lookIn x s .0) .number)
+      go none = nothing-of k room ok
+      go (some u) = zero
+
+  pub outcome-of : P 9 → {b : List ℕ} {a : Answer} {b₁ : List ℕ} → Outcome Current (meaning c) b a b₁ → P (seen a .number)
+  outcome-of nine (no-book n e f) = subst (λ (x : Answer). P (seen x .number)) (sym e) nine
+  outcome-of nine (this-book x e f) = subst (λ (y : Answer). P (seen y .number)) (sym e) (act-of (means c) (fullIn x) (x .records))
+
+abbrev pub writeNumbers : List ℕ
+writeNumbers = 9 ∷ 1 ∷ 2 ∷ 3 ∷ 10 ∷ 6 ∷ 11 ∷ []
+
+pub write-listed : (t v : List ℕ) {b : List ℕ} {a : Answer} {b₁ : List ℕ} → Outcome Current (meaning (write t v)) b a b₁ → Listed writeNumbers (seen a .number)
+write-listed t v = outcome-of (Listed writeNumbers) refl (write t v) own (λ k u ok. refl) (λ k ok. absurd (let e = ok .asked in let z : _≡_ {A = ℕ} 0 1 = cc in let y : ⊥ = omega arith in y)) (λ k room ok. absurd (let e = ok .asked in let z : _≡_ {A = ℕ} 0 1 = cc in let y : ⊥ = omega arith in y)) refl
+  where
+    own : (n : ℕ) → Declined (write t v) n → Listed writeNumbers n
+    own n (too-long h) = refl
+    own n (not-ascii h e) = refl
+    own n (not-a-path h e f) = refl
+    own n (key-too-long p l) = refl
+    own n (bad-length q h f) = refl
+    own n (no-room q h l) = absurd (let z : _≡_ {A = ℕ} 0 1 = cc in let y : ⊥ = omega arith in y)
+
+abbrev pub removeNumbers : List ℕ
+removeNumbers = 9 ∷ 1 ∷ 2 ∷ 3 ∷ 10 ∷ 12 ∷ []
+
+pub remove-listed : (t : List ℕ) {b : List ℕ} {a : Answer} {b₁ : List ℕ} → Outcome Current (meaning (remove t)) b a b₁ → Listed removeNumbers (seen a .number)
+remove-listed t = outcome-of (Listed removeNumbers) refl (remove t) own (λ k u ok. absurd (let e = ok .asked in let z : _≡_ {A = ℕ} 0 1 = cc in let y : ⊥ = omega arith in y)) (λ k ok. refl) (λ k room ok. refl) refl
+  where
+    own : (n : ℕ) → Declined (remove t) n → Listed removeNumbers n
+    own n (too-long h) = refl
+    own n (not-ascii h e) = refl
+    own n (not-a-path h e f) = refl
+    own n (key-too-long p l) = refl
+    own n (bad-length q h f) = absurd (let z : _≡_ {A = ℕ} 0 1 = cc in let y : ⊥ = omega arith in y)
+    own n (no-room q h l) = absurd (let z : _≡_ {A = ℕ} 0 1 = cc in let y : ⊥ = omega arith in y)
+
+abbrev pub lookNumbers : List ℕ
+lookNumbers = 9 ∷ 1 ∷ 2 ∷ 3 ∷ 10 ∷ 4 ∷ 12 ∷ []
+
+pub look-listed : (t : List ℕ) (room : ℕ) {b : List ℕ} {a : Answer} {b₁ : List ℕ} → Outcome Current (meaning (look t room)) b a b₁ → Listed lookNumbers (seen a .number)
+look-listed t room = outcome-of (Listed lookNumbers) refl (look t room) own (λ k u ok. absurd (let e = ok .asked in let z : _≡_ {A = ℕ} 0 1 = cc in let y : ⊥ = omega arith in y)) (λ k ok. refl) (λ k r ok. refl) refl
+  where
+    own : (n : ℕ) → Declined (look t room) n → Listed lookNumbers n
+    own n (too-long h) = refl
+    own n (not-ascii h e) = refl
+    own n (not-a-path h e f) = refl
+    own n (key-too-long p l) = refl
+    own n (bad-length q h f) = absurd (let z : _≡_ {A = ℕ} 0 1 = cc in let y : ⊥ = omega arith in y)
+    own n (no-room q h l) = refl
+
+-- what is said of a pair
+record Told (p : Pair) : Type 0 where
+  listed : Listed (9 ∷ 2 ∷ 5 ∷ 6 ∷ 12 ∷ []) (p .refusal)
+  zeros : (p .refusal ≡ 0 → ⊥) → AllZero (p .number ∷ p .height ∷ [])
+
+in-records : (c : List ℕ) (s : List Rec) → Told (oldestIn c s)
+unfolding oldestIn
+in-records c s = pick (eqb (checkOf check.client c) 0)
+  where
+    state : (x : StateAnswer) → Told (pairOf x)
+    state (State m h) = record { listed = refl; zeros = λ n. absurd (n refl) }
+    state Nothing = record { listed = refl; zeros = λ n. (refl, (refl, tt)) }
+
+    pick : (v : Bool) → Told (cond v (pairOf (firstState c s)) (pair (checkOf check.client c) 0 0))
+    pick true = state (firstState c s)
+    pick false = record { listed = plain-of (Listed (9 ∷ 2 ∷ 5 ∷ 6 ∷ 12 ∷ [])) refl refl refl refl 9 64 c; zeros = λ n. (refl, (refl, tt)) }
+
+flag-told : (k : ℕ) → Listed (14 ∷ []) (provableFlag k .refusal) × ((provableFlag k .refusal ≡ 0 → ⊥) → AllZero (provableFlag k .value ∷ []))
+unfolding provableFlag
+flag-told k = go (leb 1 k && leb k 19)
+  where
+    flag : Bool → Flag
+    flag b = cond b (record { refusal = 0; value = cond (provable k) 1 0 }) (record { refusal = 14; value = 0 })
+
+    go : (b : Bool) → Listed (14 ∷ []) (flag b .refusal) × ((flag b .refusal ≡ 0 → ⊥) → AllZero (flag b .value ∷ []))
+    go true = (refl, λ h. absurd (h refl))
+    go false = (refl, λ h. (refl, tt))
+
+-- ---- the shapes
+module _ {L : Type 0} {A R S : L → Type 0} {Pre : (κs : L) → A κs → Type 0} {Post : (κs : L) → A κs → R κs → S κs → Type 0} (accepts : (κs : L) (a : A κs) → Pre κs a) where
+  module _ (number : (κs : L) → R κs → ℕ) (before : (κs : L) → A κs → List ℕ) (after : (κs : L) → S κs → List ℕ) where
+    pub made-demand : ((κs : L) (a : A κs) (r : R κs) (s : S κs) → Post κs a r s → Made Current tt (before κs a) (number κs r) (after κs s))
+        → Demand1 Pre Post (9 ∷ []) number (λ κs r. []) before after
+    made-demand says =
+        record { accepts = accepts; numbered = λ κs a r s p. go (says κs a r s p); nothing-else = λ κs a r s p h. tt; keeps = λ κs a r s p. made-keeps (says κs a r s p) }
+      where
+        go : {b : List ℕ} {r : ℕ} {b₁ : List ℕ} → Made Current tt b r b₁ → Listed (9 ∷ []) r
+        go (no-size n e f) = rw e
+        go (new-book C s e f) = rw e
+
+    pub changed-demand : (listed : List ℕ) (call : (κs : L) → A κs → Call)
+        → ((κs : L) (a : A κs) (b : List ℕ) (x : Answer) (b₁ : List ℕ) → Outcome Current (meaning (call κs a)) b x b₁ → Listed listed (seen x .number))
+        → ((κs : L) (a : A κs) (r : R κs) (s : S κs) → Post κs a r s → Changed Current (before κs a) (meaning (call κs a)) (number κs r) (after κs s))
+        → Demand1 Pre Post listed number (λ κs r. []) before after
+    changed-demand listed call numbers says =
+        record {
+          accepts = accepts;
+          numbered = λ κs a r s p. let c = says κs a r s p in subst (Listed listed) (sym (c .number)) (numbers κs a (before κs a) (c .answer) (after κs s) (c .outcome));
+          nothing-else = λ κs a r s p h. tt;
+          keeps = λ κs a r s p. changed-keeps (says κs a r s p);
+        }
+
+    pub found-demand : (book text : (κs : L) → A κs → List ℕ)
+        → ((κs : L) (a : A κs) (r : R κs) (s : S κs) → Post κs a r s → Looked Current (book κs a) (text κs a) (before κs a) (number κs r) (after κs s))
+        → Demand1 Pre Post lookNumbers number (λ κs r. []) before after
+    found-demand book text says =
+        record {
+          accepts = accepts;
+          numbered = λ κs a r s p. let c = says κs a r s p in subst (Listed lookNumbers) (sym (c .number)) (look-listed (text κs a) (length (before κs a)) (c .outcome));
+          nothing-else = λ κs a r s p h. tt;
+          keeps = λ κs a r s p. found-keeps (says κs a r s p);
+        }
+
+  pub oldest-demand : (pairs : (κs : L) → R κs → Pair) (book client : (κs : L) → A κs → List ℕ)
+      → ((κs : L) (a : A κs) (r : R κs) (s : S κs) → Post κs a r s → Oldest Current (book κs a) (client κs a) (pairs κs r))
+      → Demand1 Pre Post (9 ∷ 2 ∷ 5 ∷ 6 ∷ 12 ∷ []) (λ κs r. pairs κs r .refusal) (λ κs r. pairs κs r .number ∷ pairs κs r .height ∷ []) (λ κs a. []) (λ κs s. [])
+  oldest-demand pairs book client says =
+      record { accepts = accepts; numbered = λ κs a r s p. go (says κs a r s p) .listed; nothing-else = λ κs a r s p. go (says κs a r s p) .zeros; keeps = λ κs a r s p h. refl }
+    where
+      go : {b c : List ℕ} {p : Pair} → Oldest Current b c p → Told p
+      go (oldest.Oldest.no-book n e) = rw e (record { listed = refl; zeros = λ m. (refl, (refl, tt)) })
+      go {c = c} (oldest.Oldest.this-book x e) = rw e (in-records c (x .records))
+
+  pub provable-demand : (kind : (κs : L) → A κs → ℕ) (flag : (κs : L) → R κs → Flag)
+      → ((κs : L) (a : A κs) (r : R κs) (s : S κs) → Post κs a r s → flag κs r ≡ provableFlag (kind κs a))
+      → Demand1 Pre Post (14 ∷ []) (λ κs r. flag κs r .refusal) (λ κs r. flag κs r .value ∷ []) (λ κs a. []) (λ κs s. [])
+  provable-demand kind flag says =
+      record {
+        accepts = accepts;
+        numbered = λ κs a r s p. subst (λ (f : Flag). Listed (14 ∷ []) (f .refusal)) (sym (says κs a r s p)) (flag-told (kind κs a) .0);
+        nothing-else = λ κs a r s p. subst (λ (f : Flag). (f .refusal ≡ 0 → ⊥) → AllZero (f .value ∷ [])) (sym (says κs a r s p)) (flag-told (kind κs a) .1);
+        keeps = λ κs a r s p h. refl;
+      }
