@@ -53,6 +53,28 @@ use Rattle.node.proofs.hp_book_remove.Reads as hp-book-remove
 use Rattle.node.proofs.hp_book_lookup.Reads as hp-book-lookup
 use Rattle.node.proofs.hp_book_oldest.Reads as hp-book-oldest
 
+use Rattle.render.proofs.render.Reads as render
+use Rattle.render.proofs.key.write_key.Reads as write-key
+use Rattle.reader.proofs.write_reading.Reads as write-reading
+use Rattle.render.proofs.iteration.iteration_key.Reads as iteration-key
+use Rattle.identifiers.proofs.client_id.write_client_id.Reads as write-client-id
+use Rattle.identifiers.proofs.channel_id.write_channel_id.Reads as write-channel-id
+use Rattle.render.proofs.texts.client_state_prefix.Reads as client-state-prefix
+use Rattle.render.proofs.texts.client_state_leaf.Reads as client-state-leaf
+use Rattle.render.proofs.texts.consensus_state_parent.Reads as consensus-state-parent
+use Rattle.render.proofs.texts.consensus_state_leaf.Reads as consensus-state-leaf
+use Rattle.render.proofs.texts.update_time_leaf.Reads as update-time-leaf
+use Rattle.render.proofs.texts.update_height_leaf.Reads as update-height-leaf
+use Rattle.render.proofs.texts.connection_prefix.Reads as connection-prefix
+use Rattle.render.proofs.texts.channel_end_prefix.Reads as channel-end-prefix
+use Rattle.render.proofs.texts.commitments_path.Reads as commitments-path
+use Rattle.render.proofs.texts.acks_path.Reads as acks-path
+use Rattle.render.proofs.texts.receipts_path.Reads as receipts-path
+use Rattle.render.proofs.texts.commitment_prefix.Reads as commitment-prefix
+use Rattle.render.proofs.texts.ack_prefix.Reads as ack-prefix
+use Rattle.render.proofs.texts.receipt_prefix.Reads as receipt-prefix
+use Rattle.text.proofs.put.give.Reads as give
+
 -- a text that is always there: only the room can lack
 abbrev room : List ℕ
 room = 4 ∷ []
@@ -164,3 +186,67 @@ hp-book-lookup-holds = found-demand (λ κs a. tt) (λ κs r. r) (λ κs a. now 
 
 pub hp-book-oldest-holds : Demand1 hp-book-oldest.Pre hp-book-oldest.Post (9 ∷ 2 ∷ 5 ∷ 6 ∷ 12 ∷ []) (λ κs r. r .refusal) (λ κs r. r .number ∷ r .height ∷ []) (λ κs a. []) (λ κs s. [])
 hp-book-oldest-holds = oldest-demand (λ κs a. tt) (λ κs r. r) (λ κs a. now (a .0)) (λ κs a. now (a .1 .0)) (λ κs a r s p. p)
+
+-- ---- the functions that a Rattle caller writes with
+pub render-holds : Demand1 render.Pre render.Post renderings (λ κs r. r .refusal) (λ κs r. r .length ∷ []) (λ κs a. now (a .1 .1 .1 .1 .1 .0)) (λ κs s. now (s .1 .1 .1 .1 .1 .0))
+render-holds = writes renderings _ _ (λ κs a. tt) (λ κs r. r) (λ κs a. renderOf (a .0) (carried (now (a .1 .0)) (now (a .1 .1 .0)) (a .1 .1 .1 .0) (a .1 .1 .1 .1 .0))) refl refl (λ κs a. render-wants _ _) (λ κs a r s p. p)
+
+pub write-key-holds : Demand1 write-key.Pre write-key.Post readings (λ κs r. r .refusal) (λ κs r. r .length ∷ []) (λ κs a. now (a .1 .0)) (λ κs s. now (s .1 .0))
+write-key-holds = writes readings _ _ (λ κs a. tt) (λ κs r. r) (λ κs a. keyOf (now (a .0))) refl refl (λ κs a. key-wants _) (λ κs a r s p. p)
+
+pub write-reading-holds : Demand1 write-reading.Pre write-reading.Post readings (λ κs r. r .refusal) (λ κs r. r .length ∷ []) (λ κs a. now (a .1 .0)) (λ κs s. now (s .1 .0))
+write-reading-holds = writes readings _ _ (λ κs a. tt) (λ κs r. r) (λ κs a. readingBytes (now (a .0))) refl refl (λ κs a. reading-wants _) (λ κs a r s p. p)
+
+pub iteration-key-holds : Demand1 iteration-key.Pre iteration-key.Post room (λ κs r. r .refusal) (λ κs r. r .length ∷ []) (λ κs a. now (a .1 .1 .0)) (λ κs s. now (s .1 .1 .0))
+iteration-key-holds = writes room _ _ (λ κs a. tt) (λ κs r. r) (λ κs a. text (iterationKey (a .0 .0) (a .1 .0 .0))) refl refl (λ κs a. tt) (λ κs a r s p. p)
+
+pub write-client-id-holds : Demand1 write-client-id.Pre write-client-id.Post clients (λ κs r. r .refusal) (λ κs r. r .length ∷ []) (λ κs a. now (a .1 .1 .0)) (λ κs s. now (s .1 .1 .0))
+write-client-id-holds = writes clients _ _ (λ κs a. tt) (λ κs r. r) (λ κs a. newClient (now (a .0)) (a .1 .0)) refl refl (λ κs a. client-wants _ _) (λ κs a r s p. p)
+
+pub write-channel-id-holds : Demand1 write-channel-id.Pre write-channel-id.Post room (λ κs r. r .refusal) (λ κs r. r .length ∷ []) (λ κs a. now (a .1 .0)) (λ κs s. now (s .1 .0))
+write-channel-id-holds = writes room _ _ (λ κs a. tt) (λ κs r. r) (λ κs a. newChannel (a .0)) refl refl (λ κs a. channel-wants _ _) (λ κs a r s p. p)
+
+pub client-state-prefix-holds : Demand1 client-state-prefix.Pre client-state-prefix.Post room (λ κs r. r .refusal) (λ κs r. r .length ∷ []) (λ κs a. now (a .0)) (λ κs s. now (s .0))
+client-state-prefix-holds = writes room _ _ (λ κs a. tt) (λ κs r. r) (λ κs a. text (bytes "clients")) refl refl (λ κs a. tt) (λ κs a r s p. p)
+
+pub client-state-leaf-holds : Demand1 client-state-leaf.Pre client-state-leaf.Post room (λ κs r. r .refusal) (λ κs r. r .length ∷ []) (λ κs a. now (a .0)) (λ κs s. now (s .0))
+client-state-leaf-holds = writes room _ _ (λ κs a. tt) (λ κs r. r) (λ κs a. text (bytes "clientState")) refl refl (λ κs a. tt) (λ κs a r s p. p)
+
+pub consensus-state-parent-holds : Demand1 consensus-state-parent.Pre consensus-state-parent.Post clients (λ κs r. r .refusal) (λ κs r. r .length ∷ []) (λ κs a. now (a .1 .0)) (λ κs s. now (s .1 .0))
+consensus-state-parent-holds = writes clients _ _ (λ κs a. tt) (λ κs r. r) (λ κs a. textOf consensusParent (carried (now (a .0)) [] 0 0)) refl refl (λ κs a. parent-wants _) (λ κs a r s p. p)
+
+pub consensus-state-leaf-holds : Demand1 consensus-state-leaf.Pre consensus-state-leaf.Post room (λ κs r. r .refusal) (λ κs r. r .length ∷ []) (λ κs a. now (a .1 .1 .0)) (λ κs s. now (s .1 .1 .0))
+consensus-state-leaf-holds = writes room _ _ (λ κs a. tt) (λ κs r. r) (λ κs a. textOf (consensusLeaf []) (carried [] [] (a .0 .0) (a .1 .0 .0))) refl refl (λ κs a. leaf-wants _ _ _) (λ κs a r s p. p)
+
+pub update-time-leaf-holds : Demand1 update-time-leaf.Pre update-time-leaf.Post room (λ κs r. r .refusal) (λ κs r. r .length ∷ []) (λ κs a. now (a .1 .1 .0)) (λ κs s. now (s .1 .1 .0))
+update-time-leaf-holds = writes room _ _ (λ κs a. tt) (λ κs r. r) (λ κs a. textOf (consensusLeaf (word (bytes "processedTime") ∷ [])) (carried [] [] (a .0 .0) (a .1 .0 .0))) refl refl (λ κs a. update-wants _ _ _ _) (λ κs a r s p. p)
+
+pub update-height-leaf-holds : Demand1 update-height-leaf.Pre update-height-leaf.Post room (λ κs r. r .refusal) (λ κs r. r .length ∷ []) (λ κs a. now (a .1 .1 .0)) (λ κs s. now (s .1 .1 .0))
+update-height-leaf-holds = writes room _ _ (λ κs a. tt) (λ κs r. r) (λ κs a. textOf (consensusLeaf (word (bytes "processedHeight") ∷ [])) (carried [] [] (a .0 .0) (a .1 .0 .0))) refl refl (λ κs a. update-wants _ _ _ _) (λ κs a r s p. p)
+
+pub connection-prefix-holds : Demand1 connection-prefix.Pre connection-prefix.Post room (λ κs r. r .refusal) (λ κs r. r .length ∷ []) (λ κs a. now (a .0)) (λ κs s. now (s .0))
+connection-prefix-holds = writes room _ _ (λ κs a. tt) (λ κs r. r) (λ κs a. text (bytes "connections")) refl refl (λ κs a. tt) (λ κs a r s p. p)
+
+pub channel-end-prefix-holds : Demand1 channel-end-prefix.Pre channel-end-prefix.Post room (λ κs r. r .refusal) (λ κs r. r .length ∷ []) (λ κs a. now (a .0)) (λ κs s. now (s .0))
+channel-end-prefix-holds = writes room _ _ (λ κs a. tt) (λ κs r. r) (λ κs a. text (bytes "channelEnds")) refl refl (λ κs a. tt) (λ κs a r s p. p)
+
+pub commitments-path-holds : Demand1 commitments-path.Pre commitments-path.Post ends (λ κs r. r .refusal) (λ κs r. r .length ∷ []) (λ κs a. now (a .1 .1 .0)) (λ κs s. now (s .1 .1 .0))
+commitments-path-holds = writes ends _ _ (λ κs a. tt) (λ κs r. r) (λ κs a. textOf (packetsPath (bytes "commitments")) (carried (now (a .0)) (now (a .1 .0)) 0 0)) refl refl (λ κs a. packets-wants _ _) (λ κs a r s p. p)
+
+pub acks-path-holds : Demand1 acks-path.Pre acks-path.Post ends (λ κs r. r .refusal) (λ κs r. r .length ∷ []) (λ κs a. now (a .1 .1 .0)) (λ κs s. now (s .1 .1 .0))
+acks-path-holds = writes ends _ _ (λ κs a. tt) (λ κs r. r) (λ κs a. textOf (packetsPath (bytes "acks")) (carried (now (a .0)) (now (a .1 .0)) 0 0)) refl refl (λ κs a. packets-wants _ _) (λ κs a r s p. p)
+
+pub receipts-path-holds : Demand1 receipts-path.Pre receipts-path.Post ends (λ κs r. r .refusal) (λ κs r. r .length ∷ []) (λ κs a. now (a .1 .1 .0)) (λ κs s. now (s .1 .1 .0))
+receipts-path-holds = writes ends _ _ (λ κs a. tt) (λ κs r. r) (λ κs a. textOf (packetsPath (bytes "receipts")) (carried (now (a .0)) (now (a .1 .0)) 0 0)) refl refl (λ κs a. packets-wants _ _) (λ κs a r s p. p)
+
+pub commitment-prefix-holds : Demand1 commitment-prefix.Pre commitment-prefix.Post room (λ κs r. r .refusal) (λ κs r. r .length ∷ []) (λ κs a. now (a .0)) (λ κs s. now (s .0))
+commitment-prefix-holds = writes room _ _ (λ κs a. tt) (λ κs r. r) (λ κs a. text (bytes "commitments")) refl refl (λ κs a. tt) (λ κs a r s p. p)
+
+pub ack-prefix-holds : Demand1 ack-prefix.Pre ack-prefix.Post room (λ κs r. r .refusal) (λ κs r. r .length ∷ []) (λ κs a. now (a .0)) (λ κs s. now (s .0))
+ack-prefix-holds = writes room _ _ (λ κs a. tt) (λ κs r. r) (λ κs a. text (bytes "acks")) refl refl (λ κs a. tt) (λ κs a r s p. p)
+
+pub receipt-prefix-holds : Demand1 receipt-prefix.Pre receipt-prefix.Post room (λ κs r. r .refusal) (λ κs r. r .length ∷ []) (λ κs a. now (a .0)) (λ κs s. now (s .0))
+receipt-prefix-holds = writes room _ _ (λ κs a. tt) (λ κs r. r) (λ κs a. text (bytes "receipts")) refl refl (λ κs a. tt) (λ κs a r s p. p)
+
+pub give-holds : Demand1 give.Pre give.Post room (λ κs r. r .refusal) (λ κs r. r .length ∷ []) (λ κs a. now (a .0)) (λ κs s. now (s .0))
+give-holds = writes room _ _ (λ κs a. tt) (λ κs r. r) (λ κs a. text (now (a .1 .0))) refl refl (λ κs a. tt) (λ κs a r s p. p)
