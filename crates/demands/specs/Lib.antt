@@ -6,6 +6,9 @@ pub mod ShapeLaws
 pub mod KeepsLaws
 pub mod BookNumberLaws
 pub mod Demand1
+pub mod PathCalls
+pub mod Told
+pub mod ToldLaws
 pub mod Demand2
 pub mod Written
 pub mod Held

@@ -1,0 +1,124 @@
+-- Nothing is lost in the 26 bytes of a reading.
+-- Assumes nothing.
+use Prim.Native.Nat.{ℕ, zero, suc, _+_, _*_, _/_, _%_, _^_, _<_, _≤_}
+use mathlib.Core.Path.{_≡_, refl, sym, ap, _∙_}
+use mathlib.Core.Bool.{Bool, cond}
+use mathlib.Core.List.{List, [], _∷_, _++_, append-assoc, append-nil}
+use native.Mathlib.Nat.{pow-suc}
+use native.Mathlib.Omega.{arith}
+use lib.ListN.{length, take, drop, length-append}
+use lib.Seq.{take-at, drop-at, drop-drop}
+use Rattle.text.specs.Number.{bigEndian}
+use Rattle.text.specs.NumberLaws.{length-big}
+use Rattle.path.specs.declared.Place.{Place}
+use Rattle.path.specs.declared.Path.{Path}
+use Rattle.path.specs.declared.Reading.the-variants.{Read}
+use Rattle.path.specs.Kinds.{Name, client, connection, port, channel, upgrade, Part, word, name, count, pair, Carried, Kind}
+use Rattle.path.specs.Text.{placeAt, nowhere}
+use Rattle.path.specs.TextLaws.{place-within}
+use Rattle.path.specs.Read.{setName, carriedFrom, placeBytes, readPath}
+use Rattle.path.specs.ReadLaws.{Reads, made-carried}
+use Rattle.path.specs.View.{kindOf, carriedOf}
+use Rattle.path.specs.BackLaws.{read-reads, read-short, read-valid}
+use Rattle.demands.specs.Told.{bigFrom, bigAt, Told, told, toldOf}
+
+-- ---- numbers, high byte first
+big-append : (v : ℕ) (xs ys : List ℕ) → bigFrom v (xs ++ ys) ≡ bigFrom (bigFrom v xs) ys
+unfolding bigFrom
+big-append v [] ys = refl
+big-append v (x ∷ xs) ys = big-append (v * 256 + x) xs ys
+
+pub big-back : (n v : ℕ) → v < 256 ^ n → bigFrom 0 (bigEndian n v) ≡ v
+unfolding bigFrom bigEndian
+big-back zero v h = let z : 256 ^ 0 ≡ 1 = refl in omega (arith, h, z)
+big-back (suc n) v h =
+    big-append 0 (bigEndian n (v / 256)) (v % 256 ∷ [])
+    ∙ ap (λ (m : ℕ). m * 256 + v % 256) (big-back n (v / 256) (omega (arith, h, pow-suc 256 n)))
+    ∙ omega arith
+
+-- ---- places lie in the text
+record Within (t : List ℕ) (v : Carried Place) : Type 0 where
+  first : v .one .start + v .one .len ≤ length t
+  second : v .two .start + v .two .len ≤ length t
+
+set-within : (t : List ℕ) (n : Name) (p : Place) (v : Carried Place) → p .start + p .len ≤ length t → Within t v → Within t (setName n p v)
+set-within t client p v h w = record { first = h; second = w .second }
+set-within t connection p v h w = record { first = h; second = w .second }
+set-within t port p v h w = record { first = h; second = w .second }
+set-within t channel p v h w = record { first = w .first; second = h }
+set-within t upgrade p v h w = record { first = h; second = w .second }
+
+carried-within : (k : ℕ) (ps : List Part) (t : List ℕ) → Within t (carriedFrom k ps t)
+carried-within k [] t = record { first = omega arith; second = omega arith }
+carried-within k (word w ∷ ps) t = carried-within (k + 1) ps t
+carried-within k (name n ∷ ps) t = set-within t n (placeAt t k) (carriedFrom (k + 1) ps t) (place-within t k) (carried-within (k + 1) ps t)
+carried-within k (count ∷ ps) t = let w = carried-within (k + 1) ps t in record { first = w .first; second = w .second }
+carried-within k (pair ∷ ps) t = let w = carried-within (k + 1) ps t in record { first = w .first; second = w .second }
+
+read-within : (t : List ℕ) (p : Path) → Reads t p → Within t (carriedOf p)
+read-within t p r = rw (r .made, made-carried (r .listed) t) (carried-within 0 (r .kind .parts) t)
+
+-- ---- the 26 bytes
+abbrev pub bytes26 : Path → Bool → List ℕ
+bytes26 p e = kindOf p ∷ cond e 1 0 ∷ (placeBytes (carriedOf p .one) ++ (placeBytes (carriedOf p .two) ++ (bigEndian 8 (carriedOf p .a) ++ bigEndian 8 (carriedOf p .b))))
+
+-- a number of n bytes that stands behind others
+big-at : (pre post : List ℕ) (at n v : ℕ) (bs : List ℕ) → bs ≡ pre ++ (bigEndian n v ++ post) → length pre ≡ at → v < 256 ^ n → bigAt at n bs ≡ v
+big-at pre post at n v bs e l h =
+    ap (λ (x : List ℕ). bigFrom 0 (take n (drop at x))) e
+    ∙ ap (λ (x : List ℕ). bigFrom 0 (take n x)) (drop-at pre (bigEndian n v ++ post) at l)
+    ∙ ap (bigFrom 0) (take-at (bigEndian n v) post n (length-big n v))
+    ∙ big-back n v h
+
+module _ (t : List ℕ) (p : Path) (e : Bool) (h : readPath t ≡ Read p e) where
+  c : Carried Place
+  c = carriedOf p
+
+  x : ℕ → List ℕ
+  x v = bigEndian 2 v
+
+  y : ℕ → List ℕ
+  y v = bigEndian 8 v
+
+  lx : (v : ℕ) → length (x v) ≡ 2
+  unfolding x
+  lx v = length-big 2 v
+
+  ly : (v : ℕ) → length (y v) ≡ 8
+  unfolding y
+  ly v = length-big 8 v
+
+  small : (m : ℕ) → m ≤ length t → m < 256 ^ 2
+  small m l = let z : 256 ^ 2 ≡ 65536 = refl in omega (arith, read-short t p e h, z)
+
+  large : (m : ℕ) → m < 2 ^ 64 → m < 256 ^ 8
+  large m l = let z : 256 ^ 8 ≡ 2 ^ 64 = refl in omega (arith, l, z)
+
+  -- nothing is lost in 2-byte places
+  pub told-back : told (bytes26 p e) ≡ toldOf p e
+  unfolding told c x y
+  told-back =
+      let w = read-within t p (read-reads t p e h) in
+      let u = read-valid t p e h in
+      let bs : List ℕ = bytes26 p e in
+      let head : List ℕ = kindOf p ∷ cond e 1 0 ∷ [] in
+      let s₁ = c .one .start in
+      let l₁ = c .one .len in
+      let s₂ = c .two .start in
+      let l₂ = c .two .len in
+      let p₁ : bigAt 2 2 bs ≡ s₁ = big-at head (x l₁ ++ (placeBytes (c .two) ++ (y (c .a) ++ y (c .b)))) 2 2 s₁ bs (simp append-assoc) refl (small s₁ (omega (arith, w .first))) in
+      let p₂ : bigAt 4 2 bs ≡ l₁ = big-at (head ++ x s₁) (placeBytes (c .two) ++ (y (c .a) ++ y (c .b))) 4 2 l₁ bs (simp append-assoc) (omega (arith, length-append head (x s₁), lx s₁)) (small l₁ (omega (arith, w .first))) in
+      let p₃ : bigAt 6 2 bs ≡ s₂ = big-at (head ++ placeBytes (c .one)) (x l₂ ++ (y (c .a) ++ y (c .b))) 6 2 s₂ bs (simp append-assoc) (omega (arith, length-append head (placeBytes (c .one)), length-append (x s₁) (x l₁), lx s₁, lx l₁)) (small s₂ (omega (arith, w .second))) in
+      let p₄ : bigAt 8 2 bs ≡ l₂ = big-at (head ++ (placeBytes (c .one) ++ x s₂)) (y (c .a) ++ y (c .b)) 8 2 l₂ bs (simp append-assoc) (omega (arith, length-append head (placeBytes (c .one) ++ x s₂), length-append (placeBytes (c .one)) (x s₂), length-append (x s₁) (x l₁), lx s₁, lx l₁, lx s₂)) (small l₂ (omega (arith, w .second))) in
+      let p₅ : bigAt 10 8 bs ≡ c .a = big-at (head ++ (placeBytes (c .one) ++ placeBytes (c .two))) (y (c .b)) 10 8 (c .a) bs (simp append-assoc) (omega (arith, length-append head (placeBytes (c .one) ++ placeBytes (c .two)), length-append (placeBytes (c .one)) (placeBytes (c .two)), length-append (x s₁) (x l₁), length-append (x s₂) (x l₂), lx s₁, lx l₁, lx s₂, lx l₂)) (large (c .a) (u .a)) in
+      let p₆ : bigAt 18 8 bs ≡ c .b = big-at (head ++ (placeBytes (c .one) ++ (placeBytes (c .two) ++ y (c .a)))) [] 18 8 (c .b) bs (simp (append-assoc, append-nil)) (omega (arith, length-append head (placeBytes (c .one) ++ (placeBytes (c .two) ++ y (c .a))), length-append (placeBytes (c .one)) (placeBytes (c .two) ++ y (c .a)), length-append (placeBytes (c .two)) (y (c .a)), length-append (x s₁) (x l₁), length-append (x s₂) (x l₂), lx s₁, lx l₁, lx s₂, lx l₂, ly (c .a))) (large (c .b) (u .b)) in
+      λ i. record { kind = kindOf p; mark = cond e 1 0; first = record { start = p₁ i; len = p₂ i }; second = record { start = p₃ i; len = p₄ i }; a = p₅ i; b = p₆ i }
+
+  pub length26 : length (bytes26 p e) ≡ 26
+  unfolding c x y
+  length26 =
+      let s₁ = c .one .start in
+      let l₁ = c .one .len in
+      let s₂ = c .two .start in
+      let l₂ = c .two .len in
+      omega (arith, length-append (placeBytes (c .one)) (placeBytes (c .two) ++ (y (c .a) ++ y (c .b))), length-append (placeBytes (c .two)) (y (c .a) ++ y (c .b)), length-append (y (c .a)) (y (c .b)), length-append (x s₁) (x l₁), length-append (x s₂) (x l₂), lx s₁, lx l₁, lx s₂, lx l₂, ly (c .a), ly (c .b))
