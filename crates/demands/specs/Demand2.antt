@@ -1,117 +1,156 @@
--- Demand 2, over the contracts of the renderer, the reader, the key writer and the iteration key.
+-- Demand 2, in both directions, over the calls that people make: `hp_render`, `hp_read`, `hp_key` and `hp_iteration_key`, with names for their
+-- arguments and buffers (PathCalls), and over the functions below them. Valid and room enough are the only premises.
 -- Assumes nothing.
-use Prim.Native.Nat.{ℕ, _≤_, _<_, _^_, compare}
-use mathlib.Core.Path.{_≡_, sym, ap, subst, _∙_}
-use mathlib.Core.Bool.{Bool, true, false, cond, _&&_}
+use Prim.Native.Nat.{ℕ, _+_, _≤_, _<_, _^_, compare}
+use mathlib.Core.Path.{_≡_, refl, sym, ap, subst, _∙_}
+use mathlib.Core.Logic.{_↔_}
+use mathlib.Core.Bool.{Bool, true, false, cond}
 use mathlib.Core.List.{List}
-use native.Mathlib.Omega.{arith}
-use lib.Dec.{leb}
 use lib.ListN.{length, take}
 use denote.Ref.{now}
+use Rattle.text.specs.declared.Written.{Written}
 use Rattle.text.specs.Order.{then, cmp}
-use Rattle.text.specs.Put.{refused, text}
-use Rattle.identifiers.specs.Check.{first, unless}
+use Rattle.text.specs.Part.{ascii}
+use Rattle.text.specs.Put.{text, done, answer, left}
+use Rattle.identifiers.specs.Check.{checkOf, client, clientType, connection, port, channel, first, charsOf, prefixLengthOf}
+use Rattle.identifiers.specs.CheckLaws.{generalOf}
 use Rattle.path.specs.declared.Path.{Path}
-use Rattle.path.specs.declared.Refusal.{Refusal}
-use Rattle.path.specs.declared.Refusal.the-variants.{TooLong, NotAscii, NotAPath}
-use Rattle.path.specs.declared.Reading.{Reading}
-use Rattle.path.specs.declared.Reading.the-variants.{Read, Refused}
-use Rattle.path.specs.Kinds.{Carried}
-use Rattle.path.specs.Read.{fitsKind, partsOf, namesFault, render as rendering, textsOf, limited, renderOf, readPath, refusalOf, keyBy, keyOf}
+use Rattle.path.specs.declared.PathAnswer.the-variants.{Found}
+use Rattle.path.specs.declared.Reading.the-variants.{Read}
+use Rattle.path.specs.Kinds.{Carried, Kind, kinds}
+use Rattle.path.specs.Text.{partOf}
+use Rattle.path.specs.Read.{fitsKind, partsOf, textsOf, renderPath, renderOf, readPath, keyOf}
+use Rattle.path.specs.Read as paths
 use Rattle.path.specs.View.{kindOf, carriedOf}
-use Rattle.path.specs.Valid.{only, ReadsAs}
-use Rattle.path.specs.ReadLaws.{kindAt, fits-one}
-use Rattle.path.specs.BackLaws.{render-read, rendered-valid, read-again, key-read, key-exact}
+use Rattle.path.specs.Valid.{Valid, only, ReadsAs}
+use Rattle.path.specs.ReadLaws.{Has, Reads, kindAt}
+use Rattle.path.specs.ReadLaws as reads
+use Rattle.path.specs.BackLaws.{rendered-valid}
 use Rattle.path.specs.LengthLaws.{longest}
 use Rattle.rows.specs.Rows.{carried}
 use Rattle.render.specs.Iteration.{iterationKey}
 use Rattle.render.specs.KeyLaws.{key-compare}
-use Rattle.demands.specs.Written.{Proper, accepted-proper, Wrote, wrote}
+use Rattle.demands.specs.PathCalls.{ReadCall, KeyCall, RenderCall, IterationKeyCall, reading, keying, rendering, iterating}
+use Rattle.demands.specs.Told.{Told, told, toldOf}
+use Rattle.demands.specs.Demand2Laws as laws
+use Rattle.demands.specs.Written.{Done, Back, WhenRead}
+use Rattle.node.proofs.hp_validate_client_type.Reads as hp-validate-client-type
+use Rattle.node.proofs.hp_validate_client_identifier.Reads as hp-validate-client-identifier
+use Rattle.node.proofs.hp_validate_connection_identifier.Reads as hp-validate-connection-identifier
+use Rattle.node.proofs.hp_validate_port_identifier.Reads as hp-validate-port-identifier
+use Rattle.node.proofs.hp_validate_channel_identifier.Reads as hp-validate-channel-identifier
 use Rattle.reader.proofs.read_path.Reads as read-path
 use Rattle.render.proofs.render.Reads as render
 use Rattle.render.proofs.key.write_key.Reads as write-key
 use Rattle.render.proofs.iteration.iteration_key.Reads as iteration-key
 
-text-one : {v w : List ℕ} → text v ≡ text w → v ≡ w
-text-one e = cc
-
--- ---- a text that was rendered reads back
-render-proper : (k : ℕ) (v : Carried (List ℕ)) → Proper (renderOf k v)
-unfolding renderOf
-render-proper k v = go (leb 1 k && leb k 19)
-  where
-    go : (b : Bool) → Proper (cond b (limited (partsOf k) v) (refused 14))
-    go true = accepted-proper (first (namesFault (partsOf k) v) (unless 1 (leb (length (rendering (partsOf k) v)) 4096))) (rendering (partsOf k) v)
-    go false = λ e. let z : _≡_ {A = ℕ} 14 0 = e in absurd (omega arith)
-
--- what the renderer wrote where it was not refused, read by the reader: the same kind, identifiers and numbers, exact
-module _ (κs : _) (a : _) (r : _) (s : _) (rendered : render.Post κs a r s) (done : r .refusal ≡ 0) where
+-- ---- "Rendering a valid typed path of at most 4,096 bytes and reading it gives that path back."
+module _ (kind : ℕ) (one two : List ℕ) (a b : ℕ) where
   abbrev pub given : Carried (List ℕ)
-  given = carried (now (a .1 .0)) (now (a .1 .1 .0)) (a .1 .1 .1 .0) (a .1 .1 .1 .1 .0)
+  given = carried one two a b
 
-  abbrev pub bytes : List ℕ
-  bytes = take (r .length) (now (s .1 .1 .1 .1 .1 .0))
+  abbrev pub rendered : List ℕ
+  rendered = paths.render (partsOf kind) given
 
-  pub rendered-reads : a .1 .1 .1 .0 < 2 ^ 64 → a .1 .1 .1 .1 .0 < 2 ^ 64 → ReadsAs bytes (a .0) (only (partsOf (a .0)) given)
-  rendered-reads m n =
-      let w = wrote r _ _ (renderOf (a .0) given) (render-proper (a .0) given) (rendered .0) (rendered .1) done in
-      rw (w .shown) (render-read (a .0) given (w .bytes) m n (w .wanted))
+  module _ (valid : Valid kind given) where
+    -- where there is room, rendering answers 0 and the length, and the rendering stands at the start of the buffer
+    pub renders : (out : List ℕ) (x : Written) (out₁ : List ℕ) → RenderCall kind one two a b out x out₁ → length rendered ≤ length out → Done rendered x out₁
+    renders out x out₁ call room = let e = rendering call in laws.renders kind given valid out x out₁ (e .0) (e .1) room
 
-  -- and so the reader answers, whatever buffer the bytes stand in
-  pub render-then-read : (m : a .1 .1 .1 .0 < 2 ^ 64) (n : a .1 .1 .1 .1 .0 < 2 ^ 64) (κ : _) (b : _) (x : _) (y : _) → read-path.Post κ b x y → now (b .0) ≡ bytes → x ≡ Read (rendered-reads m n .path) true
-  render-then-read m n κ b x y read e = read ∙ ap readPath e ∙ rendered-reads m n .read
+    -- reading it answers 0 and 26 bytes that say that kind, those identifiers and those numbers, exact
+    pub reads-back : (out : List ℕ) (n : ℕ) (out₁ : List ℕ) → ReadCall rendered out n out₁ → 26 ≤ length out → (n ≡ 0) × Back rendered (told (take 26 out₁)) kind (only (partsOf kind) given)
+    reads-back out n out₁ call room = let e = reading call in laws.reads-back kind given valid out n out₁ (e .0) (e .1) room
 
--- ---- a key reads as the text does, exact, and is its own key
-refusal-proper : (w : Refusal) → refusalOf w ≡ 0 → ⊥
-refusal-proper TooLong e = let z : _≡_ {A = ℕ} 1 0 = e in absurd (omega arith)
-refusal-proper NotAscii e = let z : _≡_ {A = ℕ} 2 0 = e in absurd (omega arith)
-refusal-proper NotAPath e = let z : _≡_ {A = ℕ} 3 0 = e in absurd (omega arith)
+    -- the same of the functions below: `render::render`, and `reader::read_path`
+    pub render-then-read : ReadsAs rendered kind (only (partsOf kind) given)
+    render-then-read = laws.reads-as kind given valid
 
-key-proper : (t : List ℕ) → Proper (keyOf t)
-unfolding keyOf
-key-proper t = go (readPath t)
-  where
-    go : (x : Reading) → Proper (keyBy t x)
-    go (Read p e) = tt
-    go (Refused w) = refusal-proper w
+  -- what the renderer wrote is valid, so no other arguments are accepted
+  pub only-valid : (w : List ℕ) → a < 2 ^ 64 → b < 2 ^ 64 → renderOf kind given ≡ text w → Valid kind given
+  only-valid w m n e = rendered-valid kind given w m n e .0
 
-module _ (κs : _) (a : _) (r : _) (s : _) (written : write-key.Post κs a r s) (done : r .refusal ≡ 0) where
-  abbrev pub asked : List ℕ
-  asked = now (a .0)
+-- `render::render`, in the places of its contract
+pub render-renders : (κs : _) (a : _) (r : _) (s : _) → render.Post κs a r s
+    → Valid (a .0) (carried (now (a .1 .0)) (now (a .1 .1 .0)) (a .1 .1 .1 .0) (a .1 .1 .1 .1 .0))
+    → length (paths.render (partsOf (a .0)) (carried (now (a .1 .0)) (now (a .1 .1 .0)) (a .1 .1 .1 .0) (a .1 .1 .1 .1 .0))) ≤ length (now (a .1 .1 .1 .1 .1 .0))
+    → Done (paths.render (partsOf (a .0)) (carried (now (a .1 .0)) (now (a .1 .1 .0)) (a .1 .1 .1 .0) (a .1 .1 .1 .1 .0))) r (now (s .1 .1 .1 .1 .1 .0))
+render-renders κs a r s p valid room = laws.renders (a .0) _ valid _ r _ (p .0) (p .1) room
 
-  abbrev pub key : List ℕ
-  key = take (r .length) (now (s .1 .0))
+-- `reader::read_path` answers what reading means
+pub read-reads : (κs : _) (a : _) (r : _) (s : _) → read-path.Post κs a r s → r ≡ readPath (now (a .0))
+read-reads κs a r s p = p
 
-  wrote-key : Wrote (keyOf asked) r (now (s .1 .0))
-  wrote-key = wrote r _ _ (keyOf asked) (key-proper asked) (written .0) (written .1) done
+-- arguments that a kind lacks have no influence on rendering
+pub lacking : (kind : ℕ) (v w : Carried (List ℕ)) (out : List ℕ) (x y : Written) (out₁ out₂ : List ℕ)
+    → RenderCall kind (v .one) (v .two) (v .a) (v .b) out x out₁ → RenderCall kind (w .one) (w .two) (w .a) (w .b) out y out₂
+    → only (partsOf kind) v ≡ only (partsOf kind) w → (x ≡ y) × (out₁ ≡ out₂)
+lacking kind v w out x y out₁ out₂ c d e = let p = rendering c in let q = rendering d in laws.lacking kind v w out x y out₁ out₂ (p .0) (p .1) (q .0) (q .1) e
 
-  -- reading, rendering and reading again changes nothing but the mark
-  pub key-reads : (p : Path) × (e : Bool) × (readPath asked ≡ Read p e) × ReadsAs key (kindOf p) (textsOf asked (carriedOf p))
-  key-reads =
-      let w = wrote-key in
-      let k = key-read asked (w .bytes) (w .wanted) in
-      (k .0, k .1, k .2, subst (λ u. ReadsAs u (kindOf (k .0)) (textsOf asked (carriedOf (k .0)))) (sym (w .shown ∙ k .3)) (read-again asked (k .0) (k .1) (k .2)))
+-- ---- "On every ASCII text of at most 4,096 bytes, reading .. equal the .. path rules": exactly when reading gives 1, 2, 3 and 4
+pub when-read : (t out : List ℕ) (n : ℕ) (out₁ : List ℕ) → ReadCall t out n out₁ → WhenRead t out n
+when-read t out n out₁ call = laws.when-read t out n (reading call .0)
 
-  pub key-again : keyOf key ≡ text key
-  key-again = let w = wrote-key in rw (w .shown) (key-exact asked (w .bytes) (w .wanted) .2)
+-- a text that reads is told whole by the 26 bytes
+pub reading-tells : (t : List ℕ) (p : Path) (e : Bool) → readPath t ≡ Read p e → (out : List ℕ) (n : ℕ) (out₁ : List ℕ) → ReadCall t out n out₁ → 26 ≤ length out
+    → (n ≡ 0) × (told (take 26 out₁) ≡ toldOf p e)
+reading-tells t p e h out n out₁ call room = let q = reading call in laws.reading-tells t p e h out n out₁ (q .0) (q .1) room
 
--- ---- iteration keys compare as bytes exactly as pairs of revision number and height compare
-module _ (κs : _) (a : _) (r : _) (s : _) (first : iteration-key.Post κs a r s) (done : r .refusal ≡ 0)
-    (κs′ : _) (a′ : _) (r′ : _) (s′ : _) (second : iteration-key.Post κs′ a′ r′ s′) (done′ : r′ .refusal ≡ 0) where
-  pub keys-compare :
-      a .0 .0 < 2 ^ 64 → a .1 .0 .0 < 2 ^ 64 → a′ .0 .0 < 2 ^ 64 → a′ .1 .0 .0 < 2 ^ 64
-      → cmp (take (r .length) (now (s .1 .1 .0))) (take (r′ .length) (now (s′ .1 .1 .0))) ≡ then (compare (a .0 .0) (a′ .0 .0)) (compare (a .1 .0 .0) (a′ .1 .0 .0))
-  keys-compare m h n k =
-      let w = wrote r _ _ (text (iterationKey (a .0 .0) (a .1 .0 .0))) tt (first .0) (first .1) done in
-      let u = wrote r′ _ _ (text (iterationKey (a′ .0 .0) (a′ .1 .0 .0))) tt (second .0) (second .1) done′ in
-      let e : iterationKey (a .0 .0) (a .1 .0 .0) ≡ w .bytes = text-one (w .wanted) in
-      let f : iterationKey (a′ .0 .0) (a′ .1 .0 .0) ≡ u .bytes = text-one (u .wanted) in
-      rw (w .shown, u .shown, ← e, ← f) (key-compare (a .0 .0) (a .1 .0 .0) (a′ .0 .0) (a′ .1 .0 .0) m h n k)
-
--- ---- a text has at most one kind, and the longest rendering outside kinds 18 and 19 has 251 bytes
+-- a text fits at most one kind, and to read is to fit: the relation `Reads` beside the function
 pub one-kind : (t : List ℕ) (j k : ℕ) → 1 ≤ j → j ≤ 19 → 1 ≤ k → k ≤ 19 → fitsKind (kindAt j) t ≡ true → fitsKind (kindAt k) t ≡ true → j ≡ k
-one-kind = fits-one
+one-kind = reads.fits-one
 
+pub reads-exactly : (t : List ℕ) (p : Path) → Reads t p ↔ (paths.readFirst kinds t ≡ Found p)
+reads-exactly t p = (λ r. reads.reads-is r, λ e. reads.is-reads t p e)
+
+pub reads-one : (t : List ℕ) (p q : Path) → Reads t p → Reads t q → p ≡ q
+reads-one t p q x y = reads.reads-one x y
+
+-- ---- keys: every text that reads gets its key where there is room; the key reads as the text does, exact, and is its own key
+module _ (t : List ℕ) (p : Path) (e : Bool) (h : readPath t ≡ Read p e) where
+  pub keys : (out : List ℕ) (x : Written) (out₁ : List ℕ) → KeyCall t out x out₁ → length (renderPath t p) ≤ length out → Done (renderPath t p) x out₁
+  keys out x out₁ call room = let q = keying call in laws.keys t p e h out x out₁ (q .0) (q .1) room
+
+  pub write-key-keys : (κs : _) (a : _) (r : _) (s : _) → write-key.Post κs a r s → now (a .0) ≡ t → length (renderPath t p) ≤ length (now (a .1 .0)) → Done (renderPath t p) r (now (s .1 .0))
+  write-key-keys κs a r s q i room = laws.keys t p e h _ r _ (subst (λ (u : List ℕ). r ≡ answer (keyOf u) (length (now (a .1 .0)))) i (q .0)) (subst (λ (u : List ℕ). now (s .1 .0) ≡ left (keyOf u) (now (a .1 .0))) i (q .1)) room
+
+  pub key-short : length (renderPath t p) ≤ 4096
+  key-short = laws.key-short t p e h
+
+  pub key-reads : ReadsAs (renderPath t p) (kindOf p) (textsOf t (carriedOf p))
+  key-reads = laws.key-reads t p e h
+
+  pub key-again : keyOf (renderPath t p) ≡ text (renderPath t p)
+  key-again = laws.key-again t p e h
+
+-- ---- "Iteration keys compare as bytes exactly as (revision number, revision height) pairs compare."
+module _ (number height : ℕ) where
+  -- 38 bytes of room are enough
+  pub iteration-keys : (out : List ℕ) (x : Written) (out₁ : List ℕ) → IterationKeyCall number height out x out₁ → 38 ≤ length out → (length (iterationKey number height) ≡ 38) × Done (iterationKey number height) x out₁
+  iteration-keys out x out₁ call room = let q = iterating call in laws.iteration-keys number height out x out₁ (q .0) (q .1) room
+
+  pub iteration-key-keys : (κs : _) (a : _) (r : _) (s : _) → iteration-key.Post κs a r s → 38 ≤ length (now (a .1 .1 .0)) → Done (iterationKey (a .0 .0) (a .1 .0 .0)) r (now (s .1 .1 .0))
+  iteration-key-keys κs a r s q room = laws.iteration-keys (a .0 .0) (a .1 .0 .0) _ r _ (q .0) (q .1) room .1
+
+pub keys-compare : (m h n k : ℕ) → m < 2 ^ 64 → h < 2 ^ 64 → n < 2 ^ 64 → k < 2 ^ 64 → cmp (iterationKey m h) (iterationKey n k) ≡ then (compare m n) (compare h k)
+keys-compare m h n k = key-compare m h n k
+
+-- ---- "the identifier checks equal the Rust": each is the Rust's composition of its general checks
+pub client-checks : (κs : _) (a : _) (r : _) (s : _) → hp-validate-client-identifier.Post κs a r s → r ≡ generalOf client (now (a .0))
+client-checks κs a r s p = p ∙ laws.client-general (now (a .0))
+
+pub connection-checks : (κs : _) (a : _) (r : _) (s : _) → hp-validate-connection-identifier.Post κs a r s → r ≡ generalOf connection (now (a .0))
+connection-checks κs a r s p = p ∙ laws.connection-general (now (a .0))
+
+pub port-checks : (κs : _) (a : _) (r : _) (s : _) → hp-validate-port-identifier.Post κs a r s → r ≡ generalOf port (now (a .0))
+port-checks κs a r s p = p ∙ laws.port-general (now (a .0))
+
+pub channel-checks : (κs : _) (a : _) (r : _) (s : _) → hp-validate-channel-identifier.Post κs a r s → r ≡ generalOf channel (now (a .0))
+channel-checks κs a r s p = p ∙ laws.channel-general (now (a .0))
+
+pub client-type-checks : (κs : _) (a : _) (r : _) (s : _) → hp-validate-client-type.Post κs a r s → r ≡ first (charsOf (now (a .0))) (prefixLengthOf (now (a .0)) 9 64)
+client-type-checks κs a r s p = p ∙ laws.client-type-checks (now (a .0))
+
+-- ---- the longest rendering outside kinds 18 and 19 has 251 bytes
 pub longest-rendering : (k : ℕ) (v : Carried (List ℕ)) (w : List ℕ) → k ≤ 17 → v .a < 2 ^ 64 → v .b < 2 ^ 64 → renderOf k v ≡ text w → length w ≤ 251
 longest-rendering k v w h a b e =
     let r = rendered-valid k v w a b e in

@@ -9,8 +9,9 @@ pub mod Demand1
 pub mod PathCalls
 pub mod Told
 pub mod ToldLaws
-pub mod Demand2
 pub mod Written
+pub mod Demand2Laws
+pub mod Demand2
 pub mod Held
 pub mod HeldLaws
 pub mod Refusals

@@ -1,42 +1,44 @@
--- What a writing call that is done has written.
+-- What demand 2 says of a call: what it wrote, what a reading says, and when it is refused.
 -- Assumes nothing.
-use Prim.Native.Nat.{ℕ}
-use mathlib.Core.Path.{_≡_, refl, sym, ap, _∙_}
-use mathlib.Core.Bool.{Bool, true, false, cond}
+use Prim.Native.Nat.{ℕ, _≤_, _<_}
+use mathlib.Core.Path.{_≡_}
+use mathlib.Core.Logic.{_↔_}
+use mathlib.Core.Bool.{Bool, true, false}
 use mathlib.Core.List.{List}
-use native.Mathlib.Omega.{arith}
-use lib.Dec.{eqb, leb}
-use lib.ListN.{length, take, drop}
-use lib.Seq.{take-at}
-use borrow.Author.Tests.{eqb-false}
+use lib.ListN.{length, take}
 use Rattle.text.specs.declared.Written.{Written}
-use Rattle.text.specs.Put.{put, Wanted, refused, text, refusal, done, accepted, answer, left}
-use Rattle.text.specs.PutLaws.{put-zero}
+use Rattle.text.specs.Part.{ascii}
+use Rattle.text.specs.Put.{done}
+use Rattle.path.specs.declared.Path.{Path}
+use Rattle.path.specs.declared.Reading.the-variants.{Read}
+use Rattle.path.specs.Kinds.{Carried, Kind, kinds}
+use Rattle.path.specs.Text.{partOf}
+use Rattle.path.specs.Read.{fitsKind, readPath}
+use Rattle.path.specs.ReadLaws.{Has}
+use Rattle.demands.specs.Told.{Told}
 
--- a refusal has a number that is not 0
-abbrev pub Proper : Wanted → Type 0
-Proper (refused n) = n ≡ 0 → ⊥
-Proper (text w) = Unit {0}
+-- a call that wrote w: it answers 0 and its length, and w stands at the start of the buffer
+pub record Done (w : List ℕ) (x : Written) (out₁ : List ℕ) : Type 0 where
+  pub answered : x ≡ done (length w)
+  pub shown : take (x .length) out₁ ≡ w
 
-pub accepted-proper : (n : ℕ) (w : List ℕ) → Proper (accepted n w)
-accepted-proper n w = go (eqb n 0) refl
-  where
-    go : (v : Bool) → eqb n 0 ≡ v → Proper (cond v (text w) (refused n))
-    go true e = tt
-    go false e = eqb-false n 0 e
+-- a reading of the text w says this kind, these identifiers and these numbers, exact
+pub record Back (w : List ℕ) (said : Told) (kind : ℕ) (v : Carried (List ℕ)) : Type 0 where
+  pub kind-is : said .kind ≡ kind
+  pub exact : said .mark ≡ 1
+  pub first-is : partOf w (said .first) ≡ v .one
+  pub second-is : partOf w (said .second) ≡ v .two
+  pub a-is : said .a ≡ v .a
+  pub b-is : said .b ≡ v .b
 
--- the text that was wanted, which stands at the start of the buffer
-pub record Wrote (x : Wanted) (r : Written) (after : List ℕ) : Type 0 where
-  pub bytes : List ℕ
-  pub wanted : x ≡ text bytes
-  pub shown : take (r .length) after ≡ bytes
+-- no kind of the table fits
+abbrev pub NoKind : List ℕ → Type 0
+NoKind t = (e : Kind) → Has kinds e → fitsKind e t ≡ false
 
-module _ (r : Written) (before after : List ℕ) where
-  pub wrote : (x : Wanted) → Proper x → r ≡ answer x (length before) → after ≡ left x before → r .refusal ≡ 0 → Wrote x r after
-  unfolding answer left
-  wrote (refused n) h p q z = absurd (h (sym (ap (λ y. y .refusal) p) ∙ z))
-  wrote (text w) h p q z = go (leb (length w) (length before)) p q
-    where
-      go : (v : Bool) → r ≡ cond v (done (length w)) (refusal 4) → after ≡ cond v (put before 0 w) before → Wrote (text w) r after
-      go true p q = record { bytes = w; wanted = refl; shown = rw (p, q, put-zero before w) (take-at w (drop (length w) before) (length w) refl) }
-      go false p q = let z′ : _≡_ {A = ℕ} 4 0 = sym (ap (λ y. y .refusal) p) ∙ z in absurd (omega arith)
+-- the number n of a reading of t into `out`: each refusal exactly when
+pub record WhenRead (t out : List ℕ) (n : ℕ) : Type 0 where
+  pub too-long : (n ≡ 1) ↔ (4096 < length t)
+  pub not-ascii : (n ≡ 2) ↔ ((length t ≤ 4096) × (ascii t ≡ false))
+  pub not-a-path : (n ≡ 3) ↔ ((length t ≤ 4096) × (ascii t ≡ true) × NoKind t)
+  pub no-room : (n ≡ 4) ↔ (((p : Path) × (e : Bool) × (readPath t ≡ Read p e)) × (length out < 26))
+  pub done : (n ≡ 0) ↔ (((p : Path) × (e : Bool) × (readPath t ≡ Read p e)) × (26 ≤ length out))
