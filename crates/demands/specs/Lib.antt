@@ -1,4 +1,4 @@
--- The demands as theorems over the contracts that the sources have. `Written` holds what demands 1 and 2 share. Demand 3 is `Demand3`, in
+-- The demands as theorems over the contracts that the sources have. Demand 1 is `Demand1`, by `Shape`; demand 2 is `Demand2`, in the words of `PathCalls`, `Told` and `Written`; demand 3 is `Demand3`, in
 -- the words of `Held`, `Refusals` and `BookCalls`; `Useless` shows which line each useless book breaks. Files that end in `Laws` may be
 -- skipped.
 pub mod Shape
