@@ -9,7 +9,7 @@ use Rattle.text.specs.Put.{text}
 use Rattle.path.specs.declared.Reading.the-variants.{Refused as Unread}
 use Rattle.path.specs.declared.Refusal.the-variants.{NotAPath}
 use Rattle.path.specs.Read.{readPath, keyOf}
-use Rattle.path.specs.Cases.{cases}
+use Rattle.demands.specs.Cases.{Outcome, gives, cases-hold}
 use Rattle.form.specs.Form.{layout, slots, AllFit, zeros}
 use Rattle.form.specs.FormLaws.{append-parts}
 use Rattle.form.specs.V1.{slot}
@@ -22,7 +22,7 @@ use Rattle.book.specs.Book.{Current, AllExact}
 no-empty : keyOf [] ≡ text [] → ⊥
 unfolding keyOf
 no-empty e =
-    let n : readPath [] ≡ Unread NotAPath = ap (λ l. getD l 0 (Unread NotAPath)) cases in
+    let n : readPath [] ≡ Unread NotAPath = let q : gives (readPath []) ≡ gives (Unread NotAPath) = ap (λ (l : List Outcome). getD l 0 (gives (Unread NotAPath))) cases-hold in cc in
     let f = rw n at e in
     let z : _≡_ {A = ℕ} 0 1 = cc in
     omega arith

@@ -12,6 +12,7 @@ pub mod ToldLaws
 pub mod Written
 pub mod Demand2Laws
 pub mod Demand2
+pub mod Cases
 pub mod Held
 pub mod HeldLaws
 pub mod Refusals

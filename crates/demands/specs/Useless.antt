@@ -15,7 +15,7 @@ use Rattle.path.specs.declared.Reading.the-variants.{Read, Refused as Unread}
 use Rattle.path.specs.declared.Refusal.the-variants.{NotAPath}
 use Rattle.path.specs.Read.{readPath, keyOf}
 use Rattle.path.specs.BackLaws.{exact-renders}
-use Rattle.path.specs.Cases.{cases}
+use Rattle.demands.specs.Cases.{Outcome, gives, cases-hold}
 use Rattle.runs.specs.Runs.{Runs, stop, next, before}
 use Rattle.form.specs.Form.{layout, slots, zeros}
 use Rattle.form.specs.FormLaws.{length-zeros}
@@ -63,7 +63,7 @@ abbrev port-path : Path
 port-path = Ports (record { port = record { start = 6; len = 2 } })
 
 port-read : readPath port ≡ Read port-path true
-port-read = ap (λ l. getD l 7 (Unread NotAPath)) cases
+port-read = let q = ap (λ (l : List Outcome). getD l 7 (gives (Unread NotAPath))) cases-hold in cc
 
 port-key : keyOf port ≡ text port
 unfolding keyOf

@@ -15,4 +15,3 @@ pub mod TextLaws
 pub mod Valid
 pub mod View
 pub mod ViewLaws
-pub mod Cases

@@ -1,0 +1,96 @@
+-- Texts on both sides of the line, with their outcomes: every case that document 01 marks as proved, and more of identifiers, in one table with
+-- one proof, which antt computes.
+-- Assumes nothing.
+use Prim.Native.Nat.{ℕ}
+use mathlib.Core.Path.{_≡_, refl}
+use mathlib.Core.Bool.{true, false}
+use mathlib.Core.List.{List, [], _∷_, map}
+use lib.ListN.{replicate}
+use Rattle.text.specs.Bytes.{bytes}
+use Rattle.text.specs.Number.{numeralOf, digitsAt, digitsFrom, decimal, digits, width, widthBy}
+use Rattle.text.specs.Part.{every, ascii, startsWith, same}
+use Rattle.identifiers.specs.Check.{Rule, client, clientType, connection, port, channel, among, identifierByte, charsOf, within, indexOf, namedOf, checkOf}
+use Rattle.path.specs.declared.Place.{Place}
+use Rattle.path.specs.declared.Path.the-variants.{ClientState, ClientConsensusState, Ports, UpgradeClientState}
+use Rattle.path.specs.declared.Refusal.the-variants.{NotAPath}
+use Rattle.path.specs.declared.Reading.{Reading}
+use Rattle.path.specs.declared.Reading.the-variants.{Read, Refused}
+use Rattle.path.specs.Text.{cutAt, joinBy, placesFrom}
+use Rattle.path.specs.Kinds.{kinds, kind1, kind2, kind3, kind4, kind5, kind6, kind7, kind8, kind9, kind10, kind11, kind12, kind13, kind14, kind15, kind16, kind17, kind18, kind19}
+use Rattle.path.specs.Read.{nameFault, fits, fitsKind, readKind, readFirst, readPath, show, render, partsOf, renderPath}
+
+-- what is asked: to read a text, or to check an identifier
+pub data Question : Type 0 where
+  reading : List ℕ → Question
+  checking : Rule → List ℕ → Question
+
+-- what is answered: a reading, or a refusal number
+pub data Outcome : Type 0 where
+  gives : Reading → Outcome
+  says : ℕ → Outcome
+
+abbrev pub answerOf : Question → Outcome
+answerOf (reading t) = gives (readPath t)
+answerOf (checking r s) = says (checkOf r s)
+
+pub record Case : Type 0 where
+  pub question : Question
+  pub outcome : Outcome
+
+abbrev read : List ℕ → Reading → Case
+read t r = record { question = reading t; outcome = gives r }
+
+abbrev check : Rule → List ℕ → ℕ → Case
+check r s n = record { question = checking r s; outcome = says n }
+
+abbrev at : ℕ → ℕ → Place
+at s n = record { start = s; len = n }
+
+abbrev pub cases : List Case
+cases =
+    read (bytes "") (Refused NotAPath)
+    ∷ read (bytes "clients") (Refused NotAPath)
+    ∷ read (bytes "clients/clientid/clientState") (Refused NotAPath)
+    ∷ read (bytes "clients/clientidx/clientState") (Read (ClientState (record { client = at 8 9 })) true)
+    ∷ read (bytes "clients/07-tendermint-4/consensusStates/007-+2") (Read (ClientConsensusState (record { client = at 8 15; number = record { 0 = 7 }; height = record { 0 = 2 } })) false)
+    ∷ read (bytes "clients/07-tendermint-4/consensusStates/7--2") (Refused NotAPath)
+    ∷ read (bytes "ports/a") (Refused NotAPath)
+    ∷ read (bytes "ports/ab") (Read (Ports (record { port = at 6 2 })) true)
+    ∷ read (bytes "ports/transfer/") (Refused NotAPath)
+    ∷ check channel (bytes "channel-01") 7
+    ∷ check channel (bytes "channel-+01") 0
+    ∷ check channel (bytes "channel-") 8
+    ∷ read (bytes "/5/upgradedClient") (Read (UpgradeClientState (record { upgrade = at 0 0; height = record { 0 = 5 } })) true)
+    ∷ read (bytes "clients/000000005/upgradedClient") (Read (UpgradeClientState (record { upgrade = at 0 7; height = record { 0 = 5 } })) false)
+    ∷ check channel (bytes "channel-0") 0
+    ∷ check channel (bytes "channel-00") 7
+    ∷ check channel (bytes "channel-+") 8
+    ∷ check channel (bytes "channel-18446744073709551615") 0
+    ∷ check channel (bytes "channel-18446744073709551616") 8
+    ∷ check channel (bytes "channel") 6
+    ∷ check channel (bytes "channels-1") 7
+    ∷ check connection (bytes "connection-+0") 0
+    ∷ check connection (bytes "connection-++1") 8
+    ∷ check connection (bytes "connection--1") 8
+    ∷ check connection (bytes "connection") 7
+    ∷ check connection (bytes "Connection-1") 7
+    ∷ check client (bytes "clientid") 6
+    ∷ check client (bytes "clientidx") 0
+    ∷ check client (replicate 64 97) 0
+    ∷ check client (replicate 65 97) 6
+    ∷ check client (bytes "a b") 5
+    ∷ check client (32 ∷ 200 ∷ []) 2
+    ∷ check clientType (bytes "tender") 6
+    ∷ check clientType (bytes "tenderm") 0
+    ∷ check clientType (replicate 43 97) 0
+    ∷ check clientType (replicate 44 97) 6
+    ∷ check port (bytes "a") 6
+    ∷ check port (bytes "ab") 0
+    ∷ check port (bytes "a/b") 5
+    ∷ check port (replicate 128 97) 0
+    ∷ check port (replicate 129 97) 6
+    ∷ []
+
+pub cases-hold : map (λ c. answerOf (c .question)) cases ≡ map (λ c. c .outcome) cases
+unfolding numeralOf digitsAt digitsFrom decimal digits width widthBy every ascii startsWith same among identifierByte charsOf within indexOf namedOf checkOf cutAt joinBy placesFrom kinds kind1 kind2 kind3 kind4 kind5 kind6 kind7 kind8 kind9 kind10 kind11 kind12 kind13 kind14 kind15 kind16 kind17 kind18 kind19 nameFault fits fitsKind readKind readFirst readPath show render partsOf renderPath
+cases-hold = refl
