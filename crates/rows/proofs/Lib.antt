@@ -1,2 +1,0 @@
--- `Unique` has that each contract leaves one outcome.
-pub mod Unique
