@@ -16,14 +16,13 @@ use Rattle.path.specs.declared.Refusal.{Refusal}
 use Rattle.path.specs.declared.Refusal.the-variants.{TooLong, NotAscii, NotAPath}
 use Rattle.path.specs.declared.Reading.{Reading}
 use Rattle.path.specs.declared.Reading.the-variants.{Read, Refused}
-use Rattle.path.specs.Kinds.{Carried}
+use Rattle.path.specs.Kinds.{Carried, carried}
 use Rattle.path.specs.Read.{fitsKind, partsOf, namesFault, render as rendering, textsOf, limited, renderOf, readPath, refusalOf, keyBy, keyOf}
 use Rattle.path.specs.View.{kindOf, carriedOf}
 use Rattle.path.specs.Valid.{only, ReadsAs}
 use Rattle.path.specs.ReadLaws.{kindAt, fits-one}
 use Rattle.path.specs.BackLaws.{render-read, rendered-valid, read-again, key-read, key-exact}
 use Rattle.path.specs.LengthLaws.{longest}
-use Rattle.rows.specs.Rows.{carried}
 use Rattle.render.specs.Iteration.{iterationKey}
 use Rattle.render.specs.KeyLaws.{key-compare}
 use Rattle.demands.specs.Written.{Proper, accepted-proper, Wrote, wrote}

@@ -1,15 +1,18 @@
 -- What was read, rendered from its view: the same text as the rendering of its path.
 -- Assumes nothing.
-use Prim.Native.Nat.{ℕ, _-_, _≤_}
-use mathlib.Core.Path.{_≡_, sym, ap, _∙_}
+use Prim.Native.Nat.{ℕ, _≤_}
+use mathlib.Core.Path.{_≡_, sym, _∙_}
 use mathlib.Core.Bool.{Bool}
 use mathlib.Core.List.{List}
+use lib.ListN.{length}
+use borrow.Author.Tests.{le-leb}
 use Rattle.text.specs.Put.{refused, text}
 use Rattle.path.specs.declared.Path.{Path}
 use Rattle.path.specs.declared.PathView.{PathView}
 use Rattle.path.specs.declared.Refusal.{Refusal}
 use Rattle.path.specs.declared.Reading.{Reading}
 use Rattle.path.specs.declared.Reading.the-variants.{Read, Refused}
+use Rattle.path.specs.Kinds.{carried}
 use Rattle.path.specs.Text.{shownOf}
 use Rattle.path.specs.Read.{render, partsOf, renderPath, readPath, numberOf, keyOf}
 use Rattle.path.specs.View.{viewOf}
@@ -17,10 +20,7 @@ use Rattle.path.specs.ReadLaws.{made-range}
 use Rattle.path.specs.BackLaws.{read-reads}
 use Rattle.path.specs.LengthLaws.{rendering-short}
 use Rattle.path.specs.PlaceLaws.{shown-read}
-use Rattle.rows.specs.Rows.{carried, short}
-use Rattle.rows.specs.Pieces.{rowOf}
-use Rattle.rows.specs.PieceLaws.{short-fits}
-use Rattle.render.specs.RenderLaws.{row-view}
+use Rattle.render.specs.Render.{short}
 
 -- a refusal is the key's too
 pub key-refused : (t : List ℕ) (r : Reading) (w : Refusal) → r ≡ Refused w → r ≡ readPath t → keyOf t ≡ refused (numberOf r)
@@ -39,10 +39,8 @@ module _ (t : List ℕ) (r : Reading) (p : Path) (e : Bool) (is : r ≡ Read p e
   unfolding viewOf renderPath
   view-parts = let s = shown-read t p (read-reads t p e read) in rw (seen, s .0, s .1)
 
+  -- the same with the parts of the text as they were lent, and the key
   module _ (x y : List ℕ) (one : x ≡ shownOf t (v .one)) (two : y ≡ shownOf t (v .two)) where
-    view-renders : render (rowOf (v .kind - 1)) (carried x y (v .a) (v .b)) ≡ renderPath t p
-    view-renders = row-view (v .kind) (v .a) (v .b) x y _ _ (view-kind .0) (view-kind .1) one two ∙ view-parts
-
-    pub view-key : short (render (rowOf (v .kind - 1)) (carried x y (v .a) (v .b))) ≡ keyOf t
-    unfolding keyOf
-    view-key = ap short view-renders ∙ short-fits (renderPath t p) (rendering-short t p e read) ∙ rw read
+    pub view-key : short (render (partsOf (v .kind)) (carried x y (v .a) (v .b))) ≡ keyOf t
+    unfolding keyOf short
+    view-key = rw (one, two, view-parts, le-leb (length (renderPath t p)) 4096 (rendering-short t p e read), read)
