@@ -1,7 +1,7 @@
 -- A text that is a name and an index has only identifier bytes.
 -- Assumes nothing.
-use Prim.Native.Nat.{ℕ, _+_, _^_, _≤_}
-use mathlib.Core.Path.{_≡_, refl, sym, _∙_}
+use Prim.Native.Nat.{ℕ, _+_, _^_}
+use mathlib.Core.Path.{_≡_, refl}
 use mathlib.Core.Bool.{Bool, true, false, cond, not, _&&_, _||_}
 use mathlib.Core.List.{List, [], _∷_, _++_}
 use native.Mathlib.Omega.{arith}
@@ -13,7 +13,7 @@ use Rattle.text.specs.Number.{isDigit, withDigit, digitsFrom, digitsAt, numeral
 use Rattle.text.specs.Part.{every, startsWith}
 use Rattle.text.specs.PartLaws.{and-left, and-right, every-append}
 use Rattle.text.specs.declared.Numeral.the-variants.{NotADigit, TooLarge}
-use Rattle.identifiers.specs.Check.{first, unless, among, identifierByte, isValue, within, indexOf, namedOf, Form, plain, indexed, formOf, checkOf, charsOf}
+use Rattle.identifiers.specs.Check.{unless, among, identifierByte, isValue, within, indexOf, namedOf, indexed, checkOf}
 use Rattle.identifiers.specs.CheckLaws.{first-zero, first-last, unless-zero, bytes-chars}
 
 -- ---- what holds of `+` and of each digit holds of each byte of a number text
@@ -34,7 +34,7 @@ module _ (f : ℕ → Bool) (digit : (b : ℕ) → isDigit b ≡ true → f b �
   some-all i [] h = refl
   some-all i (b ∷ s) h = digits-all 0 i (b ∷ s) h
 
-  pub number-all : (c : List ℕ) → isValue (numeralOf c) ≡ true → every f c ≡ true
+  number-all : (c : List ℕ) → isValue (numeralOf c) ≡ true → every f c ≡ true
   unfolding numeralOf every
   number-all [] h = refl
   number-all (b ∷ s) h = go (eqb b 43) refl h
@@ -82,7 +82,7 @@ module _ (name s : List ℕ) (ok : every identifierByte name ≡ true) (is : nam
   index : every identifierByte (drop (length name + 1) s) ≡ true
   index = number-all identifierByte digit-byte plus-byte (drop (length name + 1) s) (index-value (drop (length name + 1) s) (tests .1))
 
-  pub named-bytes : every identifierByte s ≡ true
+  named-bytes : every identifierByte s ≡ true
   named-bytes =
       starts-all identifierByte (name ++ bytes "-") s (unless-zero 7 _ (omega arith) (tests .0)) (rw (every-append identifierByte name (bytes "-"), ok) dash-byte) (rw length-append index)
 

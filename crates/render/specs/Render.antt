@@ -10,15 +10,14 @@ use Rattle.identifiers.specs.Check.{first, unless}
 use Rattle.path.specs.Kinds.{client, connection, port, channel, upgrade}
 use Rattle.path.specs.Read.{nameFault}
 
--- the first refusal of the identifiers, by the number of the kind
+-- the first refusal of the identifiers, by the number of a kind from 4 on
 unfoldable pub kindFault : ℕ → List ℕ → List ℕ → ℕ
 kindFault k one two =
-    cond (ltb k 4) 0
-    (cond (ltb k 9) (nameFault client one)
+    cond (ltb k 9) (nameFault client one)
     (cond (ltb k 10) (nameFault connection one)
     (cond (ltb 17 k) (nameFault upgrade one)
     (cond (ltb k 11) (nameFault port one)
-    (first (nameFault port one) (nameFault channel two))))))
+    (first (nameFault port one) (nameFault channel two)))))
 
 -- a text of at most 4,096 bytes
 unfoldable pub short : List ℕ → Wanted

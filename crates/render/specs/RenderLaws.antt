@@ -1,7 +1,7 @@
 -- The ways through the renderer.
 -- Assumes nothing.
 use Prim.Native.Nat.{ℕ, zero, suc, min, _+_, _-_, _≤_, _<_}
-use mathlib.Core.Path.{_≡_, refl, sym, ap, _∙_}
+use mathlib.Core.Path.{_≡_, refl}
 use mathlib.Core.Bool.{and-false}
 use mathlib.Core.List.{List, []}
 use native.Mathlib.Omega.{arith}
@@ -12,11 +12,11 @@ use Rattle.text.specs.PutLaws.{gives-refusal, gives-same, gives-short, gives-te
 use Rattle.text.specs.TableLaws.{agree-at}
 use Rattle.identifiers.specs.CheckLaws.{first-last}
 use Rattle.path.specs.Kinds.{client, connection, port, channel, upgrade, Carried, carried, kinds, kind1, kind2, kind3, kind4, kind5, kind6, kind7, kind8, kind9, kind10, kind11, kind12, kind13, kind14, kind15, kind16, kind17, kind18, kind19}
-use Rattle.path.specs.Read.{render, nameFault, namesFault, limited, partsOf, renderOf}
+use Rattle.path.specs.Text.{joinBy}
+use Rattle.path.specs.Read.{show, render, nameFault, namesFault, limited, partsOf, renderOf}
 use Rattle.path.specs.Length.{renderLength, firstOf}
 use Rattle.path.specs.MeasureLaws.{render-length, length-by}
 use Rattle.writers.specs.Texts.{sequenceTexts}
-use Rattle.writers.specs.TextLaws.{sequence-text}
 use Rattle.render.specs.Render.{kindFault, short}
 
 -- ---- the kind
@@ -29,16 +29,21 @@ module _ (k : ℕ) (v : Carried (List ℕ)) where
   unfolding renderOf
   render-high h = rw (lt-leb k 19 h, and-false)
 
-  module _ (low : 1 ≤ k) (high : k ≤ 19) where
+  -- the first three are one word each
+  pub render-word : 1 ≤ k → k ≤ 3 → renderOf k v ≡ text (getD sequenceTexts (k - 1) [])
+  unfolding renderOf partsOf namesFault render show joinBy kinds kind1 kind2 kind3
+  render-word l h = agree-at (λ k. renderOf k v) (λ k. text (getD sequenceTexts (k - 1) [])) 1 3 refl k l (omega arith)
+
+  module _ (low : 4 ≤ k) (high : k ≤ 19) where
     pub render-kind : renderOf k v ≡ limited (partsOf k) v
     unfolding renderOf
-    render-kind = rw (le-leb 1 k low, le-leb k 19 high)
+    render-kind = rw (le-leb 1 k (omega arith), le-leb k 19 high)
 
     -- ---- the identifiers
     kind-fault : namesFault (partsOf k) v ≡ kindFault k (v .one) (v .two)
-    unfolding kindFault partsOf namesFault kinds kind1 kind2 kind3 kind4 kind5 kind6 kind7 kind8 kind9 kind10 kind11 kind12 kind13 kind14 kind15 kind16 kind17 kind18 kind19
+    unfolding kindFault partsOf namesFault kinds kind4 kind5 kind6 kind7 kind8 kind9 kind10 kind11 kind12 kind13 kind14 kind15 kind16 kind17 kind18 kind19
     kind-fault =
-        agree-at (λ k. namesFault (partsOf k) v) (λ k. kindFault k (v .one) (v .two)) 1 19
+        agree-at (λ k. namesFault (partsOf k) v) (λ k. kindFault k (v .one) (v .two)) 4 16
         (rw (first-last (nameFault client (v .one)), first-last (nameFault connection (v .one)), first-last (nameFault upgrade (v .one)), first-last (nameFault port (v .one)), first-last (nameFault channel (v .two))))
         k low (omega arith)
 
@@ -77,12 +82,7 @@ module _ (w out : List ℕ) (n : ℕ) (e : min 4097 n ≡ min 4097 (length w)) w
     pub fit-done : {r : ℕ} {o : List ℕ} → Wrote out 0 w r o → (done r ≡ answer (short w) (length out)) × (o ≡ left (short w) out)
     fit-done h = gives-same (short w) out is-text (gives-text w out h)
 
--- ---- a word
-module _ (k : ℕ) (low : 1 ≤ k) (high : k ≤ 3) where
-  pub word-length : length (getD sequenceTexts (k - 1) []) ≡ renderLength (partsOf k) (carried 0 0 0 0)
-  unfolding partsOf renderLength kinds kind1 kind2 kind3
-  word-length = agree-at (λ k. length (getD sequenceTexts (k - 1) [])) (λ k. renderLength (partsOf k) (carried 0 0 0 0)) 1 3 refl k low (omega arith)
-
-  pub word-short : (v : Carried (List ℕ)) → short (render (partsOf k) v) ≡ text (getD sequenceTexts (k - 1) [])
-  unfolding short
-  word-short v = rw (sequence-text v k low high) (agree-at (λ k. short (getD sequenceTexts (k - 1) [])) (λ k. text (getD sequenceTexts (k - 1) [])) 1 3 refl k low (omega arith))
+-- ---- the length of a word
+pub word-length : (k : ℕ) → 1 ≤ k → k ≤ 3 → length (getD sequenceTexts (k - 1) []) ≡ renderLength (partsOf k) (carried 0 0 0 0)
+unfolding partsOf renderLength kinds kind1 kind2 kind3
+word-length k l h = agree-at (λ k. length (getD sequenceTexts (k - 1) [])) (λ k. renderLength (partsOf k) (carried 0 0 0 0)) 1 3 refl k l (omega arith)

@@ -30,7 +30,7 @@ fn length_of(kind: u8, first: &[u8], second: &[u8], a: u64, b: u64) -> usize
 }
 
 // Kinds 1 to 3: a word each.
-fn fit_word(out: &mut [u8], kind: u8) -> Written
+pub(crate) fn fit_word(out: &mut [u8], kind: u8) -> Written
     requires { ⌜ (1 ≤ kind) × (kind ≤ 3) ⌝ }
     ensures { λ r. ⌜ r ≡ answer (text (getD sequenceTexts (kind - 1) [])) (length (now (out .entry))) ⌝ }
     ensures { λ _. ⌜ now (out .exit) ≡ left (text (getD sequenceTexts (kind - 1) [])) (now (out .entry)) ⌝ }
@@ -48,7 +48,7 @@ fn fit_word(out: &mut [u8], kind: u8) -> Written
     }
 }
 
-// Writes the text of a kind, or refuses where it is too long or `out` too short. A word needs no measuring of parts.
+// Writes the text of a kind, or refuses where it is too long or `out` too short.
 pub(crate) fn fit_kind(
     out: &mut [u8],
     kind: u8,
@@ -61,9 +61,6 @@ pub(crate) fn fit_kind(
     ensures { λ r. ⌜ r ≡ answer (short (render (partsOf kind) (carried (now (first .entry)) (now (second .entry)) a b))) (length (now (out .entry))) ⌝ }
     ensures { λ _. ⌜ now (out .exit) ≡ left (short (render (partsOf kind) (carried (now (first .entry)) (now (second .entry)) a b))) (now (out .entry)) ⌝ }
 {
-    if kind < 4 {
-        return fit_word(out, kind);
-    }
     let need = length_of(kind, first, second, a, b);
     if 4096 < need {
         return Written {

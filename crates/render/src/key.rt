@@ -14,7 +14,7 @@ ghost use Rattle.path.specs.Read.{keyOf, render, partsOf};
 ghost use Rattle.path.specs.Text.{shownOf};
 
 // Writes the rendering of a path whose places are in the text, and returns the place after it.
-pub fn write_view(out: &mut [u8], at: usize, text: &[u8], v: PathView) -> usize
+pub fn write_rendering(out: &mut [u8], at: usize, text: &[u8], v: PathView) -> usize
     requires { ⌜ (1 ≤ v .kind) × (v .kind ≤ 19) ⌝ }
     requires { ⌜ at + length (render (partsOf (v .kind)) (carried (shownOf (now text) (v .one)) (shownOf (now text) (v .two)) (v .a) (v .b))) ≤ length (now out) ⌝ }
     ensures { λ r. ⌜ r ≡ at + length (render (partsOf (v .kind)) (carried (shownOf (now (text .entry)) (v .one)) (shownOf (now (text .entry)) (v .two)) (v .a) (v .b))) ⌝ }

@@ -46,13 +46,10 @@ fn upgrade_fault(s: &[u8]) -> u8
     0
 }
 
-// The first refusal of the identifiers that a kind has.
+// The first refusal of the identifiers that a kind from 4 on has.
 pub(crate) fn kind_fault(kind: u8, first: &[u8], second: &[u8]) -> u8
     ensures { λ r. ⌜ r ≡ kindFault kind (now (first .entry)) (now (second .entry)) ⌝ }
 {
-    if kind < 4 {
-        return 0;
-    }
     if kind < 9 {
         return identifiers::validate::validate_client_identifier(first);
     }
@@ -74,7 +71,7 @@ pub(crate) fn kind_fault(kind: u8, first: &[u8], second: &[u8]) -> u8
 
 // Checks the identifiers of a kind, then writes it.
 fn checked_kind(out: &mut [u8], kind: u8, first: &[u8], second: &[u8], a: u64, b: u64) -> Written
-    requires { ⌜ (1 ≤ kind) × (kind ≤ 19) ⌝ }
+    requires { ⌜ (4 ≤ kind) × (kind ≤ 19) ⌝ }
     ensures { λ r. ⌜ r ≡ answer (limited (partsOf kind) (carried (now (first .entry)) (now (second .entry)) a b)) (length (now (out .entry))) ⌝ }
     ensures { λ _. ⌜ now (out .exit) ≡ left (limited (partsOf kind) (carried (now (first .entry)) (now (second .entry)) a b)) (now (out .entry)) ⌝ }
 {
@@ -85,7 +82,7 @@ fn checked_kind(out: &mut [u8], kind: u8, first: &[u8], second: &[u8], a: u64, b
     fit::fit_kind(out, kind, first, second, a, b)
 }
 
-// Renders by kind and parts. Arguments that the kind lacks have no influence.
+// Renders by kind and parts. Arguments that the kind lacks have no influence. Kinds 1 to 3, a word each, are told apart first.
 pub fn render(kind: u8, first: &[u8], second: &[u8], a: u64, b: u64, out: &mut [u8]) -> Written
     ensures { λ r. ⌜ r ≡ answer (renderOf kind (carried (now (first .entry)) (now (second .entry)) a b)) (length (now (out .entry))) ⌝ }
     ensures { λ _. ⌜ now (out .exit) ≡ left (renderOf kind (carried (now (first .entry)) (now (second .entry)) a b)) (now (out .entry)) ⌝ }
@@ -101,6 +98,9 @@ pub fn render(kind: u8, first: &[u8], second: &[u8], a: u64, b: u64, out: &mut [
             refusal: BAD_KIND,
             length: 0,
         };
+    }
+    if kind < 4 {
+        return fit::fit_word(out, kind);
     }
     checked_kind(out, kind, first, second, a, b)
 }

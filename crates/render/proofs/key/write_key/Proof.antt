@@ -1,8 +1,7 @@
-use mathlib.Core.Path.{sym, ap, _∙_}
-use Rattle.text.specs.Put.{refusal}
+use mathlib.Core.Path.{sym}
 use Rattle.text.specs.PutLaws.{gives-refusal, gives-same}
 use Rattle.path.specs.Read.{keyOf}
-use Rattle.render.specs.ViewLaws.{key-refused, view-kind, view-key}
+use Rattle.render.specs.KeyTextLaws.{key-refused, view-kind, view-key}
 use borrow.Author.Needs.{needs}
 use Rattle.render.proofs.key.write_key.Statement.{statement}
 use Rattle.render.proofs.key.write_key.Tie as tie

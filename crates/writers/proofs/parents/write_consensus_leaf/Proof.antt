@@ -1,5 +1,4 @@
 use Rattle.text.specs.PutLaws.{both}
-use native.Mathlib.Omega.{arith}
 use borrow.Author.Needs.{needs}
 use Rattle.writers.proofs.parents.write_consensus_leaf.Statement.{statement}
 use Rattle.writers.proofs.parents.write_consensus_leaf.Tie as tie

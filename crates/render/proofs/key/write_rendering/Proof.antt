@@ -1,6 +1,6 @@
 use borrow.Author.Needs.{needs}
-use Rattle.render.proofs.key.write_view.Statement.{statement}
-use Rattle.render.proofs.key.write_view.Tie as tie
+use Rattle.render.proofs.key.write_rendering.Statement.{statement}
+use Rattle.render.proofs.key.write_rendering.Tie as tie
 
 write-kind-requires : tie.Need-write-kind-requires
 write-kind-requires c κs =
@@ -12,6 +12,6 @@ returns c =
     let s = c .before .before .write-kind .ensures in
     rw (← c .before .before .before .before .part .ensures .bytes, ← c .before .before .before .part2 .ensures .bytes) (s .next, s .after)
 
-pub write-view-spec : {M : Type 1} → statement M
-write-view-spec =
+pub write-rendering-spec : {M : Type 1} → statement M
+write-rendering-spec =
     tie.close (tie.spec (λ c κs. search needs) (λ c κs. search needs) write-kind-requires (λ c. search needs) returns)
