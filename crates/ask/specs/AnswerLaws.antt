@@ -15,14 +15,14 @@ use Rattle.path.specs.declared.Refusal.{Refusal}
 use Rattle.path.specs.declared.Refusal.the-variants.{TooLong, NotAscii, NotAPath}
 use Rattle.path.specs.declared.Reading.{Reading}
 use Rattle.path.specs.declared.Reading.the-variants.{Read, Refused}
+use Rattle.path.specs.Kinds.{carried}
 use Rattle.path.specs.Text.{shownOf}
 use Rattle.path.specs.Read.{refusalOf, numberOf, render, partsOf, renderPath, readPath}
 use Rattle.path.specs.View.{kindOf, viewOf}
 use Rattle.path.specs.ReadLaws.{made-range}
 use Rattle.path.specs.BackLaws.{read-reads}
 use Rattle.path.specs.LengthLaws.{rendering-short}
-use Rattle.rows.specs.Rows.{carried}
-use Rattle.render.specs.ViewLaws.{view-parts}
+use Rattle.render.specs.KeyTextLaws.{view-parts}
 use Rattle.ask.specs.Answer.{mark, head, printed, lineAnswer}
 
 -- the rendering of a view over its text

@@ -9,9 +9,9 @@ use denote.Ref.{now}
 use Rattle.text.specs.Bytes.{bytes}
 use Rattle.text.specs.Put.{text}
 use Rattle.identifiers.specs.Owned.{newClient, newChannel}
-use Rattle.path.specs.Kinds.{word}
+use Rattle.path.specs.Kinds.{word, carried}
 use Rattle.path.specs.Read.{renderOf, keyOf, readingBytes}
-use Rattle.rows.specs.Rows.{carried, textOf, consensusParent, consensusLeaf, packetsPath}
+use Rattle.path.specs.Parents.{textOf, consensusParent, consensusLeaf, packetsPath}
 use Rattle.keys.specs.Calls.{write, remove}
 use Rattle.render.specs.Iteration.{iterationKey}
 use Rattle.demands.specs.Shape.{Listed, Demand1}

@@ -17,7 +17,7 @@ use Rattle.identifiers.specs.CheckLaws.{generalOf}
 use Rattle.path.specs.declared.Path.{Path}
 use Rattle.path.specs.declared.PathAnswer.the-variants.{Found}
 use Rattle.path.specs.declared.Reading.the-variants.{Read}
-use Rattle.path.specs.Kinds.{Carried, Kind, kinds}
+use Rattle.path.specs.Kinds.{Carried, carried, Kind, kinds}
 use Rattle.path.specs.Text.{partOf}
 use Rattle.path.specs.Read.{fitsKind, partsOf, textsOf, renderPath, renderOf, readPath, keyOf}
 use Rattle.path.specs.Read as paths
@@ -27,7 +27,6 @@ use Rattle.path.specs.ReadLaws.{Has, Reads, kindAt}
 use Rattle.path.specs.ReadLaws as reads
 use Rattle.path.specs.BackLaws.{rendered-valid}
 use Rattle.path.specs.LengthLaws.{longest}
-use Rattle.rows.specs.Rows.{carried}
 use Rattle.render.specs.Iteration.{iterationKey}
 use Rattle.render.specs.KeyLaws.{key-compare}
 use Rattle.demands.specs.PathCalls.{ReadCall, KeyCall, RenderCall, IterationKeyCall, reading, keying, rendering, iterating}

@@ -13,7 +13,7 @@ use denote.Triple.Clauses.{AtExit}
 use Rattle.text.specs.declared.Written.{Written}
 use Rattle.text.specs.Put.{text, answer, left}
 use Rattle.path.specs.Read.{readingBytes, keyOf, renderOf}
-use Rattle.rows.specs.Rows.{carried}
+use Rattle.path.specs.Kinds.{carried}
 use Rattle.render.specs.Iteration.{iterationKey}
 use Rattle.node.proofs.hp_read as r
 use Rattle.node.proofs.hp_read.Kinds as rk

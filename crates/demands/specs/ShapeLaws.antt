@@ -23,7 +23,7 @@ use Rattle.path.specs.declared.Reading.the-variants.{Read, Refused}
 use Rattle.path.specs.Kinds.{Name, connection, channel, upgrade, Part, word, name, count, pair, Carried}
 use Rattle.path.specs.Kinds as kinds
 use Rattle.path.specs.Read.{nameFault, nameIn, namesFault, render, limited, partsOf, renderOf, readPath, keyBy, keyOf, bytesBy, readingBytes, refusalOf}
-use Rattle.rows.specs.Rows.{textOf, consensusParent, packetsPath}
+use Rattle.path.specs.Parents.{textOf, consensusParent, packetsPath}
 use Rattle.demands.specs.Shape.{Listed, AllZero, Demand1}
 
 -- ---- the refusals of what is wanted of a writing call

@@ -3,3 +3,4 @@ pub mod Check
 pub mod CheckLaws
 pub mod Owned
 pub mod OwnedLaws
+pub mod IndexLaws

@@ -6,8 +6,10 @@ use text::refusal::BAD_NUMBER;
 use text::refusal::BAD_PREFIX;
 use text::refusal::NOT_ASCII;
 ghost use mathlib.Core.Path.{_≡_};
+ghost use mathlib.Core.Bool.{true};
 ghost use Prim.Native.Nat.{max, _-_};
-ghost use Rattle.identifiers.specs.Check.{charsOf, within, indexOf, namedOf, lengthOf, prefixLengthOf, namedIndexOf, plain, indexed, checkOf, client, clientType, connection, port, channel};
+ghost use Rattle.text.specs.Part.{every};
+ghost use Rattle.identifiers.specs.Check.{identifierByte, charsOf, within, indexOf, namedOf, lengthOf, prefixLengthOf, namedIndexOf, plain, indexed, checkOf, client, clientType, connection, port, channel};
 
 // What each byte is: `0` an identifier byte, `1` another ASCII byte, `2` no ASCII.
 const CLASS: [u8; 256] = *b"\
@@ -142,15 +144,21 @@ fn check_plain(id: &[u8], least: u64, most: u64) -> u8
     length_within(id.len() as u64, least, most)
 }
 
-// The same, then the name and an index.
+// The same, then the name and an index. A text that is the name and an index has only identifier bytes, so that no more than its
+// length is left to check.
 fn check_indexed(id: &[u8], least: u64, most: u64, name: &[u8]) -> u8
+    requires { ⌜ every identifierByte (now name) ≡ true ⌝ }
     ensures { λ r. ⌜ r ≡ checkOf (record { least = least; most = most; form = indexed (now (name .entry)) }) (now (id .entry)) ⌝ }
 {
+    let named = check_named(id, name);
+    if named == 0 {
+        return length_within(id.len() as u64, least, most);
+    }
     let fault = check_plain(id, least, most);
     if fault != 0 {
         return fault;
     }
-    check_named(id, name)
+    named
 }
 
 // The identifiers: least and most bytes, and the name before an index.

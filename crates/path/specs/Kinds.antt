@@ -25,18 +25,21 @@ pub record Carried (A : Type 0) : Type 0 where
   pub a : ℕ
   pub b : ℕ
 
+abbrev pub carried : {A : Type 0} → A → A → ℕ → ℕ → Carried A
+carried one two a b = record { one = one; two = two; a = a; b = b }
+
 -- a kind: its components, and the typed path that carries these places and numbers
 pub record Kind : Type 0 where
   pub parts : List Part
   pub make : Carried Place → Path
 
-abbrev clientParts : List Part → List Part
+abbrev pub clientParts : List Part → List Part
 clientParts rest = word (bytes "clients") ∷ name client ∷ rest
 
 abbrev consensusParts : List Part → List Part
 consensusParts rest = clientParts (word (bytes "consensusStates") ∷ pair ∷ rest)
 
-abbrev channelParts : List ℕ → List Part → List Part
+abbrev pub channelParts : List ℕ → List Part → List Part
 channelParts first rest = word first ∷ word (bytes "ports") ∷ name port ∷ word (bytes "channels") ∷ name channel ∷ rest
 
 abbrev packetParts : List ℕ → List Part

@@ -13,7 +13,7 @@ use Rattle.path.specs.declared.PathView.{PathView}
 use Rattle.path.specs.declared.Path.the-variants.{NextClientSequence, NextConnectionSequence, NextChannelSequence, ClientState, ClientConsensusState, ClientUpdateTime, ClientUpdateHeight, ClientConnection, Connection, Ports, ChannelEnd, SeqSend, SeqRecv, SeqAck, Commitment, Ack, Receipt, UpgradeClientState, UpgradeConsensusState}
 use Rattle.path.specs.declared.Reading.{Reading}
 use Rattle.path.specs.declared.Reading.the-variants.{Read, Refused}
-use Rattle.path.specs.Kinds.{Carried}
+use Rattle.path.specs.Kinds.{Carried, carried}
 use Rattle.path.specs.Text.{nowhere, shownOf, shownStart}
 
 -- the number of a kind
@@ -38,30 +38,27 @@ kindOf (Receipt x) = 17
 kindOf (UpgradeClientState x) = 18
 kindOf (UpgradeConsensusState x) = 19
 
-abbrev pub carry : Place → Place → ℕ → ℕ → Carried Place
-carry p q m n = record { one = p; two = q; a = m; b = n }
-
 -- its places and numbers; S and n stand in the first number
 abbrev pub carriedOf : Path → Carried Place
-carriedOf (NextClientSequence x) = carry nowhere nowhere 0 0
-carriedOf (NextConnectionSequence x) = carry nowhere nowhere 0 0
-carriedOf (NextChannelSequence x) = carry nowhere nowhere 0 0
-carriedOf (ClientState x) = carry (x .client) nowhere 0 0
-carriedOf (ClientConsensusState x) = carry (x .client) nowhere (x .number .0) (x .height .0)
-carriedOf (ClientUpdateTime x) = carry (x .client) nowhere (x .number .0) (x .height .0)
-carriedOf (ClientUpdateHeight x) = carry (x .client) nowhere (x .number .0) (x .height .0)
-carriedOf (ClientConnection x) = carry (x .client) nowhere 0 0
-carriedOf (Connection x) = carry (x .connection) nowhere 0 0
-carriedOf (Ports x) = carry (x .port) nowhere 0 0
-carriedOf (ChannelEnd x) = carry (x .port) (x .channel) 0 0
-carriedOf (SeqSend x) = carry (x .port) (x .channel) 0 0
-carriedOf (SeqRecv x) = carry (x .port) (x .channel) 0 0
-carriedOf (SeqAck x) = carry (x .port) (x .channel) 0 0
-carriedOf (Commitment x) = carry (x .port) (x .channel) (x .sequence .0) 0
-carriedOf (Ack x) = carry (x .port) (x .channel) (x .sequence .0) 0
-carriedOf (Receipt x) = carry (x .port) (x .channel) (x .sequence .0) 0
-carriedOf (UpgradeClientState x) = carry (x .upgrade) nowhere (x .height .0) 0
-carriedOf (UpgradeConsensusState x) = carry (x .upgrade) nowhere (x .height .0) 0
+carriedOf (NextClientSequence x) = carried nowhere nowhere 0 0
+carriedOf (NextConnectionSequence x) = carried nowhere nowhere 0 0
+carriedOf (NextChannelSequence x) = carried nowhere nowhere 0 0
+carriedOf (ClientState x) = carried (x .client) nowhere 0 0
+carriedOf (ClientConsensusState x) = carried (x .client) nowhere (x .number .0) (x .height .0)
+carriedOf (ClientUpdateTime x) = carried (x .client) nowhere (x .number .0) (x .height .0)
+carriedOf (ClientUpdateHeight x) = carried (x .client) nowhere (x .number .0) (x .height .0)
+carriedOf (ClientConnection x) = carried (x .client) nowhere 0 0
+carriedOf (Connection x) = carried (x .connection) nowhere 0 0
+carriedOf (Ports x) = carried (x .port) nowhere 0 0
+carriedOf (ChannelEnd x) = carried (x .port) (x .channel) 0 0
+carriedOf (SeqSend x) = carried (x .port) (x .channel) 0 0
+carriedOf (SeqRecv x) = carried (x .port) (x .channel) 0 0
+carriedOf (SeqAck x) = carried (x .port) (x .channel) 0 0
+carriedOf (Commitment x) = carried (x .port) (x .channel) (x .sequence .0) 0
+carriedOf (Ack x) = carried (x .port) (x .channel) (x .sequence .0) 0
+carriedOf (Receipt x) = carried (x .port) (x .channel) (x .sequence .0) 0
+carriedOf (UpgradeClientState x) = carried (x .upgrade) nowhere (x .height .0) 0
+carriedOf (UpgradeConsensusState x) = carried (x .upgrade) nowhere (x .height .0) 0
 
 -- both, in one
 abbrev pub seen : ℕ → Carried Place → PathView

@@ -9,11 +9,12 @@ use crate::Place;
 use crate::PortPlaces;
 use crate::UpgradePlaces;
 ghost use mathlib.Core.Path.{_≡_};
+ghost use Rattle.path.specs.Kinds.{carried};
 ghost use Rattle.path.specs.Text.{nowhere};
-ghost use Rattle.path.specs.View.{carry, seen};
+ghost use Rattle.path.specs.View.{seen};
 
 fn one_place(kind: u8, one: Place, a: u64, b: u64) -> PathView
-    ensures { λ r. ⌜ r ≡ seen kind (carry one nowhere a b) ⌝ }
+    ensures { λ r. ⌜ r ≡ seen kind (carried one nowhere a b) ⌝ }
 {
     PathView {
         kind,
@@ -25,48 +26,48 @@ fn one_place(kind: u8, one: Place, a: u64, b: u64) -> PathView
 }
 
 pub(crate) fn bare(kind: u8) -> PathView
-    ensures { λ r. ⌜ r ≡ seen kind (carry nowhere nowhere 0 0) ⌝ }
+    ensures { λ r. ⌜ r ≡ seen kind (carried nowhere nowhere 0 0) ⌝ }
 {
     one_place(kind, Place { start: 0, len: 0 }, 0, 0)
 }
 
 pub(crate) fn client(kind: u8, x: ClientPlaces) -> PathView
-    ensures { λ r. ⌜ r ≡ seen kind (carry (x .client) nowhere 0 0) ⌝ }
+    ensures { λ r. ⌜ r ≡ seen kind (carried (x .client) nowhere 0 0) ⌝ }
 {
     let client = x.client;
     one_place(kind, client, 0, 0)
 }
 
 pub(crate) fn consensus(kind: u8, x: ConsensusPlaces) -> PathView
-    ensures { λ r. ⌜ r ≡ seen kind (carry (x .client) nowhere (x .number .0) (x .height .0)) ⌝ }
+    ensures { λ r. ⌜ r ≡ seen kind (carried (x .client) nowhere (x .number .0) (x .height .0)) ⌝ }
 {
     let client = x.client;
     one_place(kind, client, x.number.0, x.height.0)
 }
 
 pub(crate) fn connection(kind: u8, x: ConnectionPlaces) -> PathView
-    ensures { λ r. ⌜ r ≡ seen kind (carry (x .connection) nowhere 0 0) ⌝ }
+    ensures { λ r. ⌜ r ≡ seen kind (carried (x .connection) nowhere 0 0) ⌝ }
 {
     let connection = x.connection;
     one_place(kind, connection, 0, 0)
 }
 
 pub(crate) fn port(kind: u8, x: PortPlaces) -> PathView
-    ensures { λ r. ⌜ r ≡ seen kind (carry (x .port) nowhere 0 0) ⌝ }
+    ensures { λ r. ⌜ r ≡ seen kind (carried (x .port) nowhere 0 0) ⌝ }
 {
     let port = x.port;
     one_place(kind, port, 0, 0)
 }
 
 pub(crate) fn upgrade(kind: u8, x: UpgradePlaces) -> PathView
-    ensures { λ r. ⌜ r ≡ seen kind (carry (x .upgrade) nowhere (x .height .0) 0) ⌝ }
+    ensures { λ r. ⌜ r ≡ seen kind (carried (x .upgrade) nowhere (x .height .0) 0) ⌝ }
 {
     let upgrade = x.upgrade;
     one_place(kind, upgrade, x.height.0, 0)
 }
 
 pub(crate) fn channel(kind: u8, x: ChannelPlaces) -> PathView
-    ensures { λ r. ⌜ r ≡ seen kind (carry (x .port) (x .channel) 0 0) ⌝ }
+    ensures { λ r. ⌜ r ≡ seen kind (carried (x .port) (x .channel) 0 0) ⌝ }
 {
     let one = x.port;
     let two = x.channel;
@@ -80,7 +81,7 @@ pub(crate) fn channel(kind: u8, x: ChannelPlaces) -> PathView
 }
 
 pub(crate) fn packet(kind: u8, x: PacketPlaces) -> PathView
-    ensures { λ r. ⌜ r ≡ seen kind (carry (x .port) (x .channel) (x .sequence .0) 0) ⌝ }
+    ensures { λ r. ⌜ r ≡ seen kind (carried (x .port) (x .channel) (x .sequence .0) 0) ⌝ }
 {
     let one = x.port;
     let two = x.channel;

@@ -4,7 +4,7 @@ use mathlib.Core.Path.{sym, _∙_}
 use denote.Ref.{now}
 use Rattle.text.specs.Outcome.{OneWith}
 use Rattle.render.proofs.render.Reads as render
-use Rattle.render.proofs.key.write_view.Reads as write-view
+use Rattle.render.proofs.key.write_rendering.Reads as write-rendering
 use Rattle.render.proofs.key.write_key.Reads as write-key
 use Rattle.render.proofs.iteration.iteration_key.Reads as iteration-key
 use Rattle.render.proofs.texts.client_state_prefix.Reads as client-state-prefix
@@ -25,8 +25,8 @@ use Rattle.render.proofs.texts.receipt_prefix.Reads as receipt-prefix
 pub one-render : OneWith render.Post (λ κs s. now (s .1 .1 .1 .1 .1 .0))
 one-render κs a r₁ r₂ s₁ s₂ p q = (p .0 ∙ sym (q .0), p .1 ∙ sym (q .1))
 
-pub one-write-view : OneWith write-view.Post (λ κs s. now (s .0))
-one-write-view κs a r₁ r₂ s₁ s₂ p q = (p .0 ∙ sym (q .0), p .1 ∙ sym (q .1))
+pub one-write-rendering : OneWith write-rendering.Post (λ κs s. now (s .0))
+one-write-rendering κs a r₁ r₂ s₁ s₂ p q = (p .0 ∙ sym (q .0), p .1 ∙ sym (q .1))
 
 pub one-write-key : OneWith write-key.Post (λ κs s. now (s .1 .0))
 one-write-key κs a r₁ r₂ s₁ s₂ p q = (p .0 ∙ sym (q .0), p .1 ∙ sym (q .1))

@@ -1,5 +1,7 @@
 -- What the contracts of `render` cite. Files that end in `Laws` hold consequences, which a reader may skip.
 pub mod Iteration
-pub mod RenderLaws
 pub mod KeyLaws
-pub mod ViewLaws
+pub mod KeyTextLaws
+pub mod ParentLaws
+pub mod Render
+pub mod RenderLaws

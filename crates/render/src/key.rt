@@ -1,28 +1,34 @@
 // The key of a text: the rendering of what it reads as.
+use crate::fit::fit_kind;
 use path::PathView;
 use path::Reading;
 use reader::part;
-use rows::fit_row;
-use rows::write_row;
 use text::Written;
+use writers::kinds::write_kind;
 ghost use mathlib.Core.Path.{_≡_};
 ghost use Prim.Native.Nat.{_+_, _≤_};
 ghost use lib.ListN.{length};
 ghost use Rattle.text.specs.Put.{put, answer, left};
+ghost use Rattle.path.specs.Kinds.{carried};
 ghost use Rattle.path.specs.Read.{keyOf, render, partsOf};
 ghost use Rattle.path.specs.Text.{shownOf};
-ghost use Rattle.rows.specs.Rows.{carried};
 
 // Writes the rendering of a path whose places are in the text, and returns the place after it.
-pub fn write_view(out: &mut [u8], at: usize, text: &[u8], v: PathView) -> usize
+pub fn write_rendering(out: &mut [u8], at: usize, text: &[u8], v: PathView) -> usize
     requires { ⌜ (1 ≤ v .kind) × (v .kind ≤ 19) ⌝ }
     requires { ⌜ at + length (render (partsOf (v .kind)) (carried (shownOf (now text) (v .one)) (shownOf (now text) (v .two)) (v .a) (v .b))) ≤ length (now out) ⌝ }
     ensures { λ r. ⌜ r ≡ at + length (render (partsOf (v .kind)) (carried (shownOf (now (text .entry)) (v .one)) (shownOf (now (text .entry)) (v .two)) (v .a) (v .b))) ⌝ }
     ensures { λ _. ⌜ now (out .exit) ≡ put (now (out .entry)) at (render (partsOf (v .kind)) (carried (shownOf (now (text .entry)) (v .one)) (shownOf (now (text .entry)) (v .two)) (v .a) (v .b))) ⌝ }
 {
-    let kind = v.kind;
-    let row = kind as usize - 1;
-    write_row(out, at, row, part(text, v.one), part(text, v.two), v.a, v.b)
+    write_kind(
+        out,
+        at,
+        v.kind,
+        part(text, v.one),
+        part(text, v.two),
+        v.a,
+        v.b,
+    )
 }
 
 // Writes the key of a text: 1, 2, 3, then 4.
@@ -38,7 +44,5 @@ pub fn write_key(text: &[u8], out: &mut [u8]) -> Written
         };
     };
     let v = path::view(path);
-    let kind = v.kind;
-    let row = kind as usize - 1;
-    fit_row(out, row, part(text, v.one), part(text, v.two), v.a, v.b)
+    fit_kind(out, v.kind, part(text, v.one), part(text, v.two), v.a, v.b)
 }

@@ -1,4 +1,5 @@
-// Rendering: checks of the identifiers, then the text of a row.
+// Rendering: checks of the identifiers, the room, then the writers.
+mod fit;
 pub mod iteration;
 pub mod key;
 pub mod texts;
@@ -9,15 +10,14 @@ use text::refusal::BAD_SEGMENT;
 use text::refusal::NOT_ASCII;
 ghost use mathlib.Core.Path.{_≡_};
 ghost use mathlib.Core.Bool.{not};
-ghost use Prim.Native.Nat.{_<_};
+ghost use Prim.Native.Nat.{_≤_};
 ghost use lib.Dec.{eqb};
 ghost use lib.ListN.{length};
 ghost use Rattle.text.specs.Put.{answer, left};
 ghost use Rattle.text.specs.Part.{every};
-ghost use Rattle.path.specs.Kinds.{upgrade};
-ghost use Rattle.path.specs.Read.{limited, renderOf, nameFault, namesFault};
-ghost use Rattle.rows.specs.Rows.{carried};
-ghost use Rattle.rows.specs.Pieces.{rowOf};
+ghost use Rattle.path.specs.Kinds.{upgrade, carried};
+ghost use Rattle.path.specs.Read.{limited, partsOf, renderOf, nameFault};
+ghost use Rattle.render.specs.Render.{kindFault};
 
 // Whether the text has no `/`.
 fn no_slash(s: &[u8]) -> bool
@@ -46,48 +46,43 @@ fn upgrade_fault(s: &[u8]) -> u8
     0
 }
 
-// The first refusal of the identifiers that a row has.
-fn names_fault(row: usize, one: &[u8], two: &[u8]) -> u8
-    requires { ⌜ row < 26 ⌝ }
-    ensures { λ r. ⌜ r ≡ namesFault (rowOf row) (carried (now (one .entry)) (now (two .entry)) 0 0) ⌝ }
+// The first refusal of the identifiers that a kind from 4 on has.
+pub(crate) fn kind_fault(kind: u8, first: &[u8], second: &[u8]) -> u8
+    ensures { λ r. ⌜ r ≡ kindFault kind (now (first .entry)) (now (second .entry)) ⌝ }
 {
-    let names = rows::names_of(row);
-    if names == 0 {
-        return 0;
+    if kind < 9 {
+        return identifiers::validate::validate_client_identifier(first);
     }
-    if names == 1 {
-        return identifiers::validate::validate_client_identifier(one);
+    if kind < 10 {
+        return identifiers::validate::validate_connection_identifier(first);
     }
-    if names == 2 {
-        return identifiers::validate::validate_connection_identifier(one);
+    if 17 < kind {
+        return upgrade_fault(first);
     }
-    if names == 5 {
-        return upgrade_fault(one);
-    }
-    let port = identifiers::validate::validate_port_identifier(one);
-    if names == 3 {
+    let port = identifiers::validate::validate_port_identifier(first);
+    if kind < 11 {
         return port;
     }
     if port != 0 {
         return port;
     }
-    identifiers::validate::validate_channel_identifier(two)
+    identifiers::validate::validate_channel_identifier(second)
 }
 
-// Checks the identifiers of a row, then writes it.
-fn checked_row(out: &mut [u8], row: usize, one: &[u8], two: &[u8], a: u64, b: u64) -> Written
-    requires { ⌜ row < 26 ⌝ }
-    ensures { λ r. ⌜ r ≡ answer (limited (rowOf row) (carried (now (one .entry)) (now (two .entry)) a b)) (length (now (out .entry))) ⌝ }
-    ensures { λ _. ⌜ now (out .exit) ≡ left (limited (rowOf row) (carried (now (one .entry)) (now (two .entry)) a b)) (now (out .entry)) ⌝ }
+// Checks the identifiers of a kind, then writes it.
+fn checked_kind(out: &mut [u8], kind: u8, first: &[u8], second: &[u8], a: u64, b: u64) -> Written
+    requires { ⌜ (4 ≤ kind) × (kind ≤ 19) ⌝ }
+    ensures { λ r. ⌜ r ≡ answer (limited (partsOf kind) (carried (now (first .entry)) (now (second .entry)) a b)) (length (now (out .entry))) ⌝ }
+    ensures { λ _. ⌜ now (out .exit) ≡ left (limited (partsOf kind) (carried (now (first .entry)) (now (second .entry)) a b)) (now (out .entry)) ⌝ }
 {
-    let refusal = names_fault(row, one, two);
+    let refusal = kind_fault(kind, first, second);
     if refusal != 0 {
         return Written { refusal, length: 0 };
     }
-    rows::fit_row(out, row, one, two, a, b)
+    fit::fit_kind(out, kind, first, second, a, b)
 }
 
-// Renders by kind and parts. Arguments that the kind lacks have no influence. Kinds 1 to 3 are one word, the first three.
+// Renders by kind and parts. Arguments that the kind lacks have no influence. Kinds 1 to 3, a word each, are told apart first.
 pub fn render(kind: u8, first: &[u8], second: &[u8], a: u64, b: u64, out: &mut [u8]) -> Written
     ensures { λ r. ⌜ r ≡ answer (renderOf kind (carried (now (first .entry)) (now (second .entry)) a b)) (length (now (out .entry))) ⌝ }
     ensures { λ _. ⌜ now (out .exit) ≡ left (renderOf kind (carried (now (first .entry)) (now (second .entry)) a b)) (now (out .entry)) ⌝ }
@@ -104,9 +99,8 @@ pub fn render(kind: u8, first: &[u8], second: &[u8], a: u64, b: u64, out: &mut [
             length: 0,
         };
     }
-    let row = kind as usize - 1;
-    if row < 3 {
-        return rows::fit_word(out, row);
+    if kind < 4 {
+        return fit::fit_word(out, kind);
     }
-    checked_row(out, row, first, second, a, b)
+    checked_kind(out, kind, first, second, a, b)
 }

@@ -1,25 +1,64 @@
 // The texts that are no whole path: prefixes, parents, leaves and the paths of packets.
-use crate::checked_row;
+use crate::kind_fault;
 use path::RevisionHeight;
 use path::RevisionNumber;
 use text::Written;
+use text::refusal::NO_ROOM;
+use writers::parents::write_consensus_leaf;
+use writers::parents::write_consensus_parent;
+use writers::parents::write_packets_path;
 ghost use mathlib.Core.Path.{_≡_};
-ghost use mathlib.Core.List.{List, _∷_, []};
-ghost use Prim.Native.Nat.{_<_};
-ghost use lib.ListN.{length, getD};
-ghost use Rattle.rows.specs.Pieces.{texts};
+ghost use mathlib.Core.List.{_∷_, []};
+ghost use Prim.Native.Nat.{_≤_};
+ghost use lib.ListN.{length};
 ghost use Rattle.text.specs.Bytes.{bytes};
-ghost use Rattle.text.specs.Put.{text, answer, left};
-ghost use Rattle.path.specs.Kinds.{word};
-ghost use Rattle.rows.specs.Rows.{carried, textOf, consensusParent, consensusLeaf, packetsPath};
+ghost use Rattle.text.specs.Put.{text, accepted, answer, left};
+ghost use Rattle.path.specs.Kinds.{word, carried};
+ghost use Rattle.path.specs.Parents.{textOf, consensusParent, consensusLeaf, packetsPath};
+ghost use Rattle.writers.specs.Texts.{leafText, packetsText};
+ghost use Rattle.render.specs.Render.{kindFault};
 
-// Checks the identifiers of a text that is no path, then writes it.
-fn text_row(out: &mut [u8], which: usize, one: &[u8], two: &[u8], a: u64, b: u64) -> Written
-    requires { ⌜ which < 7 ⌝ }
-    ensures { λ r. ⌜ r ≡ answer (textOf (getD texts which []) (carried (now (one .entry)) (now (two .entry)) a b)) (length (now (out .entry))) ⌝ }
-    ensures { λ _. ⌜ now (out .exit) ≡ left (textOf (getD texts which []) (carried (now (one .entry)) (now (two .entry)) a b)) (now (out .entry)) ⌝ }
+// `consensusStates/R-h`, and what stands after it.
+fn fit_leaf(number: u64, height: u64, rest: &[u8], out: &mut [u8]) -> Written
+    requires { ⌜ length (now rest) ≤ 64 ⌝ }
+    ensures { λ r. ⌜ r ≡ answer (text (leafText number height (now (rest .entry)))) (length (now (out .entry))) ⌝ }
+    ensures { λ _. ⌜ now (out .exit) ≡ left (text (leafText number height (now (rest .entry)))) (now (out .entry)) ⌝ }
 {
-    checked_row(out, 19 + which, one, two, a, b)
+    if out.len() < 17 + text::number_width(number) + text::number_width(height) + rest.len() {
+        return Written {
+            refusal: NO_ROOM,
+            length: 0,
+        };
+    }
+    let length = write_consensus_leaf(out, 0, number, height, rest);
+    Written {
+        refusal: 0,
+        length: length as u64,
+    }
+}
+
+// `ports/P/channels/H/sequences` after the first component; `first` is that component and `/ports/`. The identifiers are those
+// of kind 15.
+fn fit_packets(first: &[u8], port: &[u8], channel: &[u8], out: &mut [u8]) -> Written
+    requires { ⌜ length (now first) ≤ 64 ⌝ }
+    ensures { λ r. ⌜ r ≡ answer (accepted (kindFault 15 (now (port .entry)) (now (channel .entry))) (packetsText (now (first .entry)) (now (port .entry)) (now (channel .entry)))) (length (now (out .entry))) ⌝ }
+    ensures { λ _. ⌜ now (out .exit) ≡ left (accepted (kindFault 15 (now (port .entry)) (now (channel .entry))) (packetsText (now (first .entry)) (now (port .entry)) (now (channel .entry)))) (now (out .entry)) ⌝ }
+{
+    let refusal = kind_fault(15, port, channel);
+    if refusal != 0 {
+        return Written { refusal, length: 0 };
+    }
+    if out.len() < 20 + first.len() + port.len() + channel.len() {
+        return Written {
+            refusal: NO_ROOM,
+            length: 0,
+        };
+    }
+    let length = write_packets_path(out, 0, first, port, channel);
+    Written {
+        refusal: 0,
+        length: length as u64,
+    }
 }
 
 // What all client states stand under.
@@ -43,7 +82,21 @@ pub fn consensus_state_parent(client: &[u8], out: &mut [u8]) -> Written
     ensures { λ r. ⌜ r ≡ answer (textOf consensusParent (carried (now (client .entry)) [] 0 0)) (length (now (out .entry))) ⌝ }
     ensures { λ _. ⌜ now (out .exit) ≡ left (textOf consensusParent (carried (now (client .entry)) [] 0 0)) (now (out .entry)) ⌝ }
 {
-    text_row(out, 0, client, b"", 0, 0)
+    let refusal = identifiers::validate::validate_client_identifier(client);
+    if refusal != 0 {
+        return Written { refusal, length: 0 };
+    }
+    if out.len() < 24 + client.len() {
+        return Written {
+            refusal: NO_ROOM,
+            length: 0,
+        };
+    }
+    let length = write_consensus_parent(out, 0, client);
+    Written {
+        refusal: 0,
+        length: length as u64,
+    }
 }
 
 // `consensusStates/R-h`.
@@ -55,7 +108,7 @@ pub fn consensus_state_leaf(
     ensures { λ r. ⌜ r ≡ answer (textOf (consensusLeaf []) (carried [] [] (number .0) (height .0))) (length (now (out .entry))) ⌝ }
     ensures { λ _. ⌜ now (out .exit) ≡ left (textOf (consensusLeaf []) (carried [] [] (number .0) (height .0))) (now (out .entry)) ⌝ }
 {
-    text_row(out, 1, b"", b"", number.0, height.0)
+    fit_leaf(number.0, height.0, b"", out)
 }
 
 // `consensusStates/R-h/processedTime`.
@@ -63,7 +116,7 @@ pub fn update_time_leaf(number: RevisionNumber, height: RevisionHeight, out: &mu
     ensures { λ r. ⌜ r ≡ answer (textOf (consensusLeaf (word (bytes "processedTime") ∷ [])) (carried [] [] (number .0) (height .0))) (length (now (out .entry))) ⌝ }
     ensures { λ _. ⌜ now (out .exit) ≡ left (textOf (consensusLeaf (word (bytes "processedTime") ∷ [])) (carried [] [] (number .0) (height .0))) (now (out .entry)) ⌝ }
 {
-    text_row(out, 2, b"", b"", number.0, height.0)
+    fit_leaf(number.0, height.0, b"/processedTime", out)
 }
 
 // `consensusStates/R-h/processedHeight`.
@@ -71,7 +124,7 @@ pub fn update_height_leaf(number: RevisionNumber, height: RevisionHeight, out: &
     ensures { λ r. ⌜ r ≡ answer (textOf (consensusLeaf (word (bytes "processedHeight") ∷ [])) (carried [] [] (number .0) (height .0))) (length (now (out .entry))) ⌝ }
     ensures { λ _. ⌜ now (out .exit) ≡ left (textOf (consensusLeaf (word (bytes "processedHeight") ∷ [])) (carried [] [] (number .0) (height .0))) (now (out .entry)) ⌝ }
 {
-    text_row(out, 3, b"", b"", number.0, height.0)
+    fit_leaf(number.0, height.0, b"/processedHeight", out)
 }
 
 // What all connections stand under.
@@ -95,7 +148,7 @@ pub fn commitments_path(port: &[u8], channel: &[u8], out: &mut [u8]) -> Written
     ensures { λ r. ⌜ r ≡ answer (textOf (packetsPath (bytes "commitments")) (carried (now (port .entry)) (now (channel .entry)) 0 0)) (length (now (out .entry))) ⌝ }
     ensures { λ _. ⌜ now (out .exit) ≡ left (textOf (packetsPath (bytes "commitments")) (carried (now (port .entry)) (now (channel .entry)) 0 0)) (now (out .entry)) ⌝ }
 {
-    text_row(out, 4, port, channel, 0, 0)
+    fit_packets(b"commitments/ports/", port, channel, out)
 }
 
 // `acks/ports/P/channels/H/sequences`.
@@ -103,7 +156,7 @@ pub fn acks_path(port: &[u8], channel: &[u8], out: &mut [u8]) -> Written
     ensures { λ r. ⌜ r ≡ answer (textOf (packetsPath (bytes "acks")) (carried (now (port .entry)) (now (channel .entry)) 0 0)) (length (now (out .entry))) ⌝ }
     ensures { λ _. ⌜ now (out .exit) ≡ left (textOf (packetsPath (bytes "acks")) (carried (now (port .entry)) (now (channel .entry)) 0 0)) (now (out .entry)) ⌝ }
 {
-    text_row(out, 5, port, channel, 0, 0)
+    fit_packets(b"acks/ports/", port, channel, out)
 }
 
 // `receipts/ports/P/channels/H/sequences`.
@@ -111,7 +164,7 @@ pub fn receipts_path(port: &[u8], channel: &[u8], out: &mut [u8]) -> Written
     ensures { λ r. ⌜ r ≡ answer (textOf (packetsPath (bytes "receipts")) (carried (now (port .entry)) (now (channel .entry)) 0 0)) (length (now (out .entry))) ⌝ }
     ensures { λ _. ⌜ now (out .exit) ≡ left (textOf (packetsPath (bytes "receipts")) (carried (now (port .entry)) (now (channel .entry)) 0 0)) (now (out .entry)) ⌝ }
 {
-    text_row(out, 6, port, channel, 0, 0)
+    fit_packets(b"receipts/ports/", port, channel, out)
 }
 
 // What all packet commitments stand under.

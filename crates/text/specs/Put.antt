@@ -1,6 +1,7 @@
 -- What a call that writes a text leaves in the buffer that is lent to it, and what it answers.
 -- Assumes nothing.
-use Prim.Native.Nat.{ℕ, _+_}
+use Prim.Native.Nat.{ℕ, _+_, _≤_}
+use mathlib.Core.Path.{_≡_}
 use mathlib.Core.Bool.{Bool, cond}
 use mathlib.Core.List.{List, _++_}
 use lib.Dec.{eqb, leb}
@@ -10,6 +11,12 @@ use Rattle.text.specs.declared.Written.{Written}
 -- `out` with `w` written over it from place `at` on
 unfoldable pub put : List ℕ → ℕ → List ℕ → List ℕ
 put out at w = take at out ++ (w ++ drop (at + length w) out)
+
+-- what a writer does: w was written to `out` from `at` on, which had room for it and is o now; r is the place after it
+pub record Wrote (out : List ℕ) (at : ℕ) (w : List ℕ) (r : ℕ) (o : List ℕ) : Type 0 where
+  pub next : r ≡ at + length w
+  pub after : o ≡ put out at w
+  pub room : at + length w ≤ length out
 
 -- what is asked of a writing call: a refusal by its number, or a text to be written
 pub data Wanted : Type 0 where

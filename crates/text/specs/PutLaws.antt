@@ -12,7 +12,7 @@ use lib.ListN.{length, take, drop, getD, set, length-append, length-take, length
 use lib.Seq.{drop-cons, take-at, drop-append-add, drop-drop, set-split, length-take-le, take-suc-set, drop-set-lt}
 use borrow.Author.Tests.{le-leb, lt-leb, leb-true}
 use Rattle.text.specs.declared.Written.{Written}
-use Rattle.text.specs.Put.{put, Wanted, refused, text, refusal, done, answer, left}
+use Rattle.text.specs.Put.{put, Wrote, Wanted, refused, text, refusal, done, answer, left}
 
 -- one byte stored
 pub put-set : (out : List ℕ) (at b : ℕ) → at < length out → set out at b ≡ put out at (b ∷ [])
@@ -67,6 +67,12 @@ put-two out p a b t o o′ q r e x f y h =
     let l : length o ≡ length out = ap length e ∙ length-put out p a (omega arith) in
     put-next out p a (b ++ t) o q (omega arith) x e ∙ put-next o q b t o′ r (omega arith) y f
 
+-- two texts by two writers, one after the other
+pub both : {out o o′ a b : List ℕ} {at p q : ℕ} → Wrote out at a p o → Wrote o p b q o′ → Wrote out at (a ++ b) q o′
+both {out} {o} {o′} {a} {b} {at} {p} {q} x y =
+    let l : length o ≡ length out = ap length (x .after) ∙ length-put out at a (x .room) in
+    record { next = rw length-append (omega (arith, x .next, y .next)); after = put-then out at a b o o′ p (x .after) (x .next) (x .room) (y .after); room = rw length-append (omega (arith, x .next, y .room)) }
+
 -- `out` up to place at + i, then `src` from i on, then `out` from place e on: one turn of a copying loop
 module _ (out src : List ℕ) (at i e : ℕ) where
   pub copy-none : length src ≤ i → at + i ≡ e → take (at + i) out ++ (drop i src ++ drop e out) ≡ out
@@ -120,3 +126,18 @@ refusal-keeps (text w) out h = go (leb (length w) (length out)) h
     go : (v : Bool) → ((cond v (done (length w)) (refusal 4)) .refusal ≡ 0 → ⊥) → cond v (put out 0 w) out ≡ out
     go true k = absurd (k refl)
     go false k = refl
+
+-- ---- the ways out of a call that writes
+module _ (x : Wanted) (out : List ℕ) where
+  pub gives-refusal : (n : ℕ) → x ≡ refused n → (refusal n ≡ answer x (length out)) × (out ≡ left x out)
+  gives-refusal n e = rw e (sym (answer-refused n (length out)), sym (left-refused n out))
+
+  pub gives-same : {y : Wanted} {r : Written} {o : List ℕ} → x ≡ y → (r ≡ answer y (length out)) × (o ≡ left y out) → (r ≡ answer x (length out)) × (o ≡ left x out)
+  gives-same e h = rw e h
+
+module _ (w out : List ℕ) where
+  pub gives-short : length out < length w → (refusal 4 ≡ answer (text w) (length out)) × (out ≡ left (text w) out)
+  gives-short h = (sym (answer-short w (length out) h), sym (left-short w out h))
+
+  pub gives-text : {r : ℕ} {o : List ℕ} → Wrote out 0 w r o → (done r ≡ answer (text w) (length out)) × (o ≡ left (text w) out)
+  gives-text h = (ap done (h .next ∙ zero-add _) ∙ sym (answer-fits w (length out) (omega (arith, h .room))), h .after ∙ sym (left-fits w out (omega (arith, h .room))))

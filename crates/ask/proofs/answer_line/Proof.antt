@@ -5,7 +5,7 @@ use lib.ListN.{length, length-append}
 use Rattle.text.specs.Number.{decimal}
 use Rattle.text.specs.Put.{put}
 use Rattle.text.specs.PutLaws.{put-two}
-use Rattle.render.specs.ViewLaws.{view-kind}
+use Rattle.render.specs.KeyTextLaws.{view-kind}
 use Rattle.ask.specs.Answer.{head}
 use Rattle.ask.specs.AnswerLaws.{viewText, answer-refused, answer-view, answer-length}
 use native.Mathlib.Omega.{arith}
@@ -58,8 +58,8 @@ write-head-requires c κs = let x = c .before .before .before .before .before .b
     let n = ap length e in
     omega (arith, answer-length t)
 
-write-view-requires : tie.Need-write-view-requires
-write-view-requires c κs = let x = c .before .before .before .before .before .before .before .before .before .before .before .before .args in
+write-rendering-requires : tie.Need-write-rendering-requires
+write-rendering-requires c κs = let x = c .before .before .before .before .before .before .before .before .before .before .before .before .args in
     let t = x .line .now in
     let r = c .before .before .before .before .before .before .before .before .before .read-path in
     let g = c .before .before .before .before .before .before .before .reading .given in
@@ -84,7 +84,7 @@ write-byte-requires c κs = let x = c .before .before .before .before .before .b
     let l = length-append h (w ++ 10 ∷ []) in
     let m = length-append w (10 ∷ []) in
     let n = ap length e in
-    omega (arith, answer-length t, c .before .before .before .before .before .before .before .before .before .before .before .before .before .before .before .before .pre, c .before .before .before .before .before .before .before .write-head .ensures .0, c .before .before .before .write-view .ensures .0)
+    omega (arith, answer-length t, c .before .before .before .before .before .before .before .before .before .before .before .before .before .before .before .before .pre, c .before .before .before .before .before .before .before .write-head .ensures .0, c .before .before .before .write-rendering .ensures .0)
 
 same-length-2 : tie.Need-same-length-2
 same-length-2 c = search needs
@@ -102,7 +102,7 @@ returns-2 c = let x = c .before .before .before .before .before .before .before 
     let m = length-append w (10 ∷ []) in
     let n = ap length e in
     let s1 = c .before .before .before .before .before .before .before .before .before .before .write-head in
-    let s2 = c .before .before .before .before .before .before .write-view in
+    let s2 = c .before .before .before .before .before .before .write-rendering in
     let s3 = c .before .before .write-byte in
     let q = put-two (x .out .now) (x .at) h w (10 ∷ []) (s1 .last .0) (s2 .last .0) (s1 .result) (s2 .result) (s1 .ensures .1) (s1 .ensures .0) (s2 .ensures .1) (s2 .ensures .0) (omega (arith, answer-length t, c .before .before .before .before .before .before .before .before .before .before .before .before .before .before .before .before .before .before .before .pre, s1 .ensures .0, s2 .ensures .0)) in
     (omega (arith, s1 .ensures .0, s2 .ensures .0, s3 .ensures .0), s3 .ensures .1 ∙ sym (ap (put (x .out .now) (x .at)) e ∙ q))
@@ -120,7 +120,7 @@ answer-line-spec =
     returns
     view-requires
     write-head-requires
-    write-view-requires
+    write-rendering-requires
     write-byte-requires
     same-length-2
     returns-2)

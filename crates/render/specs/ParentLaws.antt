@@ -1,0 +1,48 @@
+-- The texts that are no whole path, as the writers write them.
+-- Assumes nothing.
+use Prim.Native.Nat.{ℕ, _≤_}
+use mathlib.Core.Path.{_≡_}
+use mathlib.Core.List.{List, [], _∷_, _++_}
+use lib.ListN.{length}
+use borrow.Author.Tests.{ne-eqb}
+use Rattle.text.specs.Bytes.{bytes}
+use Rattle.text.specs.Put.{text, refused, accepted}
+use Rattle.identifiers.specs.Check.{checkOf}
+use Rattle.identifiers.specs.Check as check
+use Rattle.identifiers.specs.CheckLaws.{first-zero, first-last, accepted-length}
+use Rattle.path.specs.Kinds.{port, channel, word, Carried}
+use Rattle.path.specs.Read.{nameFault, namesFault}
+use Rattle.path.specs.Parents.{textOf, consensusParent, consensusLeaf, packetsPath}
+use Rattle.writers.specs.Texts.{parentText, leafText, packetsText}
+use Rattle.writers.specs.TextLaws.{parent-text, leaf-text, below-text, packets-text}
+use Rattle.render.specs.Render.{kindFault}
+
+module _ (v : Carried (List ℕ)) where
+  pub parent-wanted : textOf consensusParent v ≡ accepted (checkOf check.client (v .one)) (parentText (v .one))
+  unfolding textOf namesFault nameFault
+  parent-wanted = rw (parent-text v, first-last (checkOf check.client (v .one)))
+
+  pub leaf-wanted : textOf (consensusLeaf []) v ≡ text (leafText (v .a) (v .b) [])
+  unfolding textOf namesFault
+  leaf-wanted = rw (leaf-text v)
+
+  pub below-wanted : (w : List ℕ) → textOf (consensusLeaf (word w ∷ [])) v ≡ text (leafText (v .a) (v .b) (47 ∷ w))
+  unfolding textOf namesFault
+  below-wanted w = rw (below-text v w)
+
+  pub packets-wanted : (w f : List ℕ) → f ≡ w ++ bytes "/ports/" → textOf (packetsPath w) v ≡ accepted (kindFault 15 (v .one) (v .two)) (packetsText f (v .one) (v .two))
+  unfolding textOf namesFault kindFault
+  packets-wanted w f e = rw (packets-text v w f e, first-last (nameFault channel (v .two)))
+
+-- ---- a check's refusal, and none
+module _ {n m : ℕ} (w : List ℕ) (e : n ≡ m) where
+  pub accepted-not : (n ≡ 0 → ⊥) → accepted m w ≡ refused n
+  accepted-not h = rw (← e, ne-eqb n 0 h)
+
+  pub accepted-text : n ≡ 0 → accepted m w ≡ text w
+  accepted-text h = rw (← e, h)
+
+-- ---- accepted identifiers are short
+pub ends-most : (p h : List ℕ) → kindFault 15 p h ≡ 0 → (length p ≤ 128) × (length h ≤ 64)
+unfolding kindFault nameFault
+ends-most p h e = let z = first-zero (nameFault port p) (nameFault channel h) e in (accepted-length check.port p (z .0) .1, accepted-length check.channel h (z .1) .1)
