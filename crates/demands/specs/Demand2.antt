@@ -12,8 +12,7 @@ use Rattle.text.specs.declared.Written.{Written}
 use Rattle.text.specs.Order.{then, cmp}
 use Rattle.text.specs.Part.{ascii}
 use Rattle.text.specs.Put.{text, done, answer, left}
-use Rattle.identifiers.specs.Check.{checkOf, client, clientType, connection, port, channel, first, charsOf, prefixLengthOf}
-use Rattle.identifiers.specs.CheckLaws.{generalOf}
+use Rattle.identifiers.specs.Check.{checkOf, client, clientType, connection, port, channel, first, charsOf, prefixLengthOf, generalOf}
 use Rattle.path.specs.declared.Path.{Path}
 use Rattle.path.specs.declared.PathAnswer.the-variants.{Found}
 use Rattle.path.specs.declared.Reading.the-variants.{Read}
@@ -23,7 +22,7 @@ use Rattle.path.specs.Read.{fitsKind, partsOf, textsOf, renderPath, renderOf, r
 use Rattle.path.specs.Read as paths
 use Rattle.path.specs.View.{kindOf, carriedOf}
 use Rattle.path.specs.Valid.{Valid, only, ReadsAs}
-use Rattle.path.specs.ReadLaws.{Has, Reads, kindAt}
+use Rattle.path.specs.Reads.{Has, Reads, kindAt}
 use Rattle.path.specs.ReadLaws as reads
 use Rattle.path.specs.BackLaws.{rendered-valid}
 use Rattle.path.specs.LengthLaws.{longest}

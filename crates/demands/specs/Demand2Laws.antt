@@ -14,8 +14,8 @@ use Rattle.text.specs.declared.Written.{Written}
 use Rattle.text.specs.Part.{every, ascii, same}
 use Rattle.text.specs.Put.{put, Wanted, text, refused, done, refusal, answer, left}
 use Rattle.text.specs.PutLaws.{put-zero}
-use Rattle.identifiers.specs.Check.{checkOf, client, clientType, connection, port, channel, first, charsOf, prefixLengthOf}
-use Rattle.identifiers.specs.CheckLaws.{generalOf, check-general, client-type-general}
+use Rattle.identifiers.specs.Check.{checkOf, client, clientType, connection, port, channel, first, charsOf, prefixLengthOf, generalOf}
+use Rattle.identifiers.specs.CheckLaws.{check-general, client-type-general}
 use Rattle.path.specs.declared.Path.{Path}
 use Rattle.path.specs.declared.PathAnswer.{PathAnswer}
 use Rattle.path.specs.declared.PathAnswer.the-variants.{Found, Nothing}
@@ -28,7 +28,8 @@ use Rattle.path.specs.Text.{partOf}
 use Rattle.path.specs.Read.{fitsKind, readFirst, readingOf, partsOf, textsOf, render, renderPath, renderOf, readPath, keyBy, keyOf, bytesBy, readingBytes, refusalOf}
 use Rattle.path.specs.View.{kindOf, carriedOf}
 use Rattle.path.specs.Valid.{Valid, only, ReadsAs}
-use Rattle.path.specs.ReadLaws.{Has, kinds-apart, read-has, is-reads}
+use Rattle.path.specs.Reads.{Has}
+use Rattle.path.specs.ReadLaws.{kinds-apart, read-has, is-reads}
 use Rattle.path.specs.BackLaws.{valid-rendered, rendered-back, read-again, key-exact}
 use Rattle.path.specs.BackLaws as back
 use Rattle.path.specs.LengthLaws.{rendering-short}

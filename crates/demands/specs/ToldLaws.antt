@@ -17,7 +17,8 @@ use Rattle.path.specs.Kinds.{Name, client, connection, port, channel, upgrade, 
 use Rattle.path.specs.Text.{placeAt, nowhere}
 use Rattle.path.specs.TextLaws.{place-within}
 use Rattle.path.specs.Read.{setName, carriedFrom, placeBytes, readPath}
-use Rattle.path.specs.ReadLaws.{Reads, made-carried}
+use Rattle.path.specs.Reads.{Reads}
+use Rattle.path.specs.ReadLaws.{made-carried}
 use Rattle.path.specs.View.{kindOf, carriedOf}
 use Rattle.path.specs.BackLaws.{read-reads, read-short, read-valid}
 use Rattle.demands.specs.Told.{bigFrom, bigAt, Told, told, toldOf}

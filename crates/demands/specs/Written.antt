@@ -14,7 +14,7 @@ use Rattle.path.specs.declared.Reading.the-variants.{Read}
 use Rattle.path.specs.Kinds.{Carried, Kind, kinds}
 use Rattle.path.specs.Text.{partOf}
 use Rattle.path.specs.Read.{fitsKind, readPath}
-use Rattle.path.specs.ReadLaws.{Has}
+use Rattle.path.specs.Reads.{Has}
 use Rattle.demands.specs.Told.{Told}
 
 -- a call that wrote w: it answers 0 and its length, and w stands at the start of the buffer

@@ -95,3 +95,11 @@ formOf (indexed name) s = namedOf name s
 -- ASCII, bytes, length, prefix, number: 2, 5, 6, 7, 8
 unfoldable pub checkOf : Rule → List ℕ → ℕ
 checkOf r s = first (charsOf s) (first (within (r .least) (r .most) (length s)) (formOf (r .form) s))
+
+-- ---- the checks as the Rust composes them, out of the general ones
+abbrev pub generalForm : Form → List ℕ → ℕ
+generalForm plain s = 0
+generalForm (indexed name) s = namedIndexOf s name
+
+abbrev pub generalOf : Rule → List ℕ → ℕ
+generalOf r s = first (charsOf s) (first (lengthOf s (r .least) (r .most)) (generalForm (r .form) s))

@@ -14,7 +14,7 @@ use Rattle.text.specs.Bytes.{bytes}
 use Rattle.text.specs.Number.{numeralOf}
 use Rattle.text.specs.Part.{every, ascii, startsWith}
 use Rattle.text.specs.PartLaws.{and-left, and-right, every-at, top, every-top, starts-append, starts-byte}
-use Rattle.identifiers.specs.Check.{first, unless, among, identifierByte, charsOf, isValue, within, indexOf, namedOf, lengthOf, prefixLengthOf, namedIndexOf, Form, plain, indexed, Rule, client, clientType, formOf, checkOf}
+use Rattle.identifiers.specs.Check.{first, unless, among, identifierByte, charsOf, isValue, within, indexOf, namedOf, lengthOf, prefixLengthOf, namedIndexOf, Form, plain, indexed, Rule, client, clientType, formOf, checkOf, generalForm, generalOf}
 
 -- ---- of two checks, and of a test
 pub first-zero : (a b : ℕ) → first a b ≡ 0 → (a ≡ 0) × (b ≡ 0)
@@ -229,14 +229,7 @@ pub accepted-by : (r : Rule) (s : List ℕ) → every identifierByte s ≡ true 
 unfolding checkOf
 accepted-by r s b l m f = rw (bytes-chars s b, within-both (r .least) (r .most) (length s) l m) f
 
--- ---- the checks as the Rust composes them, out of the general ones
-abbrev pub generalForm : Form → List ℕ → ℕ
-generalForm plain s = 0
-generalForm (indexed name) s = namedIndexOf s name
-
-abbrev pub generalOf : Rule → List ℕ → ℕ
-generalOf r s = first (charsOf s) (first (lengthOf s (r .least) (r .most)) (generalForm (r .form) s))
-
+-- ---- the checks as the Rust composes them
 -- what that takes of a rule: no identifier is empty, and its name is ASCII
 abbrev pub Named : Form → Type 0
 Named plain = Unit {0}

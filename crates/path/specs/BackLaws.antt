@@ -33,7 +33,8 @@ use Rattle.path.specs.Kinds.{Name, client, connection, port, channel, up
 use Rattle.path.specs.Read.{nameFault, valueOf, numberIn, fits, setName, adds, carriedFrom, fitFrom, componentCount, fitsKind, readFirst, nameIn, show, shown, render, partsOf, textsOf, renderPath, namesFault, renderOf, readingOf, readPath, keyBy, keyOf}
 use Rattle.path.specs.View.{kindOf, carriedOf}
 use Rattle.path.specs.Valid.{Valid, setText, setCount, setPair, only, ReadsAs}
-use Rattle.path.specs.ReadLaws.{fitAll, kind-fits, Has, has-both, read-has, kinds-apart, made-range, made-parts, made-carried, kindAt, kind-has, made-kind, kind-parts, path-made, Reads, is-reads}
+use Rattle.path.specs.Reads.{Has, kindAt, Reads}
+use Rattle.path.specs.ReadLaws.{fitAll, kind-fits, has-both, read-has, kinds-apart, made-range, made-parts, made-carried, kind-has, made-kind, kind-parts, path-made, is-reads}
 use Rattle.path.specs.ExactLaws.{own, ownFrom, name-set, shown-made, render-made, rendering-not-longer}
 
 -- ---- the bytes of a rendering

@@ -24,7 +24,8 @@ use Rattle.path.specs.Text.{components, component, cutAt, joinBy, join, 
 use Rattle.path.specs.TextLaws.{part-component, join-cons, join-cut}
 use Rattle.path.specs.Kinds.{Name, client, connection, port, channel, upgrade, Part, word, name, count, pair, Carried, Kind, kinds, kind1, kind2, kind3, kind4, kind5, kind6, kind7, kind8, kind9, kind10, kind11, kind12, kind13, kind14, kind15, kind16, kind17, kind18, kind19}
 use Rattle.path.specs.Read.{valueOf, isNumber, numberIn, arePair, fits, setName, adds, carriedFrom, fitFrom, componentCount, fitsKind, nameIn, show, shown, render, textsOf, renderPath}
-use Rattle.path.specs.ReadLaws.{Has, has-both, made-parts, made-carried, Reads}
+use Rattle.path.specs.Reads.{Has, Reads}
+use Rattle.path.specs.ReadLaws.{has-both, made-parts, made-carried}
 
 -- ---- texts
 no-longer-same : (c : List ℕ) → NoLonger c c

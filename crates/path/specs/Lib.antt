@@ -10,6 +10,7 @@ pub mod MeasureLaws
 pub mod Parents
 pub mod PlaceLaws
 pub mod Read
+pub mod Reads
 pub mod ReadLaws
 pub mod Text
 pub mod TextLaws

@@ -14,7 +14,7 @@ use Rattle.path.specs.Text.{joinBy}
 use Rattle.path.specs.Kinds.{Name, client, connection, port, channel, upgrade, Part, word, name, count, pair, Carried, kinds, kind1, kind2, kind3, kind4, kind5, kind6, kind7, kind8, kind9, kind10, kind11, kind12, kind13, kind14, kind15, kind16, kind17, kind18, kind19}
 use Rattle.path.specs.Read.{nameIn, show, render, partsOf}
 use Rattle.path.specs.ReadLaws.{has-both, kind-has, kind-parts}
-use Rattle.path.specs.Length.{nameLength, partLength, renderLength, fixed, namesIn, numbersIn, nameCount, numberCount, firstOf}
+use Rattle.path.specs.Length.{nameLength, partLength, renderLength, fixed, namesIn, numbersIn, nameCount, numberCount, sizes, firstOf}
 
 -- ---- a rendering is that long
 abbrev pub lengths : Carried (List ℕ) → Carried ℕ
@@ -84,10 +84,6 @@ unfolding firstOf
 first-of-most zero x y = omega arith
 first-of-most (suc zero) x y = omega arith
 first-of-most (suc (suc n)) x y = omega arith
-
--- ---- the table of the code: what a kind has, as one number
-unfoldable pub sizes : List Part → ℕ
-sizes ps = fixed ps + 256 * (nameCount ps + 16 * numberCount ps)
 
 fixed-held : map (λ e. sizes (e .parts) % 256) kinds ≡ map (λ e. fixed (e .parts)) kinds
 unfolding sizes fixed nameCount numberCount kinds kind1 kind2 kind3 kind4 kind5 kind6 kind7 kind8 kind9 kind10 kind11 kind12 kind13 kind14 kind15 kind16 kind17 kind18 kind19

@@ -14,7 +14,8 @@ use Rattle.path.specs.TextLaws.{place-within}
 use Rattle.path.specs.Kinds.{Name, client, connection, port, channel, upgrade, Part, word, name, count, pair, Carried}
 use Rattle.path.specs.Read.{setName, adds, carriedFrom, textsOf}
 use Rattle.path.specs.View.{carriedOf}
-use Rattle.path.specs.ReadLaws.{Reads, made-carried}
+use Rattle.path.specs.Reads.{Reads}
+use Rattle.path.specs.ReadLaws.{made-carried}
 
 -- a place that ends in the text lies in it
 within-lies : (t : List ℕ) (p : Place) → p .start + p .len ≤ length t → liesIn t p ≡ true

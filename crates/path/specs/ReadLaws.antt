@@ -20,6 +20,7 @@ use Rattle.path.specs.declared.PathAnswer.the-variants.{Found, Nothing}
 use Rattle.path.specs.Text.{components}
 use Rattle.path.specs.Kinds.{Part, word, name, count, pair, Carried, Kind, kinds, kind1, kind2, kind3, kind4, kind5, kind6, kind7, kind8, kind9, kind10, kind11, kind12, kind13, kind14, kind15, kind16, kind17, kind18, kind19}
 use Rattle.path.specs.Read.{fits, carriedFrom, fitFrom, componentCount, fitsKind, readKind, orElse, readFirst, partsOf}
+use Rattle.path.specs.Reads.{Has, here, later, Reads, kindAt}
 use Rattle.path.specs.View.{kindOf, carriedOf}
 
 -- ---- a text fits a kind where its components, one by one, fit the parts
@@ -116,11 +117,6 @@ pub kinds-apart : apartAll kinds ≡ true
 unfolding kinds kind1 kind2 kind3 kind4 kind5 kind6 kind7 kind8 kind9 kind10 kind11 kind12 kind13 kind14 kind15 kind16 kind17 kind18 kind19 same
 kinds-apart = refl
 
--- a list of kinds has the kind e
-pub data Has : List Kind → Kind → Type 0 where
-  here : {e : Kind} {es : List Kind} → Has (e ∷ es) e
-  later : {e x : Kind} {es : List Kind} → Has es e → Has (x ∷ es) e
-
 clash-has : (x : Kind) {es : List Kind} {e : Kind} → Has es e → clashAll x es ≡ true → clash (x .parts) (e .parts) ≡ true
 clash-has x (here {e} {es}) h = and-left (clash (x .parts) (e .parts)) (clashAll x es) h
 clash-has x (later {e} {x = y} {es} m) h = clash-has x m (and-right (clash (x .parts) (y .parts)) (clashAll x es) h)
@@ -139,13 +135,7 @@ read-has t (later {e} {x} {es} m) a f =
         absurd (clash-fits (x .parts) (e .parts) (components t) d (sym (kind-fits x t) ∙ g) (sym (kind-fits e t) ∙ f))
     go false g ih = ih
 
--- ---- the reading as a relation: some kind of the table fits, and p is what it makes
-pub record Reads (t : List ℕ) (p : Path) : Type 0 where
-  pub kind : Kind
-  pub listed : Has kinds kind
-  pub fitting : fitsKind kind t ≡ true
-  pub made : p ≡ kind .make (carriedFrom 0 (kind .parts) t)
-
+-- ---- the relation and the function
 pub reads-is : {t : List ℕ} {p : Path} → Reads t p → readFirst kinds t ≡ Found p
 reads-is {t} {p} r = read-has t (r .listed) kinds-apart (r .fitting) ∙ ap Found (sym (r .made))
 
@@ -200,10 +190,6 @@ carried-all t = refl
 
 pub made-carried : {e : Kind} → Has kinds e → (t : List ℕ) → carriedOf (e .make (carriedFrom 0 (e .parts) t)) ≡ carriedFrom 0 (e .parts) t
 made-carried m t = has-both (λ e. carriedOf (e .make (carriedFrom 0 (e .parts) t))) (λ e. carriedFrom 0 (e .parts) t) m (carried-all t)
-
--- kind k, counted from 1
-abbrev pub kindAt : ℕ → Kind
-kindAt k = getD kinds (k - 1) kind1
 
 has-at : (es : List Kind) (i : ℕ) → i < length es → Has es (getD es i kind1)
 has-at [] i h = absurd (omega arith)

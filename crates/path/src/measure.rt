@@ -2,8 +2,7 @@
 ghost use mathlib.Core.Path.{_≡_};
 ghost use Prim.Native.Nat.{_+_, _^_, _≤_, _<_};
 ghost use Rattle.path.specs.Read.{partsOf};
-ghost use Rattle.path.specs.MeasureLaws.{sizes};
-ghost use Rattle.path.specs.Length.{renderLength, fixed, nameCount, numberCount, firstOf};
+ghost use Rattle.path.specs.Length.{renderLength, fixed, nameCount, numberCount, sizes, firstOf};
 
 // What a kind has, by hexadecimal digits: how many numbers, how many identifiers, and in two digits the bytes of its words,
 // slashes and dashes. A `match` is one load from a table, where a `const` array is laid out at each use.

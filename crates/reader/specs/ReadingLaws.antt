@@ -21,7 +21,8 @@ use Rattle.path.specs.Kinds.{Name, client, connection, port, channel, upgrade, 
 use Rattle.path.specs.Read.{partsOf, textsOf, renderPath, setName, carriedFrom, readFirst, readPath}
 use Rattle.path.specs.View.{kindOf, carriedOf, viewOf}
 use Rattle.path.specs.AsciiLaws.{first-low, kinds-low}
-use Rattle.path.specs.ReadLaws.{made-range, made-carried, Reads, is-reads}
+use Rattle.path.specs.Reads.{Reads}
+use Rattle.path.specs.ReadLaws.{made-range, made-carried, is-reads}
 use Rattle.path.specs.ExactLaws.{exact-by-length}
 use Rattle.path.specs.Length.{renderLength}
 use Rattle.path.specs.MeasureLaws.{render-length}
