@@ -20,9 +20,10 @@ use Rattle.path.specs.declared.Refusal.{Refusal}
 use Rattle.path.specs.declared.Refusal.the-variants.{TooLong, NotAscii, NotAPath}
 use Rattle.path.specs.declared.Reading.{Reading}
 use Rattle.path.specs.declared.Reading.the-variants.{Read, Refused}
-use Rattle.path.specs.Kinds.{Name, connection, channel, upgrade, Part, word, name, count, pair, Carried}
-use Rattle.path.specs.Kinds as kinds
-use Rattle.path.specs.Read.{nameFault, nameIn, namesFault, render, limited, partsOf, renderOf, readPath, keyBy, keyOf, bytesBy, readingBytes, refusalOf}
+use Rattle.path.specs.Kinds.{Part, word, name, count, pair, Carried, nameIn}
+use Rattle.path.specs.declared.name.Name.{Name}
+use Rattle.path.specs.declared.name.Name.the-variants.{Client, Connection, Port, Channel, Upgrade}
+use Rattle.path.specs.Read.{nameFault, namesFault, render, limited, partsOf, renderOf, readPath, keyBy, keyOf, bytesBy, readingBytes, refusalOf}
 use Rattle.path.specs.Parents.{textOf, consensusParent, packetsPath}
 use Rattle.demands.specs.Shape.{Listed, AllZero, Demand1}
 
@@ -130,11 +131,11 @@ module _ (P : ℕ → Type 0) (zero : P 0) where
       module _ (thirteen : P 13) where
         name-of : (n : Name) (c : List ℕ) → P (nameFault n c)
         unfolding nameFault
-        name-of kinds.client c = plain-of 9 64 c
-        name-of connection c = indexed-of 10 64 (bytes "connection") c
-        name-of kinds.port c = plain-of 2 128 c
-        name-of channel c = indexed-of 8 64 (bytes "channel") c
-        name-of upgrade c = both-of (unless 2 (ascii c)) (unless 13 (every (λ b. not (eqb b 47)) c)) (one-of 2 (ascii c) two) (one-of 13 (every (λ b. not (eqb b 47)) c) thirteen)
+        name-of Client c = plain-of 9 64 c
+        name-of Connection c = indexed-of 10 64 (bytes "connection") c
+        name-of Port c = plain-of 2 128 c
+        name-of Channel c = indexed-of 8 64 (bytes "channel") c
+        name-of Upgrade c = both-of (unless 2 (ascii c)) (unless 13 (every (λ b. not (eqb b 47)) c)) (one-of 2 (ascii c) two) (one-of 13 (every (λ b. not (eqb b 47)) c) thirteen)
 
         pub names-of : (ps : List Part) (v : Carried (List ℕ)) → P (namesFault ps v)
         unfolding namesFault

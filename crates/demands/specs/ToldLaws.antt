@@ -13,12 +13,9 @@ use Rattle.text.specs.NumberLaws.{length-big}
 use Rattle.path.specs.declared.Place.{Place}
 use Rattle.path.specs.declared.Path.{Path}
 use Rattle.path.specs.declared.Reading.the-variants.{Read}
-use Rattle.path.specs.Kinds.{Name, client, connection, port, channel, upgrade, Part, word, name, count, pair, Carried, Kind}
-use Rattle.path.specs.Text.{placeAt, nowhere}
-use Rattle.path.specs.TextLaws.{place-within}
-use Rattle.path.specs.Read.{setName, carriedFrom, placeBytes, readPath}
-use Rattle.path.specs.Reads.{Reads}
-use Rattle.path.specs.ReadLaws.{made-carried}
+use Rattle.path.specs.Kinds.{Carried}
+use Rattle.path.specs.PlaceLaws.{read-lies}
+use Rattle.path.specs.Read.{placeBytes, readPath}
 use Rattle.path.specs.View.{kindOf, carriedOf}
 use Rattle.path.specs.BackLaws.{read-reads, read-short, read-valid}
 use Rattle.demands.specs.Told.{bigFrom, bigAt, Told, told, toldOf}
@@ -36,28 +33,6 @@ big-back (suc n) v h =
     big-append 0 (bigEndian n (v / 256)) (v % 256 ∷ [])
     ∙ ap (λ (m : ℕ). m * 256 + v % 256) (big-back n (v / 256) (omega (arith, h, pow-suc 256 n)))
     ∙ omega arith
-
--- ---- places lie in the text
-record Within (t : List ℕ) (v : Carried Place) : Type 0 where
-  first : v .one .start + v .one .len ≤ length t
-  second : v .two .start + v .two .len ≤ length t
-
-set-within : (t : List ℕ) (n : Name) (p : Place) (v : Carried Place) → p .start + p .len ≤ length t → Within t v → Within t (setName n p v)
-set-within t client p v h w = record { first = h; second = w .second }
-set-within t connection p v h w = record { first = h; second = w .second }
-set-within t port p v h w = record { first = h; second = w .second }
-set-within t channel p v h w = record { first = w .first; second = h }
-set-within t upgrade p v h w = record { first = h; second = w .second }
-
-carried-within : (k : ℕ) (ps : List Part) (t : List ℕ) → Within t (carriedFrom k ps t)
-carried-within k [] t = record { first = omega arith; second = omega arith }
-carried-within k (word w ∷ ps) t = carried-within (k + 1) ps t
-carried-within k (name n ∷ ps) t = set-within t n (placeAt t k) (carriedFrom (k + 1) ps t) (place-within t k) (carried-within (k + 1) ps t)
-carried-within k (count ∷ ps) t = let w = carried-within (k + 1) ps t in record { first = w .first; second = w .second }
-carried-within k (pair ∷ ps) t = let w = carried-within (k + 1) ps t in record { first = w .first; second = w .second }
-
-read-within : (t : List ℕ) (p : Path) → Reads t p → Within t (carriedOf p)
-read-within t p r = rw (r .made, made-carried (r .listed) t) (carried-within 0 (r .kind .parts) t)
 
 -- ---- the 26 bytes
 abbrev pub bytes26 : Path → Bool → List ℕ
@@ -99,7 +74,7 @@ module _ (t : List ℕ) (p : Path) (e : Bool) (h : readPath t ≡ Read p e) wher
   pub told-back : told (bytes26 p e) ≡ toldOf p e
   unfolding told c x y
   told-back =
-      let w = read-within t p (read-reads t p e h) in
+      let w = read-lies t p (read-reads t p e h) in
       let u = read-valid t p e h in
       let bs : List ℕ = bytes26 p e in
       let head : List ℕ = kindOf p ∷ cond e 1 0 ∷ [] in
@@ -107,10 +82,10 @@ module _ (t : List ℕ) (p : Path) (e : Bool) (h : readPath t ≡ Read p e) wher
       let l₁ = c .one .len in
       let s₂ = c .two .start in
       let l₂ = c .two .len in
-      let p₁ : bigAt 2 2 bs ≡ s₁ = big-at head (x l₁ ++ (placeBytes (c .two) ++ (y (c .a) ++ y (c .b)))) 2 2 s₁ bs (simp append-assoc) refl (small s₁ (omega (arith, w .first))) in
-      let p₂ : bigAt 4 2 bs ≡ l₁ = big-at (head ++ x s₁) (placeBytes (c .two) ++ (y (c .a) ++ y (c .b))) 4 2 l₁ bs (simp append-assoc) (omega (arith, length-append head (x s₁), lx s₁)) (small l₁ (omega (arith, w .first))) in
-      let p₃ : bigAt 6 2 bs ≡ s₂ = big-at (head ++ placeBytes (c .one)) (x l₂ ++ (y (c .a) ++ y (c .b))) 6 2 s₂ bs (simp append-assoc) (omega (arith, length-append head (placeBytes (c .one)), length-append (x s₁) (x l₁), lx s₁, lx l₁)) (small s₂ (omega (arith, w .second))) in
-      let p₄ : bigAt 8 2 bs ≡ l₂ = big-at (head ++ (placeBytes (c .one) ++ x s₂)) (y (c .a) ++ y (c .b)) 8 2 l₂ bs (simp append-assoc) (omega (arith, length-append head (placeBytes (c .one) ++ x s₂), length-append (placeBytes (c .one)) (x s₂), length-append (x s₁) (x l₁), lx s₁, lx l₁, lx s₂)) (small l₂ (omega (arith, w .second))) in
+      let p₁ : bigAt 2 2 bs ≡ s₁ = big-at head (x l₁ ++ (placeBytes (c .two) ++ (y (c .a) ++ y (c .b)))) 2 2 s₁ bs (simp append-assoc) refl (small s₁ (omega (arith, w .0))) in
+      let p₂ : bigAt 4 2 bs ≡ l₁ = big-at (head ++ x s₁) (placeBytes (c .two) ++ (y (c .a) ++ y (c .b))) 4 2 l₁ bs (simp append-assoc) (omega (arith, length-append head (x s₁), lx s₁)) (small l₁ (omega (arith, w .0))) in
+      let p₃ : bigAt 6 2 bs ≡ s₂ = big-at (head ++ placeBytes (c .one)) (x l₂ ++ (y (c .a) ++ y (c .b))) 6 2 s₂ bs (simp append-assoc) (omega (arith, length-append head (placeBytes (c .one)), length-append (x s₁) (x l₁), lx s₁, lx l₁)) (small s₂ (omega (arith, w .1))) in
+      let p₄ : bigAt 8 2 bs ≡ l₂ = big-at (head ++ (placeBytes (c .one) ++ x s₂)) (y (c .a) ++ y (c .b)) 8 2 l₂ bs (simp append-assoc) (omega (arith, length-append head (placeBytes (c .one) ++ x s₂), length-append (placeBytes (c .one)) (x s₂), length-append (x s₁) (x l₁), lx s₁, lx l₁, lx s₂)) (small l₂ (omega (arith, w .1))) in
       let p₅ : bigAt 10 8 bs ≡ c .a = big-at (head ++ (placeBytes (c .one) ++ placeBytes (c .two))) (y (c .b)) 10 8 (c .a) bs (simp append-assoc) (omega (arith, length-append head (placeBytes (c .one) ++ placeBytes (c .two)), length-append (placeBytes (c .one)) (placeBytes (c .two)), length-append (x s₁) (x l₁), length-append (x s₂) (x l₂), lx s₁, lx l₁, lx s₂, lx l₂)) (large (c .a) (u .a)) in
       let p₆ : bigAt 18 8 bs ≡ c .b = big-at (head ++ (placeBytes (c .one) ++ (placeBytes (c .two) ++ y (c .a)))) [] 18 8 (c .b) bs (simp (append-assoc, append-nil)) (omega (arith, length-append head (placeBytes (c .one) ++ (placeBytes (c .two) ++ y (c .a))), length-append (placeBytes (c .one)) (placeBytes (c .two) ++ y (c .a)), length-append (placeBytes (c .two)) (y (c .a)), length-append (x s₁) (x l₁), length-append (x s₂) (x l₂), lx s₁, lx l₁, lx s₂, lx l₂, ly (c .a))) (large (c .b) (u .b)) in
       λ i. record { kind = kindOf p; mark = cond e 1 0; first = record { start = p₁ i; len = p₂ i }; second = record { start = p₃ i; len = p₄ i }; a = p₅ i; b = p₆ i }

@@ -34,7 +34,8 @@ use Rattle.parse.specs.declared.pieces.HeightAnswer.the-variants.{Height
 use Rattle.parse.specs.declared.pieces.RevisionAnswer.{RevisionAnswer}
 use Rattle.parse.specs.declared.pieces.RevisionAnswer.the-variants.{Revision, Nothing as NoRevision}
 use Rattle.path.specs.Text.{component}
-use Rattle.path.specs.Kinds.{Name, Part, word, name, count}
+use Rattle.path.specs.Kinds.{Part, word, name, count}
+use Rattle.path.specs.declared.name.Name.{Name}
 use Rattle.path.specs.Read.{nameFault, numberIn, fits, fitFrom}
 
 -- ---- what the code's tests tell. A word is asked for by `is_word`, whose answer is r

@@ -27,7 +27,9 @@ use Rattle.parse.specs.declared.pieces.ChannelAnswer.the-variants.{Chann
 use Rattle.parse.specs.declared.pieces.PacketAnswer.{PacketAnswer}
 use Rattle.parse.specs.declared.pieces.PacketAnswer.the-variants.{Packet, Nothing as NoPacket}
 use Rattle.path.specs.Text.{cutAt, component, placeAt}
-use Rattle.path.specs.Kinds.{Name, client, port, channel, Part, word, name, count, pair}
+use Rattle.path.specs.Kinds.{Part, word, name, count, pair}
+use Rattle.path.specs.declared.name.Name.{Name}
+use Rattle.path.specs.declared.name.Name.the-variants.{Client as client, Port as port, Channel as channel}
 use Rattle.path.specs.Read.{numberIn, fits, fitFrom}
 
 -- ---- the parts

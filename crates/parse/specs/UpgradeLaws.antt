@@ -9,7 +9,8 @@ use lib.ListN.{getD}
 use Rattle.text.specs.Part.{every, ascii}
 use Rattle.text.specs.PartLaws.{and-left, and-right}
 use Rattle.path.specs.Text.{cutAt, cutStep, component}
-use Rattle.path.specs.Kinds.{name, upgrade}
+use Rattle.path.specs.Kinds.{name}
+use Rattle.path.specs.declared.name.Name.the-variants.{Upgrade as upgrade}
 use Rattle.path.specs.Read.{nameFault, fits}
 
 -- what each byte but x passes, each byte of a text between two x passes

@@ -10,12 +10,14 @@ use path::Place;
 use path::RevisionHeight;
 use path::RevisionNumber;
 use path::Sequence;
+use path::name::Name;
+use path::name::name_fault;
 use text::Numeral;
 ghost use mathlib.Core.Path.{_≡_};
 ghost use Prim.Native.Nat.{_+_, _<_};
 ghost use Rattle.text.specs.Bytes.{bytes};
 ghost use Rattle.path.specs.Cut.{cutOf};
-ghost use Rattle.path.specs.Kinds.{client, connection, port, channel};
+ghost use Rattle.path.specs.declared.name.Name.the-variants.{Client as client, Connection as connection, Port as port, Channel as channel};
 ghost use Rattle.parse.specs.Pieces.{placeAfter, sequenceAfter, heightAt, revisionAfter, revisionIn, firstDash, consensusIn, endsIn, packetIn};
 
 pub enum PlaceAnswer {
@@ -53,18 +55,26 @@ pub enum PacketAnswer {
     Nothing,
 }
 
+// The word w at component k, and an identifier after it.
+fn read_name(text: &[u8], cut: Cut, k: usize, w: &[u8], name: Name) -> PlaceAnswer
+    requires { ⌜ (cut ≡ cutOf (now text)) × (k + 1 < cut .count) × (cut .count < 8) ⌝ }
+    ensures { λ r. ⌜ r ≡ placeAfter (now (w .entry)) name (now (text .entry)) k ⌝ }
+{
+    if !is_word(text, cut, k, w) {
+        return PlaceAnswer::Nothing;
+    }
+    if name_fault(name, component_at(text, cut, k + 1)) != 0 {
+        return PlaceAnswer::Nothing;
+    }
+    PlaceAnswer::At(place_at(text, cut, k + 1))
+}
+
 // `clients` at component k, and a client after it.
 pub(crate) fn read_client(text: &[u8], cut: Cut, k: usize) -> PlaceAnswer
     requires { ⌜ (cut ≡ cutOf (now text)) × (k + 1 < cut .count) × (cut .count < 8) ⌝ }
     ensures { λ r. ⌜ r ≡ placeAfter (bytes "clients") client (now (text .entry)) k ⌝ }
 {
-    if !is_word(text, cut, k, b"clients") {
-        return PlaceAnswer::Nothing;
-    }
-    if identifiers::validate::validate_client_identifier(component_at(text, cut, k + 1)) != 0 {
-        return PlaceAnswer::Nothing;
-    }
-    PlaceAnswer::At(place_at(text, cut, k + 1))
+    read_name(text, cut, k, b"clients", Name::Client)
 }
 
 // `connections` at component k, and a connection after it.
@@ -72,13 +82,7 @@ pub(crate) fn read_connection(text: &[u8], cut: Cut, k: usize) -> PlaceAnswer
     requires { ⌜ (cut ≡ cutOf (now text)) × (k + 1 < cut .count) × (cut .count < 8) ⌝ }
     ensures { λ r. ⌜ r ≡ placeAfter (bytes "connections") connection (now (text .entry)) k ⌝ }
 {
-    if !is_word(text, cut, k, b"connections") {
-        return PlaceAnswer::Nothing;
-    }
-    if identifiers::validate::validate_connection_identifier(component_at(text, cut, k + 1)) != 0 {
-        return PlaceAnswer::Nothing;
-    }
-    PlaceAnswer::At(place_at(text, cut, k + 1))
+    read_name(text, cut, k, b"connections", Name::Connection)
 }
 
 // `ports` at component k, and a port after it.
@@ -86,13 +90,7 @@ pub(crate) fn read_port(text: &[u8], cut: Cut, k: usize) -> PlaceAnswer
     requires { ⌜ (cut ≡ cutOf (now text)) × (k + 1 < cut .count) × (cut .count < 8) ⌝ }
     ensures { λ r. ⌜ r ≡ placeAfter (bytes "ports") port (now (text .entry)) k ⌝ }
 {
-    if !is_word(text, cut, k, b"ports") {
-        return PlaceAnswer::Nothing;
-    }
-    if identifiers::validate::validate_port_identifier(component_at(text, cut, k + 1)) != 0 {
-        return PlaceAnswer::Nothing;
-    }
-    PlaceAnswer::At(place_at(text, cut, k + 1))
+    read_name(text, cut, k, b"ports", Name::Port)
 }
 
 // `channels` at component k, and a channel after it.
@@ -100,13 +98,7 @@ fn read_channel(text: &[u8], cut: Cut, k: usize) -> PlaceAnswer
     requires { ⌜ (cut ≡ cutOf (now text)) × (k + 1 < cut .count) × (cut .count < 8) ⌝ }
     ensures { λ r. ⌜ r ≡ placeAfter (bytes "channels") channel (now (text .entry)) k ⌝ }
 {
-    if !is_word(text, cut, k, b"channels") {
-        return PlaceAnswer::Nothing;
-    }
-    if identifiers::validate::validate_channel_identifier(component_at(text, cut, k + 1)) != 0 {
-        return PlaceAnswer::Nothing;
-    }
-    PlaceAnswer::At(place_at(text, cut, k + 1))
+    read_name(text, cut, k, b"channels", Name::Channel)
 }
 
 // `sequences` at component k, and a number after it.

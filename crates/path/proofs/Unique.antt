@@ -6,6 +6,7 @@ use Rattle.path.proofs.view.Reads as view
 use Rattle.path.proofs.is_provable.Reads as is-provable
 use Rattle.path.proofs.refusal_number.Reads as refusal-number
 use Rattle.path.proofs.measure.render_length.Reads as render-length
+use Rattle.path.proofs.name.name_fault.Reads as name-fault
 use Rattle.path.proofs.number.refusal_of.Reads as refusal-of
 use Rattle.path.proofs.number.kind_is_provable.Reads as kind-is-provable
 
@@ -26,3 +27,6 @@ one-refusal-of κs a r₁ r₂ s₁ s₂ p q = p ∙ sym q
 
 pub one-kind-is-provable : One kind-is-provable.Post
 one-kind-is-provable κs a r₁ r₂ s₁ s₂ p q = p ∙ sym q
+
+pub one-name-fault : One name-fault.Post
+one-name-fault κs a r₁ r₂ s₁ s₂ p q = p ∙ sym q

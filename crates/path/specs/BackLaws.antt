@@ -29,10 +29,12 @@ use Rattle.path.specs.declared.Reading.{Reading}
 use Rattle.path.specs.declared.Reading.the-variants.{Read, Refused}
 use Rattle.path.specs.Text.{components, component, cutAt, joinBy, join, placeAt, partOf}
 use Rattle.path.specs.TextLaws.{part-component, without, allWithout, cut-join, every-append, every-all, every-both, everyIn, every-join}
-use Rattle.path.specs.Kinds.{Name, client, connection, port, channel, upgrade, Part, word, name, count, pair, Carried, Kind, kinds, kind1, kind2, kind3, kind4, kind5, kind6, kind7, kind8, kind9, kind10, kind11, kind12, kind13, kind14, kind15, kind16, kind17, kind18, kind19}
-use Rattle.path.specs.Read.{nameFault, valueOf, numberIn, fits, setName, adds, carriedFrom, fitFrom, componentCount, fitsKind, readFirst, nameIn, show, shown, render, partsOf, textsOf, renderPath, namesFault, renderOf, readingOf, readPath, keyBy, keyOf}
+use Rattle.path.specs.Kinds.{Part, word, name, count, pair, Carried, Kind, kinds, kind1, kind2, kind3, kind4, kind5, kind6, kind7, kind8, kind9, kind10, kind11, kind12, kind13, kind14, kind15, kind16, kind17, kind18, kind19, nameIn, setName}
+use Rattle.path.specs.declared.name.Name.{Name}
+use Rattle.path.specs.declared.name.Name.the-variants.{Client as client, Connection as connection, Port as port, Channel as channel, Upgrade as upgrade}
+use Rattle.path.specs.Read.{nameFault, valueOf, numberIn, fits, adds, carriedFrom, fitFrom, componentCount, fitsKind, readFirst, show, shown, render, partsOf, textsOf, renderPath, namesFault, renderOf, readingOf, readPath, keyBy, keyOf}
 use Rattle.path.specs.View.{kindOf, carriedOf}
-use Rattle.path.specs.Valid.{Valid, setText, setCount, setPair, only, ReadsAs}
+use Rattle.path.specs.Valid.{Valid, setCount, setPair, only, ReadsAs}
 use Rattle.path.specs.Reads.{Has, kindAt, Reads}
 use Rattle.path.specs.ReadLaws.{fitAll, kind-fits, has-both, read-has, kinds-apart, made-range, made-parts, made-carried, kind-has, made-kind, kind-parts, path-made, is-reads}
 use Rattle.path.specs.ExactLaws.{own, ownFrom, name-set, shown-made, render-made, rendering-not-longer}
@@ -128,7 +130,7 @@ drop-step cs k c rest h = go (ltb k (length cs)) refl
     go true e = let d = drop-cons cs k [] (ltb-true k (length cs) e) in (cc, rw add-one cc)
     go false e = let d = drop-of-length-le cs (ltb-false k (length cs) e) in let z : _≡_ {A = ℕ} 0 1 = cc in absurd (omega arith)
 
-texts-name : (n : Name) (t : List ℕ) (p : Place) (v : Carried Place) → textsOf t (setName n p v) ≡ setText n (partOf t p) (textsOf t v)
+texts-name : (n : Name) (t : List ℕ) (p : Place) (v : Carried Place) → textsOf t (setName n p v) ≡ setName n (partOf t p) (textsOf t v)
 texts-name client t p v = refl
 texts-name connection t p v = refl
 texts-name port t p v = refl
@@ -145,7 +147,7 @@ texts-back k (p ∷ ps) t v a b h =
   where
     go : (q : Part) → component t k ≡ show q v → textsOf t (carriedFrom (k + 1) ps t) ≡ only ps v → textsOf t (adds q (component t k) (placeAt t k) (carriedFrom (k + 1) ps t)) ≡ only (q ∷ ps) v
     go (word w) e r = r
-    go (name n) e r = rw (texts-name n t (placeAt t k) (carriedFrom (k + 1) ps t), part-component t k, e) (ap (setText n (nameIn n v)) r)
+    go (name n) e r = rw (texts-name n t (placeAt t k) (carriedFrom (k + 1) ps t), part-component t k, e) (ap (setName n (nameIn n v)) r)
     go count e r = rw (e, read-decimal (v .a) a) (ap (setCount (v .a)) r)
     go pair e r = rw (e, pair-back (v .a) (v .b), read-decimal (v .a) a, read-decimal (v .b) b) (ap (setPair (v .a) (v .b)) r)
 

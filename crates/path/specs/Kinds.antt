@@ -4,12 +4,10 @@ use Prim.Native.Nat.{ℕ}
 use mathlib.Core.List.{List, [], _∷_}
 use Rattle.text.specs.Bytes.{bytes}
 use Rattle.path.specs.declared.Place.{Place}
+use Rattle.path.specs.declared.name.Name.{Name}
+use Rattle.path.specs.declared.name.Name.the-variants.{Client as client, Connection as connection, Port as port, Channel as channel, Upgrade as upgrade}
 use Rattle.path.specs.declared.Path.{Path}
 use Rattle.path.specs.declared.Path.the-variants.{NextClientSequence, NextConnectionSequence, NextChannelSequence, ClientState, ClientConsensusState, ClientUpdateTime, ClientUpdateHeight, ClientConnection, Connection, Ports, ChannelEnd, SeqSend, SeqRecv, SeqAck, Commitment, Ack, Receipt, UpgradeClientState, UpgradeConsensusState}
-
--- what an identifier is checked as: C, K, P, H, and U
-pub data Name : Type 0 where
-  client connection port channel upgrade : Name
 
 -- what one component of a path is: a fixed word, an identifier, a number (S or n), or two with a dash between (R-h)
 pub data Part : Type 0 where
@@ -27,6 +25,32 @@ pub record Carried (A : Type 0) : Type 0 where
 
 abbrev pub carried : {A : Type 0} → A → A → ℕ → ℕ → Carried A
 carried one two a b = record { one = one; two = two; a = a; b = b }
+
+-- which of the two identifiers of a path it is: a channel is the second, and all others are the first
+pub data Which : Type 0 where
+  the-first the-second : Which
+
+abbrev pub whichOf : Name → Which
+whichOf client = the-first
+whichOf connection = the-first
+whichOf port = the-first
+whichOf channel = the-second
+whichOf upgrade = the-first
+
+abbrev pub taken : {A : Type 0} → Which → Carried A → A
+taken the-first v = v .one
+taken the-second v = v .two
+
+abbrev pub placed : {A : Type 0} → Which → A → Carried A → Carried A
+placed the-first x v = record { one = x; two = v .two; a = v .a; b = v .b }
+placed the-second x v = record { one = v .one; two = x; a = v .a; b = v .b }
+
+-- an identifier of what a path carries, and that with another in its place
+abbrev pub nameIn : {A : Type 0} → Name → Carried A → A
+nameIn n v = taken (whichOf n) v
+
+abbrev pub setName : {A : Type 0} → Name → A → Carried A → Carried A
+setName n x v = placed (whichOf n) x v
 
 -- a kind: its components, and the typed path that carries these places and numbers
 pub record Kind : Type 0 where

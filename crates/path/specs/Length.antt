@@ -4,19 +4,13 @@ use Prim.Native.Nat.{ℕ, zero, suc, _+_, _*_}
 use mathlib.Core.List.{List, [], _∷_}
 use lib.ListN.{length}
 use Rattle.text.specs.Number.{width}
-use Rattle.path.specs.Kinds.{Name, client, connection, port, channel, upgrade, Part, word, name, count, pair, Carried}
-
--- the length of an identifier, where v has both lengths
-abbrev pub nameLength : Name → Carried ℕ → ℕ
-nameLength client v = v .one
-nameLength connection v = v .one
-nameLength port v = v .one
-nameLength channel v = v .two
-nameLength upgrade v = v .one
+use Rattle.path.specs.Kinds.{Part, word, name, count, pair, Carried, nameIn}
+use Rattle.path.specs.declared.name.Name.{Name}
+use Rattle.path.specs.declared.name.Name.the-variants.{Client as client, Connection as connection, Port as port, Channel as channel, Upgrade as upgrade}
 
 abbrev pub partLength : Part → Carried ℕ → ℕ
 partLength (word w) v = length w
-partLength (name n) v = nameLength n v
+partLength (name n) v = nameIn n v
 partLength count v = width (v .a)
 partLength pair v = width (v .a) + suc (width (v .b))
 
@@ -41,7 +35,7 @@ fixed (p ∷ (q ∷ ps)) = fixedPart p + suc (fixed (q ∷ ps))
 unfoldable pub namesIn : List Part → Carried ℕ → ℕ
 namesIn [] v = 0
 namesIn (word w ∷ ps) v = namesIn ps v
-namesIn (name n ∷ ps) v = nameLength n v + namesIn ps v
+namesIn (name n ∷ ps) v = nameIn n v + namesIn ps v
 namesIn (count ∷ ps) v = namesIn ps v
 namesIn (pair ∷ ps) v = namesIn ps v
 

@@ -19,8 +19,10 @@ use Rattle.identifiers.specs.CheckLaws.{first-zero, accepted-length}
 use Rattle.path.specs.declared.Path.{Path}
 use Rattle.path.specs.declared.Reading.the-variants.{Read}
 use Rattle.path.specs.Text.{joinBy}
-use Rattle.path.specs.Kinds.{Name, client, connection, port, channel, upgrade, Part, word, name, count, pair, Carried, kinds, kind1, kind2, kind3, kind4, kind5, kind6, kind7, kind8, kind9, kind10, kind11, kind12, kind13, kind14, kind15, kind16, kind17, kind18, kind19}
-use Rattle.path.specs.Read.{nameFault, nameIn, show, shown, render, partsOf, namesFault, renderPath, readPath}
+use Rattle.path.specs.Kinds.{Part, word, name, count, pair, Carried, kinds, kind1, kind2, kind3, kind4, kind5, kind6, kind7, kind8, kind9, kind10, kind11, kind12, kind13, kind14, kind15, kind16, kind17, kind18, kind19, nameIn}
+use Rattle.path.specs.declared.name.Name.{Name}
+use Rattle.path.specs.declared.name.Name.the-variants.{Client as client, Connection as connection, Port as port, Channel as channel, Upgrade as upgrade}
+use Rattle.path.specs.Read.{nameFault, show, shown, render, partsOf, namesFault, renderPath, readPath}
 use Rattle.path.specs.Valid.{Valid}
 use Rattle.path.specs.ReadLaws.{upFrom, up-at}
 use Rattle.path.specs.ExactLaws.{rendering-not-longer}

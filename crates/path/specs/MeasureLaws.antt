@@ -11,16 +11,18 @@ use borrow.Author.Tests.{leb-true}
 use Rattle.text.specs.Number.{width, decimal}
 use Rattle.text.specs.NumberLaws.{length-decimal}
 use Rattle.path.specs.Text.{joinBy}
-use Rattle.path.specs.Kinds.{Name, client, connection, port, channel, upgrade, Part, word, name, count, pair, Carried, kinds, kind1, kind2, kind3, kind4, kind5, kind6, kind7, kind8, kind9, kind10, kind11, kind12, kind13, kind14, kind15, kind16, kind17, kind18, kind19}
-use Rattle.path.specs.Read.{nameIn, show, render, partsOf}
+use Rattle.path.specs.Kinds.{Part, word, name, count, pair, Carried, kinds, kind1, kind2, kind3, kind4, kind5, kind6, kind7, kind8, kind9, kind10, kind11, kind12, kind13, kind14, kind15, kind16, kind17, kind18, kind19, nameIn}
+use Rattle.path.specs.declared.name.Name.{Name}
+use Rattle.path.specs.declared.name.Name.the-variants.{Client as client, Connection as connection, Port as port, Channel as channel, Upgrade as upgrade}
+use Rattle.path.specs.Read.{show, render, partsOf}
 use Rattle.path.specs.ReadLaws.{has-both, kind-has, kind-parts}
-use Rattle.path.specs.Length.{nameLength, partLength, renderLength, fixed, namesIn, numbersIn, nameCount, numberCount, sizes, firstOf}
+use Rattle.path.specs.Length.{partLength, renderLength, fixed, namesIn, numbersIn, nameCount, numberCount, sizes, firstOf}
 
 -- ---- a rendering is that long
 abbrev pub lengths : Carried (List ℕ) → Carried ℕ
 lengths v = record { one = length (v .one); two = length (v .two); a = v .a; b = v .b }
 
-name-length : (n : Name) (v : Carried (List ℕ)) → length (nameIn n v) ≡ nameLength n (lengths v)
+name-length : (n : Name) (v : Carried (List ℕ)) → length (nameIn n v) ≡ nameIn n (lengths v)
 name-length client v = refl
 name-length connection v = refl
 name-length port v = refl

@@ -9,22 +9,21 @@ use lib.ListN.{length}
 use borrow.Author.Tests.{le-leb}
 use Rattle.path.specs.declared.Place.{Place}
 use Rattle.path.specs.declared.Path.{Path}
-use Rattle.path.specs.Text.{component, placeAt, nowhere, partOf, liesIn, shownOf}
+use Rattle.path.specs.Text.{placeAt, partOf, shownOf}
 use Rattle.path.specs.TextLaws.{place-within}
-use Rattle.path.specs.Kinds.{Name, client, connection, port, channel, upgrade, Part, word, name, count, pair, Carried}
-use Rattle.path.specs.Read.{setName, adds, carriedFrom, textsOf}
+use Rattle.path.specs.Kinds.{Part, word, name, count, pair, Carried, setName}
+use Rattle.path.specs.declared.name.Name.{Name}
+use Rattle.path.specs.declared.name.Name.the-variants.{Client as client, Connection as connection, Port as port, Channel as channel, Upgrade as upgrade}
+use Rattle.path.specs.Read.{adds, carriedFrom, textsOf}
 use Rattle.path.specs.View.{carriedOf}
 use Rattle.path.specs.Reads.{Reads}
 use Rattle.path.specs.ReadLaws.{made-carried}
 
--- a place that ends in the text lies in it
-within-lies : (t : List ℕ) (p : Place) → p .start + p .len ≤ length t → liesIn t p ≡ true
-within-lies t p h = rw (le-leb (p .start) (length t) (omega arith), le-leb (p .len) (length t - p .start) (omega arith))
+-- the places end in the text
+abbrev pub Lie : List ℕ → Carried Place → Type 0
+Lie t v = (v .one .start + v .one .len ≤ length t) × (v .two .start + v .two .len ≤ length t)
 
-abbrev Lie : List ℕ → Carried Place → Type 0
-Lie t v = (liesIn t (v .one) ≡ true) × (liesIn t (v .two) ≡ true)
-
-name-lies : (t : List ℕ) (n : Name) (p : Place) (v : Carried Place) → liesIn t p ≡ true → Lie t v → Lie t (setName n p v)
+name-lies : (t : List ℕ) (n : Name) (p : Place) (v : Carried Place) → p .start + p .len ≤ length t → Lie t v → Lie t (setName n p v)
 name-lies t client p v h l = (h, l .1)
 name-lies t connection p v h l = (h, l .1)
 name-lies t port p v h l = (h, l .1)
@@ -32,19 +31,22 @@ name-lies t channel p v h l = (l .0, h)
 name-lies t upgrade p v h l = (h, l .1)
 
 carried-lies : (t : List ℕ) (k : ℕ) (ps : List Part) → Lie t (carriedFrom k ps t)
-carried-lies t k [] = let e = within-lies t nowhere (omega arith) in (e, e)
+carried-lies t k [] = (omega arith, omega arith)
 carried-lies t k (word w ∷ ps) = carried-lies t (k + 1) ps
-carried-lies t k (name n ∷ ps) = name-lies t n (placeAt t k) (carriedFrom (k + 1) ps t) (within-lies t (placeAt t k) (place-within t k)) (carried-lies t (k + 1) ps)
+carried-lies t k (name n ∷ ps) = name-lies t n (placeAt t k) (carriedFrom (k + 1) ps t) (place-within t k) (carried-lies t (k + 1) ps)
 carried-lies t k (count ∷ ps) = carried-lies t (k + 1) ps
 carried-lies t k (pair ∷ ps) = carried-lies t (k + 1) ps
 
-shown-lies : (t : List ℕ) (p : Place) → liesIn t p ≡ true → shownOf t p ≡ partOf t p
+pub read-lies : (t : List ℕ) (p : Path) → Reads t p → Lie t (carriedOf p)
+read-lies t p r =
+    let e = ap carriedOf (r .made) ∙ made-carried (r .listed) t in
+    let l = carried-lies t 0 (r .kind .parts) in
+    (rw e (l .0), rw e (l .1))
+
+shown-lies : (t : List ℕ) (p : Place) → p .start + p .len ≤ length t → shownOf t p ≡ partOf t p
 unfolding shownOf
-shown-lies t p h = rw h
+shown-lies t p h = rw (le-leb (p .start) (length t) (omega arith), le-leb (p .len) (length t - p .start) (omega arith))
 
 -- what is shown of the identifiers of what was read
 pub shown-read : (t : List ℕ) (p : Path) → Reads t p → (shownOf t (carriedOf p .one) ≡ partOf t (carriedOf p .one)) × (shownOf t (carriedOf p .two) ≡ partOf t (carriedOf p .two))
-shown-read t p r =
-    let e = ap carriedOf (r .made) ∙ made-carried (r .listed) t in
-    let l = carried-lies t 0 (r .kind .parts) in
-    (shown-lies t _ (rw e (l .0)), shown-lies t _ (rw e (l .1)))
+shown-read t p r = let l = read-lies t p r in (shown-lies t _ (l .0), shown-lies t _ (l .1))

@@ -22,7 +22,9 @@ use Rattle.path.specs.declared.Refusal.the-variants.{TooLong, NotAscii, 
 use Rattle.path.specs.declared.Reading.{Reading}
 use Rattle.path.specs.declared.Reading.the-variants.{Read, Refused}
 use Rattle.path.specs.Text.{components, component, cutAt, join, placeAt, nowhere, partOf}
-use Rattle.path.specs.Kinds.{Name, client, connection, port, channel, upgrade, Part, word, name, count, pair, Carried, Kind, kinds}
+use Rattle.path.specs.Kinds.{Part, word, name, count, pair, Carried, nameIn, setName, Kind, kinds}
+use Rattle.path.specs.declared.name.Name.{Name}
+use Rattle.path.specs.declared.name.Name.the-variants.{Client as client, Connection as connection, Port as port, Channel as channel, Upgrade as upgrade}
 use Rattle.path.specs.View.{kindOf, carriedOf}
 
 -- ---- one component
@@ -62,13 +64,6 @@ fits count c = isNumber c
 fits pair c = arePair (cutAt 45 c)
 
 -- ---- reading
-abbrev pub setName : Name → Place → Carried Place → Carried Place
-setName client p v = record { one = p; two = v .two; a = v .a; b = v .b }
-setName connection p v = record { one = p; two = v .two; a = v .a; b = v .b }
-setName port p v = record { one = p; two = v .two; a = v .a; b = v .b }
-setName channel p v = record { one = v .one; two = p; a = v .a; b = v .b }
-setName upgrade p v = record { one = p; two = v .two; a = v .a; b = v .b }
-
 -- what the component c, at the place p, adds to what the components after it carry
 abbrev pub adds : Part → List ℕ → Place → Carried Place → Carried Place
 adds (word w) c p v = v
@@ -105,13 +100,6 @@ readFirst [] t = Nothing
 readFirst (e ∷ es) t = orElse (readKind e t) (readFirst es t)
 
 -- ---- rendering
-abbrev pub nameIn : Name → Carried (List ℕ) → List ℕ
-nameIn client v = v .one
-nameIn connection v = v .one
-nameIn port v = v .one
-nameIn channel v = v .two
-nameIn upgrade v = v .one
-
 unfoldable pub show : Part → Carried (List ℕ) → List ℕ
 show (word w) v = w
 show (name n) v = nameIn n v

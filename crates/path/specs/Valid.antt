@@ -7,8 +7,10 @@ use mathlib.Core.List.{List, [], _∷_}
 use lib.ListN.{length}
 use Rattle.path.specs.declared.Path.{Path}
 use Rattle.path.specs.declared.Reading.the-variants.{Read}
-use Rattle.path.specs.Kinds.{Name, client, connection, port, channel, upgrade, Part, word, name, count, pair, Carried}
-use Rattle.path.specs.Read.{nameIn, render, partsOf, textsOf, namesFault, readPath}
+use Rattle.path.specs.Kinds.{Part, word, name, count, pair, Carried, nameIn, setName}
+use Rattle.path.specs.declared.name.Name.{Name}
+use Rattle.path.specs.declared.name.Name.the-variants.{Client as client, Connection as connection, Port as port, Channel as channel, Upgrade as upgrade}
+use Rattle.path.specs.Read.{render, partsOf, textsOf, namesFault, readPath}
 use Rattle.path.specs.View.{kindOf, carriedOf}
 
 pub record Valid (k : ℕ) (v : Carried (List ℕ)) : Type 0 where
@@ -23,13 +25,6 @@ pub record Valid (k : ℕ) (v : Carried (List ℕ)) : Type 0 where
   pub size : length (render (partsOf k) v) ≤ 4096
 
 -- ---- what a kind has of two identifiers and two numbers: what it lacks is empty or 0
-abbrev pub setText : Name → List ℕ → Carried (List ℕ) → Carried (List ℕ)
-setText client c v = record { one = c; two = v .two; a = v .a; b = v .b }
-setText connection c v = record { one = c; two = v .two; a = v .a; b = v .b }
-setText port c v = record { one = c; two = v .two; a = v .a; b = v .b }
-setText channel c v = record { one = v .one; two = c; a = v .a; b = v .b }
-setText upgrade c v = record { one = c; two = v .two; a = v .a; b = v .b }
-
 abbrev pub setCount : ℕ → Carried (List ℕ) → Carried (List ℕ)
 setCount m v = record { one = v .one; two = v .two; a = m; b = v .b }
 
@@ -39,7 +34,7 @@ setPair m n v = record { one = v .one; two = v .two; a = m; b = n }
 abbrev pub only : List Part → Carried (List ℕ) → Carried (List ℕ)
 only [] v = record { one = []; two = []; a = 0; b = 0 }
 only (word w ∷ ps) v = only ps v
-only (name n ∷ ps) v = setText n (nameIn n v) (only ps v)
+only (name n ∷ ps) v = setName n (nameIn n v) (only ps v)
 only (count ∷ ps) v = setCount (v .a) (only ps v)
 only (pair ∷ ps) v = setPair (v .a) (v .b) (only ps v)
 

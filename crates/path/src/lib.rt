@@ -1,6 +1,7 @@
 // The typed path.
 mod carried;
 pub mod measure;
+pub mod name;
 pub mod number;
 
 use text::refusal::NOT_A_PATH;

@@ -15,57 +15,34 @@ use Rattle.path.specs.declared.PathView.{PathView}
 use Rattle.path.specs.declared.PathAnswer.the-variants.{Found, Nothing}
 use Rattle.path.specs.declared.Refusal.the-variants.{NotAscii, NotAPath}
 use Rattle.path.specs.declared.Reading.the-variants.{Read, Refused}
-use Rattle.path.specs.Text.{placeAt, partOf}
-use Rattle.path.specs.TextLaws.{place-within}
-use Rattle.path.specs.Kinds.{Name, client, connection, port, channel, upgrade, Part, word, name, count, pair, Carried, kinds}
-use Rattle.path.specs.Read.{partsOf, textsOf, renderPath, setName, carriedFrom, readFirst, readPath}
+use Rattle.path.specs.Text.{partOf}
+use Rattle.path.specs.Kinds.{kinds}
+use Rattle.path.specs.Read.{partsOf, textsOf, renderPath, carriedFrom, readFirst, readPath}
 use Rattle.path.specs.View.{kindOf, carriedOf, viewOf}
 use Rattle.path.specs.AsciiLaws.{first-low, kinds-low}
 use Rattle.path.specs.Reads.{Reads}
-use Rattle.path.specs.ReadLaws.{made-range, made-carried, is-reads}
+use Rattle.path.specs.ReadLaws.{made-range, is-reads}
+use Rattle.path.specs.PlaceLaws.{read-lies}
 use Rattle.path.specs.ExactLaws.{exact-by-length}
 use Rattle.path.specs.Length.{renderLength}
 use Rattle.path.specs.MeasureLaws.{render-length}
 
 -- ---- what is read has a kind, and its places lie in the text
-abbrev Lies : List ℕ → Place → Type 0
-Lies t p = p .start + p .len ≤ length t
-
-name-lies : (n : Name) (t : List ℕ) (p : Place) (v : Carried Place) → Lies t p → Lies t (v .one) → Lies t (v .two) → Lies t (setName n p v .one) × Lies t (setName n p v .two)
-name-lies client t p v h i j = (h, j)
-name-lies connection t p v h i j = (h, j)
-name-lies port t p v h i j = (h, j)
-name-lies channel t p v h i j = (i, h)
-name-lies upgrade t p v h i j = (h, j)
-
-carried-lies : (k : ℕ) (ps : List Part) (t : List ℕ) → Lies t (carriedFrom k ps t .one) × Lies t (carriedFrom k ps t .two)
-carried-lies k [] t = (omega arith, omega arith)
-carried-lies k (word w ∷ ps) t = carried-lies (k + 1) ps t
-carried-lies k (name n ∷ ps) t = let h = carried-lies (k + 1) ps t in name-lies n t (placeAt t k) (carriedFrom (k + 1) ps t) (place-within t k) (h .0) (h .1)
-carried-lies k (count ∷ ps) t = carried-lies (k + 1) ps t
-carried-lies k (pair ∷ ps) t = carried-lies (k + 1) ps t
-
-lies-length : (t : List ℕ) (p : Place) → Lies t p → length (partOf t p) ≡ p .len
+lies-length : (t : List ℕ) (p : Place) → p .start + p .len ≤ length t → length (partOf t p) ≡ p .len
 lies-length t p h = simp (length-take, length-drop) (omega arith)
 
 module _ (t : List ℕ) (p : Path) (h : Found p ≡ readFirst kinds t) where
   found : Reads t p
   found = is-reads t p (sym h)
 
-  abbrev read : Carried Place
-  read = carriedFrom 0 (found .kind .parts) t
-
   found-kind : (1 ≤ kindOf p) × (kindOf p ≤ 19)
-  found-kind = rw (found .made) (made-range (found .listed) read)
-
-  carried-is : carriedOf p ≡ read
-  carried-is = ap carriedOf (found .made) ∙ made-carried (found .listed) t
+  found-kind = rw (found .made) (made-range (found .listed) (carriedFrom 0 (found .kind .parts) t))
 
   found-one : carriedOf p .one .start + carriedOf p .one .len ≤ length t
-  found-one = rw carried-is (carried-lies 0 (found .kind .parts) t .0)
+  found-one = read-lies t p found .0
 
   found-two : carriedOf p .two .start + carriedOf p .two .len ≤ length t
-  found-two = rw carried-is (carried-lies 0 (found .kind .parts) t .1)
+  found-two = read-lies t p found .1
 
   exact-mark : (n : ℕ) → n ≡ renderLength (partsOf (kindOf p)) (record { one = carriedOf p .one .len; two = carriedOf p .two .len; a = carriedOf p .a; b = carriedOf p .b }) → eqb n (length t) ≡ same t (renderPath t p)
   unfolding renderPath

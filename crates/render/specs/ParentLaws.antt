@@ -10,7 +10,8 @@ use Rattle.text.specs.Put.{text, refused, accepted}
 use Rattle.identifiers.specs.Check.{checkOf}
 use Rattle.identifiers.specs.Check as check
 use Rattle.identifiers.specs.CheckLaws.{first-zero, first-last, accepted-length}
-use Rattle.path.specs.Kinds.{port, channel, word, Carried}
+use Rattle.path.specs.Kinds.{word, Carried}
+use Rattle.path.specs.declared.name.Name.the-variants.{Port as port, Channel as channel}
 use Rattle.path.specs.Read.{nameFault, namesFault}
 use Rattle.path.specs.Parents.{textOf, consensusParent, consensusLeaf, packetsPath}
 use Rattle.writers.specs.Texts.{parentText, leafText, packetsText}

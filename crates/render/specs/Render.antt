@@ -7,7 +7,7 @@ use lib.Dec.{ltb, leb}
 use lib.ListN.{length}
 use Rattle.text.specs.Put.{Wanted, accepted}
 use Rattle.identifiers.specs.Check.{first, unless}
-use Rattle.path.specs.Kinds.{client, connection, port, channel, upgrade}
+use Rattle.path.specs.declared.name.Name.the-variants.{Client as client, Connection as connection, Port as port, Channel as channel, Upgrade as upgrade}
 use Rattle.path.specs.Read.{nameFault}
 
 -- the first refusal of the identifiers, by the number of a kind from 4 on

@@ -11,7 +11,8 @@ use Rattle.text.specs.Put.{Wrote, refused, text, refusal, done, answer, left}
 use Rattle.text.specs.PutLaws.{gives-refusal, gives-same, gives-short, gives-text}
 use Rattle.text.specs.TableLaws.{agree-at}
 use Rattle.identifiers.specs.CheckLaws.{first-last}
-use Rattle.path.specs.Kinds.{client, connection, port, channel, upgrade, Carried, carried, kinds, kind1, kind2, kind3, kind4, kind5, kind6, kind7, kind8, kind9, kind10, kind11, kind12, kind13, kind14, kind15, kind16, kind17, kind18, kind19}
+use Rattle.path.specs.Kinds.{Carried, carried, kinds, kind1, kind2, kind3, kind4, kind5, kind6, kind7, kind8, kind9, kind10, kind11, kind12, kind13, kind14, kind15, kind16, kind17, kind18, kind19}
+use Rattle.path.specs.declared.name.Name.the-variants.{Client as client, Connection as connection, Port as port, Channel as channel, Upgrade as upgrade}
 use Rattle.path.specs.Text.{joinBy}
 use Rattle.path.specs.Read.{show, render, nameFault, namesFault, limited, partsOf, renderOf}
 use Rattle.path.specs.Length.{renderLength, firstOf}

@@ -4,69 +4,39 @@ pub mod iteration;
 pub mod key;
 pub mod texts;
 
+use path::name::Name;
+use path::name::name_fault;
 use text::Written;
 use text::refusal::BAD_KIND;
-use text::refusal::BAD_SEGMENT;
-use text::refusal::NOT_ASCII;
 ghost use mathlib.Core.Path.{_≡_};
-ghost use mathlib.Core.Bool.{not};
 ghost use Prim.Native.Nat.{_≤_};
-ghost use lib.Dec.{eqb};
 ghost use lib.ListN.{length};
 ghost use Rattle.text.specs.Put.{answer, left};
-ghost use Rattle.text.specs.Part.{every};
-ghost use Rattle.path.specs.Kinds.{upgrade, carried};
-ghost use Rattle.path.specs.Read.{limited, partsOf, renderOf, nameFault};
+ghost use Rattle.path.specs.Kinds.{carried};
+ghost use Rattle.path.specs.Read.{limited, partsOf, renderOf};
 ghost use Rattle.render.specs.Render.{kindFault};
-
-// Whether the text has no `/`.
-fn no_slash(s: &[u8]) -> bool
-    ensures { λ r. ⌜ r ≡ every (λ b. not (eqb b 47)) (now (s .entry)) ⌝ }
-{
-    let mut i = 0;
-    while i < s.len() {
-        if s[i] == b'/' {
-            return false;
-        }
-        i += 1;
-    }
-    true
-}
-
-// The refusal of an upgrade path.
-fn upgrade_fault(s: &[u8]) -> u8
-    ensures { λ r. ⌜ r ≡ nameFault upgrade (now (s .entry)) ⌝ }
-{
-    if !text::part::all_ascii(s) {
-        return NOT_ASCII;
-    }
-    if !no_slash(s) {
-        return BAD_SEGMENT;
-    }
-    0
-}
 
 // The first refusal of the identifiers that a kind from 4 on has.
 pub(crate) fn kind_fault(kind: u8, first: &[u8], second: &[u8]) -> u8
     ensures { λ r. ⌜ r ≡ kindFault kind (now (first .entry)) (now (second .entry)) ⌝ }
 {
     if kind < 9 {
-        return identifiers::validate::validate_client_identifier(first);
+        return name_fault(Name::Client, first);
     }
     if kind < 10 {
-        return identifiers::validate::validate_connection_identifier(first);
+        return name_fault(Name::Connection, first);
     }
     if 17 < kind {
-        return upgrade_fault(first);
+        return name_fault(Name::Upgrade, first);
     }
-    let port = identifiers::validate::validate_port_identifier(first);
+    let port = name_fault(Name::Port, first);
     if kind < 11 {
         return port;
     }
     if port != 0 {
         return port;
     }
-    identifiers::validate::validate_channel_identifier(second)
+    name_fault(Name::Channel, second)
 }
 
 // Checks the identifiers of a kind, then writes it.

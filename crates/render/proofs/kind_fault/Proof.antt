@@ -1,5 +1,4 @@
 use borrow.Author.Tests.{lt-ltb, le-ltb, eq-eqb, ne-eqb}
-use Rattle.path.specs.Read.{nameFault}
 use Rattle.render.specs.Render.{kindFault}
 use native.Mathlib.Omega.{arith}
 use borrow.Author.Needs.{needs}
@@ -7,40 +6,40 @@ use Rattle.render.proofs.kind_fault.Statement.{statement}
 use Rattle.render.proofs.kind_fault.Tie as tie
 
 returns : tie.Need-returns
-unfolding kindFault nameFault
+unfolding kindFault
 returns c =
     let k = c .before .before .before .before .args .kind in
-    rw (lt-ltb k 9 (omega arith)) (c .validate-client-identifier .ensures)
+    rw (lt-ltb k 9 (omega arith)) (c .name-fault .ensures)
 
 returns-2 : tie.Need-returns-2
-unfolding kindFault nameFault
+unfolding kindFault
 returns-2 c =
     let k = c .before .before .before .before .before .args .kind in
-    rw (le-ltb k 9 (omega arith), lt-ltb k 10 (omega arith)) (c .validate-connection-identifier .ensures)
+    rw (le-ltb k 9 (omega arith), lt-ltb k 10 (omega arith)) (c .name-fault .ensures)
 
 returns-3 : tie.Need-returns-3
 unfolding kindFault
 returns-3 c =
     let k = c .before .before .before .before .before .before .args .kind in
-    rw (le-ltb k 9 (omega arith), le-ltb k 10 (omega arith), lt-ltb 17 k (omega arith)) (c .upgrade-fault .ensures)
+    rw (le-ltb k 9 (omega arith), le-ltb k 10 (omega arith), lt-ltb 17 k (omega arith)) (c .name-fault .ensures)
 
 returns-4 : tie.Need-returns-4
-unfolding kindFault nameFault
+unfolding kindFault
 returns-4 c =
     let k = c .before .before .before .before .before .before .before .args .kind in
-    rw (le-ltb k 9 (omega arith), le-ltb k 10 (omega arith), le-ltb 17 k (omega arith), lt-ltb k 11 (omega arith)) (c .before .validate-port-identifier .ensures)
+    rw (le-ltb k 9 (omega arith), le-ltb k 10 (omega arith), le-ltb 17 k (omega arith), lt-ltb k 11 (omega arith)) (c .before .name-fault .ensures)
 
 returns-5 : tie.Need-returns-5
-unfolding kindFault nameFault
+unfolding kindFault
 returns-5 c =
     let k = c .before .before .before .before .before .before .before .before .args .kind in
-    rw (le-ltb k 9 (omega arith), le-ltb k 10 (omega arith), le-ltb 17 k (omega arith), le-ltb k 11 (omega arith), ← c .before .before .validate-port-identifier .ensures, ne-eqb (c .before .before .validate-port-identifier .result) 0 (c .if5 .taken))
+    rw (le-ltb k 9 (omega arith), le-ltb k 10 (omega arith), le-ltb 17 k (omega arith), le-ltb k 11 (omega arith), ← c .before .before .name-fault .ensures, ne-eqb (c .before .before .name-fault .result) 0 (c .if5 .taken))
 
 returns-6 : tie.Need-returns-6
-unfolding kindFault nameFault
+unfolding kindFault
 returns-6 c =
     let k = c .before .before .before .before .before .before .before .before .before .args .kind in
-    rw (le-ltb k 9 (omega arith), le-ltb k 10 (omega arith), le-ltb 17 k (omega arith), le-ltb k 11 (omega arith), ← c .before .before .before .validate-port-identifier .ensures, eq-eqb (c .before .before .before .validate-port-identifier .result) 0 (c .before .if5 .left)) (c .validate-channel-identifier .ensures)
+    rw (le-ltb k 9 (omega arith), le-ltb k 10 (omega arith), le-ltb 17 k (omega arith), le-ltb k 11 (omega arith), ← c .before .before .before .name-fault .ensures, eq-eqb (c .before .before .before .name-fault .result) 0 (c .before .if5 .left)) (c .name-fault .ensures)
 
 pub kind-fault-spec : {M : Type 1} → statement M
 kind-fault-spec =

@@ -5,7 +5,8 @@ use mathlib.Core.Bool.{true, false, and-false}
 use lib.Dec.{lit<}
 use Rattle.text.specs.Bytes.{bytes}
 use Rattle.parse.specs.CutLaws.{cut-components}
-use Rattle.path.specs.Kinds.{client, kind4, kind8}
+use Rattle.path.specs.Kinds.{kind4, kind8}
+use Rattle.path.specs.declared.name.Name.the-variants.{Client as client}
 use Rattle.path.specs.Read.{fitsKind, readKind, readFirst}
 use Rattle.parse.specs.Pieces.{placeAfter, placeParts}
 use Rattle.parse.specs.FitLaws.{no-run, is-run, placeAnswers, word-if}

@@ -3,7 +3,7 @@
 use mathlib.Core.Path.{sym, ap, _∙_}
 use mathlib.Core.Bool.{and-false}
 use Rattle.text.specs.Bytes.{bytes}
-use Rattle.path.specs.Kinds.{client}
+use Rattle.path.specs.declared.name.Name.the-variants.{Client as client}
 use Rattle.parse.specs.Pieces.{placeParts, revisionParts, placeAfter, revisionAfter, consensusIn}
 use Rattle.parse.specs.FitLaws.{placeAnswers, revisionAnswers, no-run, is-run}
 use borrow.Author.Needs.{needs}

@@ -3,7 +3,7 @@
 use mathlib.Core.Path.{sym, _∙_}
 use mathlib.Core.Bool.{and-false}
 use Rattle.text.specs.Bytes.{bytes}
-use Rattle.path.specs.Kinds.{port, channel}
+use Rattle.path.specs.declared.name.Name.the-variants.{Port as port, Channel as channel}
 use Rattle.parse.specs.Pieces.{placeParts, placeAfter, endsIn}
 use Rattle.parse.specs.FitLaws.{placeAnswers, no-run, is-run}
 use borrow.Author.Needs.{needs}

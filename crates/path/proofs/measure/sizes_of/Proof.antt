@@ -5,8 +5,7 @@ use native.Mathlib.Omega.{arith}
 use Rattle.text.specs.TableLaws.{past}
 use Rattle.path.specs.Kinds.{kinds, kind1, kind2, kind3, kind4, kind5, kind6, kind7, kind8, kind9, kind10, kind11, kind12, kind13, kind14, kind15, kind16, kind17, kind18, kind19}
 use Rattle.path.specs.Read.{partsOf}
-use Rattle.path.specs.Length.{fixed, nameCount, numberCount}
-use Rattle.path.specs.MeasureLaws.{sizes}
+use Rattle.path.specs.Length.{fixed, nameCount, numberCount, sizes}
 use Rattle.path.proofs.measure.sizes_of.Statement.{statement}
 use Rattle.path.proofs.measure.sizes_of.Tie as tie
 

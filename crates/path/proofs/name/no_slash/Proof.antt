@@ -8,8 +8,8 @@ use Rattle.text.specs.Part.{every}
 use Rattle.text.specs.PartLaws.{every-none, every-stop, every-more}
 use borrow.Author.Needs.{needs}
 use native.Mathlib.Omega.{arith}
-use Rattle.render.proofs.no_slash.Statement.{statement}
-use Rattle.render.proofs.no_slash.Tie as tie
+use Rattle.path.proofs.name.no_slash.Statement.{statement}
+use Rattle.path.proofs.name.no_slash.Tie as tie
 
 abbrev Inv-loop : tie.InvT-loop
 Inv-loop s i₀ i = (i ≤ length s) × (every (λ b. not (eqb b 47)) s ≡ every (λ b. not (eqb b 47)) (drop i s))

@@ -1,9 +1,9 @@
 use mathlib.Core.Path.{sym, _∙_}
 use borrow.Author.Tests.{not-true, not-false}
 use Rattle.path.specs.Read.{nameFault}
 use borrow.Author.Needs.{needs}
-use Rattle.render.proofs.upgrade_fault.Statement.{statement}
-use Rattle.render.proofs.upgrade_fault.Tie as tie
+use Rattle.path.proofs.name.upgrade_fault.Statement.{statement}
+use Rattle.path.proofs.name.upgrade_fault.Tie as tie
 
 all-ascii-requires : tie.Need-all-ascii-requires
 all-ascii-requires c κs = search needs

@@ -1,16 +1,11 @@
--- `pieces::read_channel` meets its contract.
+-- `pieces::read_name` meets its contract.
 -- Assumes nothing.
 use mathlib.Core.Bool.{true, false, and-false}
-use Rattle.path.specs.Kinds.{channel}
-use Rattle.path.specs.Read.{nameFault}
 use Rattle.parse.specs.Pieces.{placeAfter}
 use Rattle.parse.specs.FitLaws.{word-unless, name-no, name-yes}
 use borrow.Author.Needs.{needs}
-use Rattle.parse.proofs.pieces.read_channel.Statement.{statement}
-use Rattle.parse.proofs.pieces.read_channel.Tie as tie
-
-slice-aggregate-is-word : tie.Need-slice-aggregate-is-word
-slice-aggregate-is-word c = search needs
+use Rattle.parse.proofs.pieces.read_name.Statement.{statement}
+use Rattle.parse.proofs.pieces.read_name.Tie as tie
 
 is-word-requires : tie.Need-is-word-requires
 is-word-requires c κs = search needs
@@ -25,12 +20,12 @@ add-component-at c = search needs
 component-at-requires : tie.Need-component-at-requires
 component-at-requires c κs = search needs
 
-validate-channel-identifier-requires : tie.Need-validate-channel-identifier-requires
-validate-channel-identifier-requires c κs = search needs
+name-fault-requires : tie.Need-name-fault-requires
+name-fault-requires c κs = search needs
 
 returns-2 : tie.Need-returns-2
-unfolding placeAfter nameFault
-returns-2 c = rw (name-no channel _ _ _ (c .before .validate-channel-identifier .ensures) (c .before .before .component-at .ensures) (c .if2 .taken), and-false)
+unfolding placeAfter
+returns-2 c = rw (name-no _ _ _ _ (c .before .name-fault .ensures) (c .before .before .component-at .ensures) (c .if2 .taken), and-false)
 
 add-place-at : tie.Need-add-place-at
 add-place-at c = search needs
@@ -39,22 +34,21 @@ place-at-requires : tie.Need-place-at-requires
 place-at-requires c κs = search needs
 
 returns-3 : tie.Need-returns-3
-unfolding placeAfter nameFault
+unfolding placeAfter
 returns-3 c =
     let word = word-unless _ _ _ (c .before .before .before .before .before .is-word .ensures) true (c .before .before .before .before .if1 .left) in
-    let name = name-yes channel _ _ _ (c .before .before .validate-channel-identifier .ensures) (c .before .before .before .component-at .ensures) (c .before .if2 .left) in
+    let name = name-yes _ _ _ _ (c .before .before .name-fault .ensures) (c .before .before .before .component-at .ensures) (c .before .if2 .left) in
     rw (word, name, c .place-at .ensures)
 
-pub read-channel-spec : {M : Type 1} → statement M
-read-channel-spec =
+pub read-name-spec : {M : Type 1} → statement M
+read-name-spec =
     tie.close
     (tie.spec
-    slice-aggregate-is-word
     is-word-requires
     returns
     add-component-at
     component-at-requires
-    validate-channel-identifier-requires
+    name-fault-requires
     returns-2
     add-place-at
     place-at-requires
