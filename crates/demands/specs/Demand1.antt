@@ -52,7 +52,6 @@ use Rattle.node.proofs.hp_book_write.Reads as hp-book-write
 use Rattle.node.proofs.hp_book_remove.Reads as hp-book-remove
 use Rattle.node.proofs.hp_book_lookup.Reads as hp-book-lookup
 use Rattle.node.proofs.hp_book_oldest.Reads as hp-book-oldest
-
 use Rattle.render.proofs.render.Reads as render
 use Rattle.render.proofs.key.write_key.Reads as write-key
 use Rattle.reader.proofs.write_reading.Reads as write-reading

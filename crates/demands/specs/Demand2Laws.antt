@@ -109,8 +109,7 @@ reads-back k v valid out n out₁ x q room =
     let w : List ℕ = render (partsOf k) v in
     let r : ReadsAs w k (only (partsOf k) v) = rendered-back k v valid in
     let d = reading-tells w (r .path) true (r .read) out n out₁ x q room in
-    let c = r .carried in
-    (
+    let c = r .carried in (
       d .0,
       rw (d .1) (record {
         kind-is = r .kind;

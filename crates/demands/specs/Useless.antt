@@ -63,7 +63,7 @@ abbrev port-path : Path
 port-path = Ports (record { port = record { start = 6; len = 2 } })
 
 port-read : readPath port ≡ Read port-path true
-port-read = let q = ap (λ (l : List Outcome). getD l 7 (gives (Unread NotAPath))) cases-hold in cc
+port-read = let q : gives (readPath port) ≡ gives (Read port-path true) = ap (λ (l : List Outcome). getD l 7 (gives (Unread NotAPath))) cases-hold in cc
 
 port-key : keyOf port ≡ text port
 unfolding keyOf
