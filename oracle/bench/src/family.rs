@@ -34,6 +34,12 @@ impl Family {
         ratios[ROUNDS / 2]
     }
 
+    /// So many passes by one side, for a count of its instructions.
+    pub fn run(&self, upper: bool, passes: u32) {
+        let side = if upper { &self.upper } else { &self.lower };
+        (0..passes).for_each(|_| side());
+    }
+
     fn passes(&self) -> u32 {
         let slower = |passes| time(passes, &self.upper).max(time(passes, &self.lower));
         (0..)

@@ -3,7 +3,8 @@
 //! rounds' ratios. After them, calls on books, which the original lacks: time of a call over time of one
 //! reading of every key of its book.
 //!
-//! `bench count OPERATION RECORDS TIMES` runs one operation on a book so many times, for oracle/count.
+//! For oracle/count: `bench count OPERATION RECORDS TIMES` runs one operation on a book so many times,
+//! `bench names` prints the families, and `bench pass NAME upper|lower TIMES` runs one side of one.
 mod books;
 mod family;
 mod identifiers;
@@ -17,14 +18,22 @@ fn main() {
             let number = |word: &str| word.parse().expect("a number");
             books::count(operation, number(records), number(times));
         }
-        _ => panic!("bench [count OPERATION RECORDS TIMES]"),
+        ["names"] => families().for_each(|family| println!("{}", family.name)),
+        ["pass", name, side, times] => {
+            let family = families().find(|family| family.name == name).expect("a family's name");
+            family.run(side == "upper", times.parse().expect("a number"));
+        }
+        _ => panic!("bench [count OPERATION RECORDS TIMES | names | pass NAME upper|lower TIMES]"),
     }
 }
 
+/// Those that the original has too.
+fn families() -> impl Iterator<Item = family::Family> {
+    identifiers::families().into_iter().chain(paths::families())
+}
+
 fn ratios() {
-    let families = identifiers::families();
-    let families = families.into_iter().chain(paths::families()).chain(books::families());
-    for family in families {
+    for family in families().chain(books::families()) {
         println!("{:40} {:6.2}", family.name, family.ratio());
     }
 }
