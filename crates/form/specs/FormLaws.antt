@@ -10,8 +10,8 @@ use native.Mathlib.Omega.{arith}
 use lib.Dec.{eqb, ltb}
 use borrow.Author.Tests.{eqb-true, eqb-false, lt-ltb, le-ltb}
 use mathlib.Core.Bool.{Bool, true, false}
-use Rattle.text.specs.Part.{every}
-use Rattle.text.specs.PartLaws.{top, every-top, and-left, and-right}
+use Rattle.text.specs.Part.{every, top}
+use Rattle.text.specs.PartLaws.{every-top, and-left, and-right}
 use lib.ListN.{getD, length, take, drop, set, getElem?, length-append, length-take, length-drop, length-replicate, replicate-append-replicate, take-append-drop}
 use lib.Seq.{drop-at, drop-drop, drop-append-add}
 use Rattle.text.specs.Put.{put}

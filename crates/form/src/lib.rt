@@ -1,5 +1,5 @@
 // The book's bytes: movers, slots and the header.
-use text::part::larger;
+use text::part::largest;
 use text::put::write_byte;
 use text::put::write_text;
 ghost use mathlib.Core.Path.{_≡_};
@@ -235,17 +235,11 @@ pub fn key_at(book: &[u8], at: usize) -> &[u8]
     &book[start..end]
 }
 
-// Whether each byte of `s` is zero. The loop has no early exit, so that it can take many bytes at a time.
+// Whether each byte of `s` is zero, where `s` is short.
 fn blank(s: &[u8]) -> bool
     ensures { λ r. ⌜ r ≡ every (λ b. eqb b 0) (now (s .entry)) ⌝ }
 {
-    let mut top: u8 = 0;
-    let mut i = 0;
-    while i < s.len() {
-        top = larger(top, s[i]);
-        i += 1;
-    }
-    top < 1
+    largest(s) < 1
 }
 
 // Whether each byte of `s` is zero, by parts of 128 bytes: the last one may share bytes with the one before it.

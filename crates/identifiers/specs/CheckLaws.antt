@@ -13,7 +13,8 @@ use borrow.Author.Tests.{lt-ltb, le-ltb, le-leb, lt-leb, eq-eqb, ne-eqb, eqb-tru
 use Rattle.text.specs.Bytes.{bytes}
 use Rattle.text.specs.Number.{numeralOf}
 use Rattle.text.specs.Part.{every, ascii, startsWith}
-use Rattle.text.specs.PartLaws.{and-left, and-right, every-at, top, every-top, starts-append, starts-byte}
+use Rattle.text.specs.Part.{top}
+use Rattle.text.specs.PartLaws.{and-left, and-right, every-at, every-top, starts-append, starts-byte}
 use Rattle.identifiers.specs.Check.{first, unless, among, identifierByte, charsOf, isValue, within, indexOf, namedOf, lengthOf, prefixLengthOf, namedIndexOf, Form, plain, indexed, Rule, client, clientType, formOf, checkOf, generalForm, generalOf}
 
 -- ---- of two checks, and of a test

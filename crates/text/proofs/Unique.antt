@@ -8,6 +8,7 @@ use Rattle.text.proofs.number_width.Reads as number-width
 use Rattle.text.proofs.write_number.Reads as write-number
 use Rattle.text.proofs.write_big_endian.Reads as write-big-endian
 use Rattle.text.proofs.part.larger.Reads as larger
+use Rattle.text.proofs.part.largest.Reads as largest
 use Rattle.text.proofs.part.all_ascii.Reads as all-ascii
 use Rattle.text.proofs.part.same_at.Reads as same-at
 use Rattle.text.proofs.part.equal.Reads as equal
@@ -29,6 +30,9 @@ one-write-big-endian κs a r₁ r₂ s₁ s₂ p q = (p .0 ∙ sym (q .0), p .1 
 
 pub one-larger : One larger.Post
 one-larger κs a r₁ r₂ s₁ s₂ p q = p ∙ sym q
+
+pub one-largest : One largest.Post
+one-largest κs a r₁ r₂ s₁ s₂ p q = p ∙ sym q
 
 pub one-all-ascii : One all-ascii.Post
 one-all-ascii κs a r₁ r₂ s₁ s₂ p q = p ∙ sym q

@@ -11,7 +11,7 @@ use lib.ListN.{length, take, drop, getD, length-drop, drop-of-length-le}
 use lib.Seq.{drop-cons, take-all}
 use lib.Dec.{ltb, eqb}
 use borrow.Author.Tests.{lt-ltb, le-ltb, eq-eqb, ne-eqb, eqb-true, ltb-true, ltb-false}
-use Rattle.text.specs.Part.{every, ascii, startsWith, same}
+use Rattle.text.specs.Part.{every, ascii, startsWith, same, top}
 
 -- ---- both tests hold
 pub and-left : (a b : Bool) → (a && b) ≡ true → a ≡ true
@@ -34,11 +34,7 @@ unfolding every
 every-append f [] b = refl
 every-append f (x ∷ a) b = rw (every-append f a b) (sym (and-assoc (f x) (every f a) (every f b)))
 
--- ---- the largest value of g on a text, and at least v
-unfoldable pub top : (ℕ → ℕ) → ℕ → List ℕ → ℕ
-top g v [] = v
-top g v (b ∷ s) = top g (max v (g b)) s
-
+-- ---- the largest value of g on a text
 ltb-max : (v w n : ℕ) → ltb (max v w) n ≡ (ltb v n && ltb w n)
 ltb-max v w n = go (ltb v n) refl (ltb w n) refl
   where

@@ -4,7 +4,7 @@ ghost use mathlib.Core.Bool.{cond};
 ghost use Prim.Native.Nat.{_≤_, max};
 ghost use lib.Dec.{eqb};
 ghost use lib.ListN.{length, drop};
-ghost use Rattle.text.specs.Part.{ascii, startsWith, same};
+ghost use Rattle.text.specs.Part.{ascii, startsWith, same, top};
 
 // The larger of two bytes.
 pub fn larger(a: u8, b: u8) -> u8
@@ -13,17 +13,24 @@ pub fn larger(a: u8, b: u8) -> u8
     if a < b { b } else { a }
 }
 
-// Whether each byte of `s` is below 128. The loop has no early exit, so that it can take many bytes at a time.
+// The largest byte of `s`, or 0. The loop has no early exit, so that it can take many bytes at a time.
+pub fn largest(s: &[u8]) -> u8
+    ensures { λ r. ⌜ r ≡ top (λ b. b) 0 (now (s .entry)) ⌝ }
+{
+    let mut most: u8 = 0;
+    let mut i = 0;
+    while i < s.len() {
+        most = larger(most, s[i]);
+        i += 1;
+    }
+    most
+}
+
+// Whether each byte of `s` is below 128.
 pub fn all_ascii(s: &[u8]) -> bool
     ensures { λ r. ⌜ r ≡ ascii (now (s .entry)) ⌝ }
 {
-    let mut top: u8 = 0;
-    let mut i = 0;
-    while i < s.len() {
-        top = larger(top, s[i]);
-        i += 1;
-    }
-    top < 128
+    largest(s) < 128
 }
 
 // Whether `w` stands in `s` at place `at`.

@@ -1,59 +1,14 @@
 -- `form::blank` meets its contract.
 -- Assumes nothing.
-use mathlib.Core.Path.{_≡_, sym, ap, _∙_}
-use Prim.Native.Nat.{_+_, _≤_, _-_}
+use mathlib.Core.Path.{sym, ap, _∙_}
 use lib.Dec.{ltb}
-use lib.ListN.{length, drop}
-use Rattle.text.specs.PartLaws.{top as largest, top-none, top-more}
 use Rattle.form.specs.FormLaws.{blank-top}
 use borrow.Author.Needs.{needs}
-use native.Mathlib.Omega.{arith}
 use Rattle.form.proofs.blank.Statement.{statement}
 use Rattle.form.proofs.blank.Tie as tie
 
-abbrev Inv-loop : tie.InvT-loop
-Inv-loop s top₀ i₀ top i = (i ≤ length s) × (largest (λ b. b) 0 s ≡ largest (λ b. b) top (drop i s))
-
-abbrev μ-loop : tie.MeasureT-loop
-μ-loop s top₀ i₀ top i = length s - i
-
-loop-holds : tie.Need-loop-holds Inv-loop μ-loop
-loop-holds c = search needs
-
-shared-slice-read-larger : tie.Need-shared-slice-read-larger Inv-loop μ-loop
-shared-slice-read-larger c = search needs
-
-larger-requires : tie.Need-larger-requires Inv-loop μ-loop
-larger-requires c κs = search needs
-
-add-i : tie.Need-add-i Inv-loop μ-loop
-add-i c = search needs
-
-loop-less : tie.Need-loop-less Inv-loop μ-loop
-loop-less c = search needs
-
-loop-again : tie.Need-loop-again Inv-loop μ-loop
-loop-again c =
-    let l = c .before .before .before .loop in
-    let s = c .before .before .before .before .before .args .s .now in
-    (search needs, l .inv .1 ∙ top-more (λ b. b) (l .top) s (l .i) (omega arith) ∙ ap (λ v. largest (λ b. b) v (drop (l .i + 1) s)) (sym (c .larger .ensures)))
-
-returns : tie.Need-returns Inv-loop μ-loop
-returns c =
-    let l = c .before .loop in
-    let s = c .before .before .before .args .s .now in
-    sym (blank-top s ∙ ap (λ v. ltb v 1) (l .inv .1 ∙ top-none (λ b. b) (l .top) s (l .i) (omega arith)))
+returns : tie.Need-returns
+returns c = ap (λ v. ltb v 1) (c .largest .ensures) ∙ sym (blank-top _)
 
 pub blank-spec : {M : Type 1} → statement M
-blank-spec =
-    tie.close
-    (tie.spec
-    Inv-loop
-    μ-loop
-    loop-holds
-    shared-slice-read-larger
-    larger-requires
-    add-i
-    loop-less
-    loop-again
-    returns)
+blank-spec = tie.close (tie.spec (λ c κs. search needs) returns)

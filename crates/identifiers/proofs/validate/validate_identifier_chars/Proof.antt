@@ -5,7 +5,8 @@ use Prim.Native.Nat.{_+_, _≤_, _-_, max}
 use native.Mathlib.Omega.{arith}
 use lib.ListN.{length, drop, getD}
 use borrow.Author.Needs.{needs}
-use Rattle.text.specs.PartLaws.{top as largest, top-none, top-more}
+use Rattle.text.specs.Part.{top as largest}
+use Rattle.text.specs.PartLaws.{top-none, top-more}
 use Rattle.text.specs.TableLaws.{table-at}
 use Rattle.identifiers.specs.Check.{among, identifierByte}
 use Rattle.identifiers.specs.CheckLaws.{classOf, chars-high, chars-other, chars-none}
