@@ -6,6 +6,7 @@ use mathlib.Core.List.{List, [], _∷_}
 use Prim.Native.Nat.{ℕ}
 use lib.Dec.{eqb}
 use Rattle.text.specs.Part.{same}
+use Rattle.text.specs.Refusal.{badBook, noRecord}
 use Rattle.identifiers.specs.Check.{checkOf}
 use Rattle.identifiers.specs.Check as check
 use Rattle.path.specs.declared.Reading.{Reading}
@@ -41,14 +42,14 @@ pair r m h = record { refusal = r; number = m; height = h }
 
 abbrev pub pairOf : StateAnswer → Pair
 pairOf (State m h) = pair 0 m h
-pairOf Nothing = pair 12 0 0
+pairOf Nothing = pair noRecord 0 0
 
 -- the client checks, then 12
 unfoldable pub oldestIn : List ℕ → List Rec → Pair
 oldestIn client s = cond (eqb (checkOf check.client client) 0) (pairOf (firstState client s)) (pair (checkOf check.client client) 0 0)
 
 pub data Oldest (F : Form) (b client : List ℕ) (r : Pair) : Type 0 where
-  no-book : (Book F b → ⊥) → r ≡ pair 9 0 0 → Oldest F b client r
+  no-book : (Book F b → ⊥) → r ≡ pair badBook 0 0 → Oldest F b client r
   this-book : (x : Book F b) → r ≡ oldestIn client (x .records) → Oldest F b client r
 
 -- an answer is the first state of the client in the book b

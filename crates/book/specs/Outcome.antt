@@ -5,6 +5,7 @@ use mathlib.Core.Path.{_≡_}
 use mathlib.Core.List.{List, []}
 use Prim.Native.Nat.{ℕ, _≤_}
 use lib.ListN.{length}
+use Rattle.text.specs.Refusal.{badBook}
 use Rattle.text.specs.Put.{put}
 use Rattle.keys.specs.Act.{Meaning, Answer, says, done, gives, number}
 use Rattle.keys.specs.Calls.{write, remove, look, meaning}
@@ -13,7 +14,7 @@ use Rattle.book.specs.Book.{Book, bytesWith, acts}
 
 -- a call that means m, on the buffer b: its answer, and the bytes after
 pub data Outcome (F : Form) (m : Meaning) (b : List ℕ) (a : Answer) (b₁ : List ℕ) : Type 0 where
-  no-book : (Book F b → ⊥) → a ≡ says 9 → b₁ ≡ b → Outcome F m b a b₁
+  no-book : (Book F b → ⊥) → a ≡ says badBook → b₁ ≡ b → Outcome F m b a b₁
   this-book : (x : Book F b) → a ≡ acts x m .0 → b₁ ≡ bytesWith x (acts x m .1) → Outcome F m b a b₁
 
 -- a write or a removal: the refusal number r, and the bytes after
@@ -52,5 +53,5 @@ pub record Sized (F : Form) (b : List ℕ) (C : ℕ) : Type 0 where
 
 -- making a book: 9 and nothing changed where no book has that length; or the layout of no records
 pub data Made (F : Form) (e : F .Extra) (b : List ℕ) (r : ℕ) (b₁ : List ℕ) : Type 0 where
-  no-size : ((C : ℕ) → Sized F b C → ⊥) → r ≡ 9 → b₁ ≡ b → Made F e b r b₁
+  no-size : ((C : ℕ) → Sized F b C → ⊥) → r ≡ badBook → b₁ ≡ b → Made F e b r b₁
   new-book : (C : ℕ) → Sized F b C → r ≡ 0 → b₁ ≡ layout F C e [] → Made F e b r b₁

@@ -5,6 +5,7 @@
 use Prim.Native.Nat.{ℕ}
 use mathlib.Core.List.{List}
 use mathlib.Core.Option.{none}
+use Rattle.text.specs.Refusal.{badBook, noSlot, noRecord}
 use Rattle.keys.specs.Records.{Key}
 use Rattle.keys.specs.Calls.{Call}
 use Rattle.keys.specs.Refusals.{GoodWrite, GoodRemoval, GoodLookup, Declined}
@@ -12,8 +13,8 @@ use Rattle.demands.specs.Held.{Full, Holds, ProperBook}
 
 -- on the bytes b: no book; by the call alone; or by what the book holds
 pub data Refused (b : List ℕ) (c : Call) : ℕ → Type 0 where
-  bad-book : (ProperBook b → ⊥) → Refused b c 9
+  bad-book : (ProperBook b → ⊥) → Refused b c badBook
   declined : {n : ℕ} → ProperBook b → Declined c n → Refused b c n
-  book-full : {k : Key} {v : List ℕ} → GoodWrite c k v → (h : Holds b k none) → Full (h .book) k → Refused b c 11
-  absent : {k : Key} → GoodRemoval c k → Holds b k none → Refused b c 12
-  not-found : {k : Key} {room : ℕ} → GoodLookup c k room → Holds b k none → Refused b c 12
+  book-full : {k : Key} {v : List ℕ} → GoodWrite c k v → (h : Holds b k none) → Full (h .book) k → Refused b c noSlot
+  absent : {k : Key} → GoodRemoval c k → Holds b k none → Refused b c noRecord
+  not-found : {k : Key} {room : ℕ} → GoodLookup c k room → Holds b k none → Refused b c noRecord

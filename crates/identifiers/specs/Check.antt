@@ -8,6 +8,7 @@ use lib.ListN.{length, drop}
 use Rattle.text.specs.Bytes.{bytes}
 use Rattle.text.specs.Number.{isDigit, numeralOf}
 use Rattle.text.specs.Part.{every, ascii, startsWith}
+use Rattle.text.specs.Refusal.{notAscii, badChar, badLength, badPrefix, badNumber}
 use Rattle.text.specs.declared.Numeral.{Numeral}
 use Rattle.text.specs.declared.Numeral.the-variants.{Value, NoDigits, NotADigit, TooLarge}
 
@@ -35,32 +36,36 @@ isValue (NoDigits i) = false
 isValue (NotADigit i) = false
 isValue (TooLarge i) = false
 
+-- the refusal of a number text
+abbrev pub numeralFault : Numeral → ℕ
+numeralFault x = unless badNumber (isValue x)
+
 -- 2, then 5
 unfoldable pub charsOf : List ℕ → ℕ
-charsOf s = first (unless 2 (ascii s)) (unless 5 (every identifierByte s))
+charsOf s = first (unless notAscii (ascii s)) (unless badChar (every identifierByte s))
 
 -- 6 unless n bytes are at least the one and at most the other
 unfoldable pub within : ℕ → ℕ → ℕ → ℕ
-within least most n = unless 6 (leb least n && leb n most)
+within least most n = unless badLength (leb least n && leb n most)
 
 -- 7, then 8: an index is a number text that does not begin with `0` unless it is `0` itself
 unfoldable pub indexOf : List ℕ → ℕ
-indexOf s = first (unless 7 (not (startsWith (bytes "0") s && ltb 1 (length s)))) (unless 8 (isValue (numeralOf s)))
+indexOf s = first (unless badPrefix (not (startsWith (bytes "0") s && ltb 1 (length s)))) (numeralFault (numeralOf s))
 
 -- the name, `-`, and an index: 7 where the text does not start so
 unfoldable pub namedOf : List ℕ → List ℕ → ℕ
-namedOf name s = first (unless 7 (startsWith (name ++ bytes "-") s)) (indexOf (drop (length name + 1) s))
+namedOf name s = first (unless badPrefix (startsWith (name ++ bytes "-") s)) (indexOf (drop (length name + 1) s))
 
 -- ---- the general checks: ASCII over the texts that they are given, then their own part
 unfoldable pub lengthOf : List ℕ → ℕ → ℕ → ℕ
-lengthOf s least most = first (unless 2 (ascii s)) (within (max least 1) most (length s))
+lengthOf s least most = first (unless notAscii (ascii s)) (within (max least 1) most (length s))
 
 -- of a prefix: `-` and one digit, or twenty, are still to come. (A difference of naturals stops at 0)
 unfoldable pub prefixLengthOf : List ℕ → ℕ → ℕ → ℕ
 prefixLengthOf s least most = lengthOf s (least - 2) (most - 21)
 
 unfoldable pub namedIndexOf : List ℕ → List ℕ → ℕ
-namedIndexOf s name = first (unless 2 (ascii s)) (first (unless 2 (ascii name)) (namedOf name s))
+namedIndexOf s name = first (unless notAscii (ascii s)) (first (unless notAscii (ascii name)) (namedOf name s))
 
 -- ---- the five identifiers, as one table
 -- what is asked besides bytes and length: nothing, or a name and an index

@@ -8,6 +8,7 @@ use lib.ListN.{replicate}
 use Rattle.text.specs.Bytes.{bytes}
 use Rattle.text.specs.Number.{decimal}
 use Rattle.text.specs.Part.{ascii}
+use Rattle.text.specs.Refusal.{notAscii}
 use Rattle.text.specs.Put.{Wanted, text, accepted, answer, left}
 use Rattle.identifiers.specs.Check.{first, unless, checkOf, Rule, clientType}
 use Rattle.identifiers.specs.declared.client_id.MadeClientId.{MadeClientId}
@@ -42,7 +43,7 @@ trim s = trimEnd (trimStart s)
 -- ---- new identifiers
 -- `{client type}-{counter}`: ASCII, then trimming, then the check
 unfoldable pub newClient : List ℕ → ℕ → Wanted
-newClient s n = accepted (first (unless 2 (ascii s)) (checkOf clientType (trim s))) (trim s ++ (bytes "-" ++ decimal n))
+newClient s n = accepted (first (unless notAscii (ascii s)) (checkOf clientType (trim s))) (trim s ++ (bytes "-" ++ decimal n))
 
 -- `channel-{counter}`
 unfoldable pub newChannel : ℕ → Wanted

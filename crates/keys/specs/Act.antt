@@ -4,6 +4,7 @@
 use Prim.Native.Nat.{ℕ}
 use mathlib.Core.Bool.{Bool, cond}
 use mathlib.Core.List.{List, []}
+use Rattle.text.specs.Refusal.{noSlot, noRecord}
 use lib.Dec.{eqb}
 use lib.ListN.{length}
 use mathlib.Core.Option.{Option, none, some}
@@ -29,14 +30,14 @@ pub data Answer : Type 0 where
 -- a write adds or replaces, and is refused where it would add to what is full
 abbrev pub addTo : Option (List ℕ) → Bool → List Rec → List Rec → Answer × List Rec
 addTo (some u) full new old = (done, new)
-addTo none full new old = cond full (says 11, old) (done, new)
+addTo none full new old = cond full (says noSlot, old) (done, new)
 
 abbrev pub takeFrom : Option (List ℕ) → List Rec → List Rec → Answer × List Rec
-takeFrom none new old = (says 12, old)
+takeFrom none new old = (says noRecord, old)
 takeFrom (some u) new old = (done, new)
 
 abbrev pub lookIn : Option (List ℕ) → List Rec → Answer × List Rec
-lookIn none old = (says 12, old)
+lookIn none old = (says noRecord, old)
 lookIn (some u) old = (gives u, old)
 
 -- `full k s`: the records s have no room for a new key k

@@ -6,6 +6,7 @@ use mathlib.Core.Bool.{cond}
 use mathlib.Core.List.{List}
 use lib.Dec.{eqb, leb}
 use lib.ListN.{length}
+use Rattle.text.specs.Refusal.{noRoom, badLength, keyTooLong}
 use Rattle.text.specs.Put.{Wanted, refused, text}
 use Rattle.text.specs.Put as put
 use Rattle.text.specs.declared.Written.{Written}
@@ -45,13 +46,13 @@ SamePath c d = (k : Key) × PathOf c k × PathOf d k
 -- a call works on the rendering of its text: 1, 2, 3 are the reader's, and 10 is judged on the rendering
 unfoldable pub keyed : Wanted → (Key → Meaning) → Meaning
 keyed (refused n) f = refuses n
-keyed (text k) f = cond (leb (length k) 255) (f k) (refuses 10)
+keyed (text k) f = cond (leb (length k) 255) (f k) (refuses keyTooLong)
 
 -- what is asked of a key: a value has 32 bytes; a lookup wants its room whether it finds the key or not
 abbrev pub under : Asked → Key → Meaning
-under (to-write v) k = cond (eqb (length v) 32) (writes k v) (refuses 6)
+under (to-write v) k = cond (eqb (length v) 32) (writes k v) (refuses badLength)
 under to-remove k = removes k
-under (to-look room) k = cond (leb 32 room) (looks k) (refuses 4)
+under (to-look room) k = cond (leb 32 room) (looks k) (refuses noRoom)
 
 unfoldable pub meaning : Call → Meaning
 meaning c = keyed (keyOf (c .text)) (under (c .asked))
@@ -63,4 +64,4 @@ Exact k = keyOf k ≡ text k
 -- what a key's field of 255 bytes answers: the refusals of its text, then 10
 unfoldable pub keyAnswer : Wanted → Written
 keyAnswer (refused n) = put.refusal n
-keyAnswer (text k) = cond (leb (length k) 255) (put.done (length k)) (put.refusal 10)
+keyAnswer (text k) = cond (leb (length k) 255) (put.done (length k)) (put.refusal keyTooLong)

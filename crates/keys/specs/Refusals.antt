@@ -7,6 +7,7 @@ use mathlib.Core.Bool.{true, false}
 use lib.ListN.{length}
 use mathlib.Core.List.{List}
 use Rattle.text.specs.Part.{ascii}
+use Rattle.text.specs.Refusal.{tooLong, notAscii, notAPath, noRoom, badLength, keyTooLong}
 use Rattle.path.specs.declared.PathAnswer.the-variants.{Nothing}
 use Rattle.path.specs.Kinds.{kinds}
 use Rattle.path.specs.Read.{readFirst}
@@ -36,9 +37,9 @@ pub record GoodLookup (c : Call) (k : Key) (room : ℕ) : Type 0 where
 -- ---- refusals
 -- by the call alone: its text, the rendering, the value's length, the room
 pub data Declined (c : Call) : ℕ → Type 0 where
-  too-long : 4096 < length (c .text) → Declined c 1
-  not-ascii : length (c .text) ≤ 4096 → ascii (c .text) ≡ false → Declined c 2
-  not-a-path : length (c .text) ≤ 4096 → ascii (c .text) ≡ true → readFirst kinds (c .text) ≡ Nothing → Declined c 3
-  key-too-long : {k : Key} → PathOf c k → 255 < length k → Declined c 10
-  bad-length : {k : Key} {v : List ℕ} → c .asked ≡ to-write v → HasKey c k → (length v ≡ 32 → ⊥) → Declined c 6
-  no-room : {k : Key} {room : ℕ} → c .asked ≡ to-look room → HasKey c k → room < 32 → Declined c 4
+  too-long : 4096 < length (c .text) → Declined c tooLong
+  not-ascii : length (c .text) ≤ 4096 → ascii (c .text) ≡ false → Declined c notAscii
+  not-a-path : length (c .text) ≤ 4096 → ascii (c .text) ≡ true → readFirst kinds (c .text) ≡ Nothing → Declined c notAPath
+  key-too-long : {k : Key} → PathOf c k → 255 < length k → Declined c keyTooLong
+  bad-length : {k : Key} {v : List ℕ} → c .asked ≡ to-write v → HasKey c k → (length v ≡ 32 → ⊥) → Declined c badLength
+  no-room : {k : Key} {room : ℕ} → c .asked ≡ to-look room → HasKey c k → room < 32 → Declined c noRoom

@@ -8,6 +8,7 @@ use lib.ListN.{length, getD}
 use Rattle.text.specs.Bytes.{bytes}
 use Rattle.text.specs.Number.{numeralOf, decimal, bigEndian}
 use Rattle.text.specs.Part.{every, ascii, same}
+use Rattle.text.specs.Refusal.{tooLong, notAscii, notAPath, badSegment, badKind}
 use Rattle.text.specs.Put.{Wanted, refused, text, accepted}
 use Rattle.text.specs.declared.Numeral.{Numeral}
 use Rattle.text.specs.declared.Numeral.the-variants.{Value, NoDigits, NotADigit, TooLarge}
@@ -34,7 +35,7 @@ nameFault client c = checkOf check.client c
 nameFault connection c = checkOf check.connection c
 nameFault port c = checkOf check.port c
 nameFault channel c = checkOf check.channel c
-nameFault upgrade c = first (unless 2 (ascii c)) (unless 13 (every (λ b. not (eqb b 47)) c))
+nameFault upgrade c = first (unless notAscii (ascii c)) (unless badSegment (every (λ b. not (eqb b 47)) c))
 
 -- the value of a number text, 0 where it is none
 abbrev pub valueOf : Numeral → ℕ
@@ -136,17 +137,17 @@ namesFault (pair ∷ ps) v = namesFault ps v
 
 -- the rendering of these parts: the identifiers, then 1
 abbrev pub limited : List Part → Carried (List ℕ) → Wanted
-limited ps v = accepted (first (namesFault ps v) (unless 1 (leb (length (render ps v)) 4096))) (render ps v)
+limited ps v = accepted (first (namesFault ps v) (unless tooLong (leb (length (render ps v)) 4096))) (render ps v)
 
 -- rendering by kind and parts: 14, the identifiers, 1
 unfoldable pub renderOf : ℕ → Carried (List ℕ) → Wanted
-renderOf k v = cond (leb 1 k && leb k 19) (limited (partsOf k) v) (refused 14)
+renderOf k v = cond (leb 1 k && leb k 19) (limited (partsOf k) v) (refused badKind)
 
 -- ---- the reader's answer
 abbrev pub refusalOf : Refusal → ℕ
-refusalOf TooLong = 1
-refusalOf NotAscii = 2
-refusalOf NotAPath = 3
+refusalOf TooLong = tooLong
+refusalOf NotAscii = notAscii
+refusalOf NotAPath = notAPath
 
 abbrev pub numberOf : Reading → ℕ
 numberOf (Read p e) = 0

@@ -6,6 +6,7 @@ use mathlib.Core.Bool.{Bool, true, false, cond, not, _&&_, _||_}
 use mathlib.Core.List.{List}
 use lib.Dec.{eqb, leb}
 use denote.Ref.{RefT, now}
+use Rattle.text.specs.Refusal.{badKind}
 use Rattle.path.specs.declared.Place.{Place}
 use Rattle.path.specs.declared.number.Flag.{Flag}
 use Rattle.path.specs.declared.Path.{Path}
@@ -73,7 +74,7 @@ provable k = not (eqb k 8 || eqb k 10)
 
 -- the same for a kind's number: 14 where it is none
 unfoldable pub provableFlag : ℕ → Flag
-provableFlag k = cond (leb 1 k && leb k 19) (record { refusal = 0; value = cond (provable k) 1 0 }) (record { refusal = 14; value = 0 })
+provableFlag k = cond (leb 1 k && leb k 19) (record { refusal = 0; value = cond (provable k) 1 0 }) (record { refusal = badKind; value = 0 })
 
 -- the places of the identifiers of a reading: none on a refusal
 abbrev pub firstPlace : Reading → Place

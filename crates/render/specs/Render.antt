@@ -5,6 +5,7 @@ use mathlib.Core.Bool.{cond}
 use mathlib.Core.List.{List}
 use lib.Dec.{ltb, leb}
 use lib.ListN.{length}
+use Rattle.text.specs.Refusal.{tooLong}
 use Rattle.text.specs.Put.{Wanted, accepted}
 use Rattle.identifiers.specs.Check.{first, unless}
 use Rattle.path.specs.declared.name.Name.the-variants.{Client as client, Connection as connection, Port as port, Channel as channel, Upgrade as upgrade}
@@ -21,4 +22,4 @@ kindFault k one two =
 
 -- a text of at most 4,096 bytes
 unfoldable pub short : List ℕ → Wanted
-short w = accepted (unless 1 (leb (length w) 4096)) w
+short w = accepted (unless tooLong (leb (length w) 4096)) w

@@ -10,4 +10,5 @@ pub mod PartLaws
 pub mod PlaceLaws
 pub mod Put
 pub mod PutLaws
+pub mod Refusal
 pub mod TableLaws

@@ -1,0 +1,59 @@
+-- The refusal numbers of the whole library, by name; `text::refusal` has them for code. 0 is no refusal.
+-- Assumes nothing.
+use Prim.Native.Nat.{ℕ}
+
+-- a text to be read as a path, or a rendering, of more than 4,096 bytes
+abbrev pub tooLong : ℕ
+tooLong = 1
+
+-- a byte of 128 or more
+abbrev pub notAscii : ℕ
+notAscii = 2
+
+-- no kind fits
+abbrev pub notAPath : ℕ
+notAPath = 3
+
+-- the output buffer is too short
+abbrev pub noRoom : ℕ
+noRoom = 4
+
+-- a byte that no identifier has
+abbrev pub badChar : ℕ
+badChar = 5
+
+-- an identifier too short or too long, or a value of another size
+abbrev pub badLength : ℕ
+badLength = 6
+
+-- not the name and `-`, or a leading zero after them
+abbrev pub badPrefix : ℕ
+badPrefix = 7
+
+-- no number text after them
+abbrev pub badNumber : ℕ
+badNumber = 8
+
+-- the buffer is no book
+abbrev pub badBook : ℕ
+badBook = 9
+
+-- a rendering of more than 255 bytes
+abbrev pub keyTooLong : ℕ
+keyTooLong = 10
+
+-- FULL: no free slot for a new key
+abbrev pub noSlot : ℕ
+noSlot = 11
+
+-- ABSENT: no record of the key
+abbrev pub noRecord : ℕ
+noRecord = 12
+
+-- `/` in an upgrade path
+abbrev pub badSegment : ℕ
+badSegment = 13
+
+-- a kind that is not from 1 to 19
+abbrev pub badKind : ℕ
+badKind = 14
