@@ -10,8 +10,8 @@ fail() {
     failed=$((failed + 1))
 }
 
-# The wrong answers of the rows, as FUNCTION: WRONG ANSWER.
-grep -E '^\| `[a-z_]+::' docs/CONTRACTS.md | awk -F '|' '{
+# The wrong answers of the rows, as FUNCTION: WRONG ANSWER. An exported call has none.
+grep -E '^\| `[a-z_]+::' docs/CONTRACTS.md | grep -v '^| `node::' | awk -F '|' '{
     gsub(/[` *]/, "", $2)
     for (i = 5; i <= 6; i++) {
         gsub(/^ +| +$/, "", $i)

@@ -1,10 +1,21 @@
 //! A call over the C interface as data, so that another process can answer it.
 use std::fmt::{self, Debug, Display, Formatter};
 
-/// The calls, in the order that serve.c has too.
-#[derive(Clone, Copy, Debug, PartialEq, Eq)]
-#[repr(u8)]
-pub enum Function {
+/// Declares the calls and a list of them all.
+macro_rules! functions {
+    ($($(#[$said:meta])* $name:ident,)*) => {
+        /// The calls, in the order that serve.c has too.
+        #[derive(Clone, Copy, Debug, PartialEq, Eq, PartialOrd, Ord)]
+        #[repr(u8)]
+        pub enum Function {
+            $($(#[$said])* $name,)*
+        }
+
+        const ALL: &[Function] = &[$(Function::$name,)*];
+    };
+}
+
+functions! {
     ValidateIdentifierChars,
     ValidateIdentifierLength,
     ValidatePrefixLength,
@@ -45,9 +56,20 @@ pub enum Function {
 }
 
 impl Function {
+    /// The call of this name in the C interface.
+    pub fn named(name: &str) -> Option<Self> {
+        let name = name.strip_prefix("hp_")?.replace('_', "");
+        ALL.iter().copied().find(|function| format!("{function:?}").to_lowercase() == name)
+    }
+
+    /// Whether a call that is not refused writes a text.
+    pub fn writes(self) -> bool {
+        self >= Self::ClientIdNew && self != Self::IsProvable && !self.has_book()
+    }
+
     /// Whether a reply shows the book.
     pub fn has_book(self) -> bool {
-        self as u8 >= Self::BookLend as u8
+        self >= Self::BookLend
     }
 }
 

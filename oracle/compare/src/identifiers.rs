@@ -1,7 +1,4 @@
 //! The nine checks of validate.rs, `ClientId::new` and `ChannelId::new`.
-use ibc_core_host_types::error::IdentifierError;
-use ibc_core_host_types::identifiers::{ChannelId, ClientId};
-use ibc_core_host_types::validate;
 use model::identifier::{self, Identifier};
 use model::path::KINDS;
 use model::pool::{self, filled};
@@ -9,7 +6,8 @@ use model::random::Random;
 use model::table;
 
 use crate::call::{Call, Function};
-use crate::set::{hear, Bytes, Set, Theirs};
+use crate::original::says;
+use crate::set::{Bytes, Set, Theirs};
 use crate::{Sets, Size};
 
 pub const SETS: Sets = &[
@@ -62,29 +60,9 @@ impl<'a> Check<'a> {
         }
     }
 
-    fn theirs(self, id: &[u8]) -> Theirs<u8> {
-        let name = match self {
-            Self::Named(name) => name,
-            _ => b"",
-        };
-        hear([id, name], |[id, name]| {
-            let answer = match self {
-                Self::Chars => validate::validate_identifier_chars(id),
-                Self::Length(least, most) => validate::validate_identifier_length(id, least, most),
-                Self::Prefix(least, most) => validate::validate_prefix_length(id, least, most),
-                Self::Named(_) => validate::validate_named_u64_index(id, name),
-                Self::Whole(Identifier::Client) => validate::validate_client_identifier(id),
-                Self::Whole(Identifier::ClientType) => validate::validate_client_type(id),
-                Self::Whole(Identifier::Connection) => validate::validate_connection_identifier(id),
-                Self::Whole(Identifier::Port) => validate::validate_port_identifier(id),
-                Self::Whole(Identifier::Channel) => validate::validate_channel_identifier(id),
-            };
-            answer.map_or_else(|e| e.number(), |()| 0)
-        })
-    }
-
     fn ask(self, set: &mut Set, id: &'a [u8]) {
-        set.number(self.call(id), self.theirs(id), self.model(id));
+        let call = self.call(id);
+        set.number(call, says(&call), self.model(id));
     }
 }
 
@@ -175,14 +153,8 @@ fn client_id_call(client_type: &[u8], counter: u64) -> Call<'_> {
 }
 
 fn client_id_new(set: &mut Set, client_type: &[u8], counter: u64) {
-    let shown = |made: Result<ClientId, IdentifierError>| {
-        made.map(|id| Bytes(id.as_bytes().to_vec())).map_err(|e| e.number())
-    };
-    set.text(
-        client_id_call(client_type, counter),
-        hear([client_type], |[client_type]| shown(ClientId::new(client_type, counter))),
-        &identifier::client_id_new(client_type, counter).map(Bytes),
-    );
+    let call = client_id_call(client_type, counter);
+    set.text(call, says(&call), &identifier::client_id_new(client_type, counter).map(Bytes));
 }
 
 fn channel_id_call(counter: u64) -> Call<'static> {
@@ -190,11 +162,8 @@ fn channel_id_call(counter: u64) -> Call<'static> {
 }
 
 fn channel_id_new(set: &mut Set, counter: u64) {
-    set.text(
-        channel_id_call(counter),
-        Theirs::Says(Ok(Bytes(ChannelId::new(counter).as_bytes().to_vec()))),
-        &Ok(Bytes(identifier::channel_id_new(counter))),
-    );
+    let call = channel_id_call(counter);
+    set.text(call, says(&call), &Ok(Bytes(identifier::channel_id_new(counter))));
 }
 
 /// Document 01's rows, held to the outcomes that it writes.
@@ -202,7 +171,7 @@ fn table(set: &mut Set, _: Size) {
     for (identifier, id, outcome) in table::identifiers() {
         let check = Check::Whole(identifier);
         check.ask(set, id.as_bytes());
-        set.number(check.call(id.as_bytes()), Theirs::Silent, outcome);
+        set.number(check.call(id.as_bytes()), Theirs::Silent("written"), outcome);
     }
 }
 
@@ -249,6 +218,7 @@ fn scalars(set: &mut Set, size: Size) {
         Check::Chars.ask(set, inside.as_bytes());
         Check::Whole(Identifier::Port).ask(set, inside.as_bytes());
         Check::Named(inside.as_bytes()).ask(set, b"trans-1");
+        index(set, format!("channel-{scalar}").as_bytes());
         client_id_new(set, around.as_bytes(), 0);
     }
 }

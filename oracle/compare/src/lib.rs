@@ -9,6 +9,8 @@ pub mod identifiers;
 #[cfg_attr(not(feature = "linked"), path = "served.rs")]
 pub mod library;
 pub mod no_books;
+pub mod original;
+pub mod page;
 pub mod paths;
 pub mod renderings;
 pub mod set;
@@ -34,4 +36,4 @@ pub type Sets = &'static [(&'static str, fn(&mut set::Set, Size))];
 
 /// The families of sets that this build can run.
 pub const FAMILIES: &[Sets] =
-    &[identifiers::SETS, paths::SETS, renderings::SETS, books::SETS, no_books::SETS];
+    &[page::SETS, identifiers::SETS, paths::SETS, renderings::SETS, books::SETS, no_books::SETS];

@@ -20,15 +20,7 @@ impl Library {
         for (call, room) in batch.calls() {
             let head = self.replies.len();
             let lent = put_reply(&mut self.replies, Returned::default(), room);
-            let out = &mut self.replies[lent..lent + room];
-            let returned = match call.function {
-                Function::BookLend => {
-                    self.book = guarded(call.texts[0]);
-                    Returned::default()
-                }
-                function if function.has_book() => answer_book(&call, &mut self.book, out),
-                _ => answer(&call, out),
-            };
+            let returned = answer(&call, &mut self.book, &mut self.replies[lent..lent + room]);
             let told = self.replies[head..head + HEAD].iter_mut().zip(returned.bytes());
             told.for_each(|(to, byte)| *to = byte);
             if call.function.has_book() {
@@ -52,6 +44,19 @@ fn written(answer: Written) -> Returned {
     Returned::new(answer.refusal, answer.length)
 }
 
+/// Makes a call, on a book between its guards where it is lent one.
+pub fn answer(call: &Call, book: &mut Vec<u8>, out: &mut [u8]) -> Returned {
+    match call.function {
+        Function::BookLend => {
+            *book = guarded(call.texts[0]);
+            Returned::default()
+        }
+        function if function.has_book() => answer_book(call, book, out),
+        function if function.writes() || function == Function::IsProvable => answer_path(call, out),
+        _ => answer_check(call),
+    }
+}
+
 fn answer_book(call: &Call, guarded: &mut [u8], out: &mut [u8]) -> Returned {
     let [first, second] = call.texts;
     let end = guarded.len() - GUARD;
@@ -69,7 +74,7 @@ fn answer_book(call: &Call, guarded: &mut [u8], out: &mut [u8]) -> Returned {
     }
 }
 
-fn answer(call: &Call, out: &mut [u8]) -> Returned {
+fn answer_check(call: &Call) -> Returned {
     let Call { function, texts: [first, second], numbers: [a, b], .. } = *call;
     match function {
         Function::ValidateIdentifierChars => number(hostpath::validate_identifier_chars(first)),
@@ -87,15 +92,15 @@ fn answer(call: &Call, out: &mut [u8]) -> Returned {
         }
         Function::ValidatePortIdentifier => number(hostpath::validate_port_identifier(first)),
         Function::ValidateChannelIdentifier => number(hostpath::validate_channel_identifier(first)),
-        Function::ClientIdNew => written(hostpath::client_id_new(first, a, out)),
-        Function::ChannelIdNew => written(hostpath::channel_id_new(a, out)),
-        _ => answer_path(call, out),
+        _ => unreachable!("{call} is no check"),
     }
 }
 
 fn answer_path(call: &Call, out: &mut [u8]) -> Returned {
     let Call { function, kind, texts: [first, second], numbers: [a, b] } = *call;
     match function {
+        Function::ClientIdNew => written(hostpath::client_id_new(first, a, out)),
+        Function::ChannelIdNew => written(hostpath::channel_id_new(a, out)),
         Function::Read => {
             let answer = number(hostpath::read(first, out));
             let length = if answer.refusal == 0 { hostpath::READING as u64 } else { 0 };
@@ -122,6 +127,6 @@ fn answer_path(call: &Call, out: &mut [u8]) -> Returned {
         Function::CommitmentPrefix => written(hostpath::commitment_prefix(out)),
         Function::AckPrefix => written(hostpath::ack_prefix(out)),
         Function::ReceiptPrefix => written(hostpath::receipt_prefix(out)),
-        _ => unreachable!("{call} is no call of the feature paths"),
+        _ => unreachable!("{call} is no call on a path"),
     }
 }

@@ -5,6 +5,7 @@ use std::process::ExitCode;
 use std::time::Instant;
 
 use compare::library::Library;
+use compare::page::Page;
 use compare::set::Set;
 use compare::{Size, FAMILIES};
 
@@ -18,12 +19,12 @@ fn main() -> ExitCode {
         }
     };
     let chosen = std::env::args().nth(2).unwrap_or_default();
-    let mut library = Library::start();
+    let (mut library, page) = (Library::start(), Page::default());
     let (mut passed, mut failed) = (0, 0);
     let sets = FAMILIES.iter().copied().flatten();
     for (name, run) in sets.filter(|(name, _)| name.starts_with(&chosen)) {
         let begun = Instant::now();
-        let mut set = Set::new(&mut library);
+        let mut set = Set::new(&mut library, &page);
         run(&mut set, size);
         set.finish();
         println!("{name}: {set}, {:.1} s", begun.elapsed().as_secs_f64());

@@ -1,15 +1,14 @@
 //! Reading: `hp_read` and `hp_key` against `Path::from_str` and `Path`'s `Display`.
-use std::fmt::{self, Debug, Formatter};
-
 use ibc_core_host_types::path::Path;
-use ibc_core_host_types::terms::{self, Answer};
-use model::path::{self, KINDS, MOST};
+use ibc_core_host_types::terms::{self, Parts};
+use model::path::{self, Reading, KINDS};
 use model::pool::{self, Pools};
 use model::random::Random;
-use model::{table, NOT_A_PATH};
+use model::table;
 
 use crate::call::{Call, Function};
-use crate::set::{Bytes, Listed, Set, Text, Theirs};
+use crate::original::reads;
+use crate::set::{Bytes, Set, Text, Theirs};
 use crate::{Sets, Size};
 
 pub const SETS: Sets = &[
@@ -27,51 +26,26 @@ pub const SETS: Sets = &[
 ];
 
 /// A reading with its identifiers as texts, as each voice can tell it.
-#[derive(PartialEq)]
-struct Told<'a> {
+#[derive(Debug, PartialEq)]
+struct Told {
     kind: u8,
     exact: bool,
-    first: &'a [u8],
-    second: &'a [u8],
+    first: Bytes,
+    second: Bytes,
     numbers: [u64; 2],
-    key: &'a [u8],
+    key: Bytes,
 }
 
-impl Debug for Told<'_> {
-    fn fmt(&self, out: &mut Formatter<'_>) -> fmt::Result {
-        let [first, second, key] = [self.first, self.second, self.key].map(<[u8]>::escape_ascii);
-        let Self { kind, exact, numbers, .. } = self;
-        write!(out, "kind {kind}, exact {exact}, {first}, {second}, {numbers:?}, key {key}")
-    }
+fn told_by_original(path: &Path, key: &str, text: &[u8]) -> Told {
+    let Parts { kind, first, second, numbers } = terms::parts(path);
+    let [first, second, key] = [first, second, key].map(|text| Bytes(text.into()));
+    Told { kind, exact: key.0 == text, first, second, numbers, key }
 }
 
-/// No refusal: the original panicked.
-const PANICKED: u8 = 255;
-
-/// The one text that the original panics on.
-const PANICS: &[u8] = b"clients";
-
-/// Where the original's reading of a text may differ.
-fn listed(text: &[u8]) -> Option<Listed> {
-    if text.len() > MOST {
-        return Some(Listed::TooLong);
-    }
-    if !text.is_ascii() {
-        return Some(Listed::NotAscii);
-    }
-    (text == PANICS).then_some(Listed::Panic)
-}
-
-fn told_by_original<'a>(path: &'a Path, key: &'a str, text: &str) -> Told<'a> {
-    let parts = terms::parts(path);
-    Told {
-        kind: parts.kind,
-        exact: key == text,
-        first: parts.first.as_bytes(),
-        second: parts.second.as_bytes(),
-        numbers: parts.numbers,
-        key: key.as_bytes(),
-    }
+fn told_by_model(reading: &Reading, key: &Bytes, text: &[u8]) -> Told {
+    let Reading { kind, exact, numbers, .. } = *reading;
+    let [first, second] = [reading.first, reading.second].map(|place| Bytes(place.of(text).into()));
+    Told { kind, exact, first, second, numbers, key: key.clone() }
 }
 
 fn read_call(text: &[u8]) -> Call<'_> {
@@ -84,43 +58,18 @@ fn key_call(text: &[u8]) -> Call<'_> {
 
 /// One text, read and rendered.
 fn ask(set: &mut Set, text: &[u8]) {
-    let model = path::read_with_key(text);
+    let model = path::read_with_key(text).map(|(reading, key)| (reading, Bytes(key)));
     let bytes = model.as_ref().map(|(reading, _)| Bytes(reading.bytes().to_vec())).map_err(|e| *e);
-    let key: Text = model.as_ref().map(|(_, key)| Bytes(key.clone())).map_err(|e| *e);
+    let key: Text = model.as_ref().map(|(_, key)| key.clone()).map_err(|e| *e);
     set.count();
     set.lend_around(read_call(text), &bytes);
     set.lend_around(key_call(text), &key);
-    let told = model.as_ref().map_err(|e| *e).map(|(reading, key)| Told {
-        kind: reading.kind,
-        exact: reading.exact,
-        first: reading.first.of(text),
-        second: reading.second.of(text),
-        numbers: reading.numbers,
-        key,
-    });
-    hear(set, text, &told);
-}
-
-/// What the original says of the text, held to the model.
-fn hear(set: &mut Set, text: &[u8], model: &Result<Told, u8>) {
-    let Ok(heard) = std::str::from_utf8(text) else {
-        return;
-    };
-    let answer = terms::read(heard);
-    let key = match &answer {
-        Answer::Path(path) => path.to_string(),
-        Answer::Refused | Answer::Panic => String::new(),
-    };
-    let said = match &answer {
-        Answer::Path(path) => Ok(told_by_original(path, &key, heard)),
-        Answer::Refused => Err(NOT_A_PATH),
-        Answer::Panic => Err(PANICKED),
-    };
-    let theirs = match listed(text) {
-        Some(reason) => Theirs::Listed(reason, said),
-        None => Theirs::Says(said),
-    };
-    set.agree(theirs, model, read_call(text));
+    let theirs = reads(text, |path, key| told_by_original(path, key, text));
+    set.agree(
+        theirs,
+        &model.map(|(reading, key)| told_by_model(&reading, &key, text)),
+        read_call(text),
+    );
 }
 
 /// Document 01's rows, held to the outcomes that it writes.
@@ -128,7 +77,7 @@ fn table(set: &mut Set, _: Size) {
     for (text, outcome) in table::paths() {
         ask(set, text.as_bytes());
         let written = outcome.map(|reading| Bytes(reading.bytes().to_vec()));
-        set.text(read_call(text.as_bytes()), Theirs::Silent, &written);
+        set.text(read_call(text.as_bytes()), Theirs::Silent("written"), &written);
     }
 }
 

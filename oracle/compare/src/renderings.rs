@@ -1,14 +1,11 @@
 //! Rendering by kind and parts, what is provable, iteration keys, and the texts above and below a path.
-use ibc_core_host_types::error::IdentifierError;
-use ibc_core_host_types::identifiers::ClientId;
-use ibc_core_host_types::path::{self as original, ChannelEndPath, ClientConsensusStatePath};
-use ibc_core_host_types::terms;
 use model::path::{self, Part, KINDS, MOST};
 use model::pool::{self, filled, Pools};
 use model::random::Random;
 
 use crate::call::{Call, Function};
-use crate::set::{hear, Bytes, Listed, Set, Text, Theirs};
+use crate::original::says;
+use crate::set::{Bytes, Set};
 use crate::{Sets, Size};
 
 pub const SETS: Sets = &[
@@ -45,35 +42,9 @@ const PARTS: [&[u8]; 16] = [
     &[b'p'; 129],
 ];
 
-/// The original's rendering of the parts that a kind has.
-fn theirs(kind: u8, first: &[u8], second: &[u8], numbers: [u64; 2]) -> Theirs<Text> {
-    let Ok(shape) = path::shape(kind) else {
-        return Theirs::Silent;
-    };
-    let upgrade = shape.contains(&Part::Upgrade);
-    let has_first = upgrade || shape.iter().any(|part| matches!(part, Part::First(_)));
-    let has_second = shape.iter().any(|part| matches!(part, Part::Second(_)));
-    let first = if has_first { first } else { b"" };
-    let second = if has_second { second } else { b"" };
-    let said = hear([first, second], |[first, second]| {
-        let typed = terms::typed(kind, first, second, numbers).expect("a kind from 1 to 19");
-        typed.map(|path| Bytes(path.into_bytes())).map_err(|e| e.number())
-    });
-    match said {
-        Theirs::Says(said) if upgrade && first.contains(&b'/') => {
-            Theirs::Listed(Listed::Slash, said)
-        }
-        Theirs::Says(Ok(text)) if text.0.len() > MOST => Theirs::Listed(Listed::TooLong, Ok(text)),
-        said => said,
-    }
-}
-
 fn ask(set: &mut Set, kind: u8, first: &[u8], second: &[u8], numbers: [u64; 2]) {
-    set.text(
-        Call { function: Function::Render, kind, texts: [first, second], numbers },
-        theirs(kind, first, second, numbers),
-        &path::render(kind, first, second, numbers).map(Bytes),
-    );
+    let call = Call { function: Function::Render, kind, texts: [first, second], numbers };
+    text(set, call, path::render(kind, first, second, numbers));
 }
 
 /// All that any kind takes as first or second identifier.
@@ -152,11 +123,7 @@ fn lengths(set: &mut Set, _: Size) {
 fn provable(set: &mut Set, _: Size) {
     for kind in 0..=255 {
         let call = Call { kind, ..Call::new(Function::IsProvable, [b"", b""], [0, 0]) };
-        let theirs = path::shape(kind).map_or(Theirs::Silent, |shape| {
-            let path: original::Path = pool::plain(shape).parse().expect("a plain text is a path");
-            Theirs::Says(Ok(path.is_provable()))
-        });
-        set.flag(call, theirs, path::is_provable(kind));
+        set.flag(call, says(&call), path::is_provable(kind));
     }
 }
 
@@ -173,50 +140,38 @@ fn pairs(chances: usize) -> Vec<(u64, u64)> {
 /// The keys; that they compare as their pairs do is a test of the model.
 fn iteration(set: &mut Set, size: Size) {
     for (number, height) in pairs(size.pick(1_000, 100_000)) {
-        set.text(
-            Call::new(Function::IterationKey, [b"", b""], [number, height]),
-            Theirs::Says(Ok(Bytes(original::iteration_key(number, height)))),
-            &Ok(Bytes(path::iteration_key(number, height))),
-        );
+        let call = Call::new(Function::IterationKey, [b"", b""], [number, height]);
+        text(set, call, Ok(path::iteration_key(number, height)));
     }
 }
 
 /// The texts without a part.
 fn words(set: &mut Set, _: Size) {
     let rows = [
-        (Function::ClientStatePrefix, original::ClientStatePath::prefix(), "clients"),
-        (Function::ClientStateLeaf, original::ClientStatePath::leaf(), "clientState"),
-        (Function::ConnectionPrefix, original::ConnectionPath::prefix(), "connections"),
-        (Function::ChannelEndPrefix, ChannelEndPath::prefix(), "channelEnds"),
-        (Function::CommitmentPrefix, original::CommitmentPath::prefix(), "commitments"),
-        (Function::AckPrefix, original::AckPath::prefix(), "acks"),
-        (Function::ReceiptPrefix, original::ReceiptPath::prefix(), "receipts"),
+        (Function::ClientStatePrefix, "clients"),
+        (Function::ClientStateLeaf, "clientState"),
+        (Function::ConnectionPrefix, "connections"),
+        (Function::ChannelEndPrefix, "channelEnds"),
+        (Function::CommitmentPrefix, "commitments"),
+        (Function::AckPrefix, "acks"),
+        (Function::ReceiptPrefix, "receipts"),
     ];
-    for (function, theirs, model) in rows {
-        let call = Call::new(function, [b"", b""], [0, 0]);
-        set.text(call, Theirs::Says(Ok(Bytes(theirs.into()))), &Ok(Bytes(model.into())));
+    for (function, word) in rows {
+        text(set, Call::new(function, [b"", b""], [0, 0]), Ok(word.into()));
     }
 }
 
 /// The texts of a revision number and height.
 fn leaves(set: &mut Set, size: Size) {
-    type Leaf<'a> = &'a dyn Fn(u64, u64) -> String;
-    let client: ClientId = "07-tendermint-4".parse().expect("a client");
-    let state = |a, b| ClientConsensusStatePath::new(client.clone(), a, b).leaf();
-    let time = |a, b| original::ClientUpdateTimePath::new(client.clone(), a, b).leaf();
-    let height = |a, b| original::ClientUpdateHeightPath::new(client.clone(), a, b).leaf();
-    let rows: [(Function, Leaf, &str); 3] = [
-        (Function::ConsensusStateLeaf, &state, ""),
-        (Function::UpdateTimeLeaf, &time, "/processedTime"),
-        (Function::UpdateHeightLeaf, &height, "/processedHeight"),
+    let rows = [
+        (Function::ConsensusStateLeaf, ""),
+        (Function::UpdateTimeLeaf, "/processedTime"),
+        (Function::UpdateHeightLeaf, "/processedHeight"),
     ];
-    for (function, theirs, after) in rows {
+    for (function, after) in rows {
         for (a, b) in pairs(size.pick(1_000, 100_000)) {
-            set.text(
-                Call::new(function, [b"", b""], [a, b]),
-                Theirs::Says(Ok(Bytes(theirs(a, b).into()))),
-                &Ok(Bytes(path::consensus_state_leaf(a, b, after))),
-            );
+            let call = Call::new(function, [b"", b""], [a, b]);
+            text(set, call, Ok(path::consensus_state_leaf(a, b, after)));
         }
     }
 }
@@ -240,35 +195,22 @@ fn parents(set: &mut Set, size: Size) {
 }
 
 fn consensus_state_parent(set: &mut Set, client: &[u8]) {
-    let parent = |client: &str| -> Result<String, IdentifierError> {
-        Ok(ClientConsensusStatePath::new(client.parse()?, 0, 0).parent())
-    };
-    set.text(
-        Call::new(Function::ConsensusStateParent, [client, b""], [0, 0]),
-        hear([client], |[client]| text(parent(client))),
-        &path::consensus_state_parent(client).map(Bytes),
-    );
+    let call = Call::new(Function::ConsensusStateParent, [client, b""], [0, 0]);
+    text(set, call, path::consensus_state_parent(client));
 }
 
 fn sequences_paths(set: &mut Set, port: &[u8], channel: &[u8]) {
-    type Above = fn(&ChannelEndPath) -> String;
-    let rows: [(Function, Above, &str); 3] = [
-        (Function::CommitmentsPath, ChannelEndPath::commitments_path, "commitments"),
-        (Function::AcksPath, ChannelEndPath::acks_path, "acks"),
-        (Function::ReceiptsPath, ChannelEndPath::receipts_path, "receipts"),
+    let rows = [
+        (Function::CommitmentsPath, "commitments"),
+        (Function::AcksPath, "acks"),
+        (Function::ReceiptsPath, "receipts"),
     ];
-    for (function, above, word) in rows {
-        let above = |port: &str, channel: &str| -> Result<String, IdentifierError> {
-            Ok(above(&ChannelEndPath(port.parse()?, channel.parse()?)))
-        };
-        set.text(
-            Call::new(function, [port, channel], [0, 0]),
-            hear([port, channel], |[port, channel]| text(above(port, channel))),
-            &path::sequences_path(word, port, channel).map(Bytes),
-        );
+    for (function, word) in rows {
+        let call = Call::new(function, [port, channel], [0, 0]);
+        text(set, call, path::sequences_path(word, port, channel));
     }
 }
 
-fn text(made: Result<String, IdentifierError>) -> Text {
-    made.map(|text| Bytes(text.into_bytes())).map_err(|e| e.number())
+fn text(set: &mut Set, call: Call, model: Result<Vec<u8>, u8>) {
+    set.text(call, says(&call), &model.map(Bytes));
 }

@@ -7,6 +7,7 @@ use model::NO_ROOM;
 use crate::batch::{Batch, Expected, Returned};
 use crate::call::{Call, Function};
 use crate::library::Library;
+use crate::page::Page;
 
 /// Where the original may differ: a reason for each kind that docs/DIFFERENCES.md lists.
 #[derive(Clone, Copy, Debug)]
@@ -24,22 +25,8 @@ pub enum Theirs<T> {
     Says(T),
     /// On a question where the answer may differ.
     Listed(Listed, T),
-    /// It takes no such question.
-    Silent,
-}
-
-/// Asks the original, which takes valid UTF-8 alone, about some texts.
-pub fn hear<T, const N: usize>(texts: [&[u8]; N], ask: impl FnOnce([&str; N]) -> T) -> Theirs<T> {
-    let heard = texts.map(|text| std::str::from_utf8(text).ok());
-    if heard.contains(&None) {
-        return Theirs::Silent;
-    }
-    let said = ask(heard.map(Option::unwrap_or_default));
-    if texts.iter().all(|text| text.is_ascii()) {
-        Theirs::Says(said)
-    } else {
-        Theirs::Listed(Listed::NotAscii, said)
-    }
+    /// It takes no such question, for this reason.
+    Silent(&'static str),
 }
 
 /// Bytes that show as text.
@@ -57,6 +44,7 @@ pub type Text = Result<Bytes, u8>;
 
 pub struct Set<'a> {
     library: &'a mut Library,
+    page: &'a Page,
     batch: Batch,
     sent: Option<Batch>,
     checks: u64,
@@ -69,9 +57,10 @@ pub struct Set<'a> {
 }
 
 impl<'a> Set<'a> {
-    pub fn new(library: &'a mut Library) -> Self {
+    pub fn new(library: &'a mut Library, page: &'a Page) -> Self {
         Self {
             library,
+            page,
             batch: Batch::default(),
             sent: None,
             checks: 0,
@@ -93,22 +82,21 @@ impl<'a> Set<'a> {
     }
 
     /// A check of a call whose answer is a number alone.
-    pub fn number(&mut self, call: Call, theirs: Theirs<u8>, model: Result<(), u8>) {
-        let refusal = model.err().unwrap_or(0);
+    pub fn number(&mut self, call: Call, theirs: Theirs<Text>, model: Result<(), u8>) {
         self.checks += 1;
-        self.ask(call, 0, Returned::new(refusal, 0), b"");
-        self.agree(theirs, &refusal, call);
+        self.ask(call, 0, Returned::new(model.err().unwrap_or(0), 0), b"");
+        self.agree(theirs, &model.map(|()| Bytes(vec![])), call);
     }
 
     /// A check of a call whose answer is a yes or no.
-    pub fn flag(&mut self, call: Call, theirs: Theirs<Result<bool, u8>>, model: Result<bool, u8>) {
+    pub fn flag(&mut self, call: Call, theirs: Theirs<Text>, model: Result<bool, u8>) {
         let returned = match model {
             Ok(value) => Returned::new(0, value.into()),
             Err(refusal) => Returned::new(refusal, 0),
         };
         self.checks += 1;
         self.ask(call, 0, returned, b"");
-        self.agree(theirs, &model, call);
+        self.agree(theirs, &model.map(|value| Bytes(vec![value.into()])), call);
     }
 
     /// A check of a call that writes a text, with buffers of the sizes that tell.
@@ -137,7 +125,10 @@ impl<'a> Set<'a> {
         for room in rooms {
             let (refusal, text) = match model {
                 Ok(text) if text.0.len() <= room => (0, text.0.as_slice()),
-                Ok(_) => (NO_ROOM, &[][..]),
+                Ok(_) => {
+                    self.on_page(call, 0, NO_ROOM);
+                    (NO_ROOM, &[][..])
+                }
                 Err(refusal) => (*refusal, &[][..]),
             };
             self.ask(call, room, Returned::new(refusal, text.len() as u64), text);
@@ -166,16 +157,27 @@ impl<'a> Set<'a> {
     /// The original and the model say the same, or the difference is a listed one.
     pub fn agree<T: PartialEq + Debug>(
         &mut self,
-        theirs: Theirs<T>,
-        model: &T,
-        asked: impl Display,
+        theirs: Theirs<Result<T, u8>>,
+        model: &Result<T, u8>,
+        call: Call,
     ) {
+        let refusal = |answer: &Result<T, u8>| answer.as_ref().err().copied().unwrap_or(0);
         match theirs {
             Theirs::Says(said) if said != *model => {
-                self.differ(|| format!("{asked}: Rust {said:?}, document 01 {model:?}"));
+                self.differ(|| format!("{call}: Rust {said:?}, document 01 {model:?}"));
             }
-            Theirs::Listed(reason, said) if said != *model => self.listed[reason as usize] += 1,
+            Theirs::Listed(reason, said) if said != *model => {
+                self.listed[reason as usize] += 1;
+                self.on_page(call, refusal(&said), refusal(model));
+            }
             _ => {}
+        }
+    }
+
+    /// A difference of these answers, 0 for done, has a row in docs/DIFFERENCES.md.
+    fn on_page(&mut self, call: Call, theirs: u8, ours: u8) {
+        if !self.page.lists(call.function, theirs, ours) {
+            self.differ(|| format!("{call}: Rust {theirs}, here {ours}, and no row lists it"));
         }
     }
 
@@ -213,7 +215,7 @@ impl<'a> Set<'a> {
         self.turn();
     }
 
-    fn differ(&mut self, difference: impl FnOnce() -> String) {
+    pub fn differ(&mut self, difference: impl FnOnce() -> String) {
         self.differences += 1;
         if self.shown.len() < 10 {
             self.shown.push(difference());
