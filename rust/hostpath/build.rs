@@ -1,9 +1,8 @@
 //! Links libnode.a, which `rt staticlib node` writes for x86-64. HOSTPATH_LIB names its folder;
-//! without it, the repository's own target/staticlib is taken.
+//! without it, the repository's own target/staticlib is taken, or on another processor target/native,
+//! where `oracle/library` writes a build for tests and figures.
 use std::env;
 use std::path::PathBuf;
-
-const BESIDE: &str = "../../target/staticlib";
 
 fn main() {
     println!("cargo:rerun-if-env-changed=HOSTPATH_LIB");
@@ -11,7 +10,7 @@ fn main() {
     let archive = folder.join("libnode.a");
     assert!(
         archive.is_file(),
-        "no {}: run `rt staticlib node` at the top of the repository first",
+        "no {}: run `oracle/library` in the repository first",
         archive.display()
     );
     println!("cargo:rerun-if-changed={}", archive.display());
@@ -20,7 +19,7 @@ fn main() {
 }
 
 fn beside() -> PathBuf {
-    let processor = env::var("CARGO_CFG_TARGET_ARCH").unwrap();
-    assert!(processor == "x86_64", "libnode.a is for x86_64, and this is {processor}");
-    PathBuf::from(env::var_os("CARGO_MANIFEST_DIR").unwrap()).join(BESIDE)
+    let product = env::var("CARGO_CFG_TARGET_ARCH").unwrap() == "x86_64";
+    let here = PathBuf::from(env::var_os("CARGO_MANIFEST_DIR").unwrap());
+    here.join("../../target").join(if product { "staticlib" } else { "native" })
 }

@@ -122,11 +122,7 @@ pub struct Batch {
 }
 
 impl Batch {
-    pub fn is_empty(&self) -> bool {
-        self.waiting.is_empty()
-    }
-
-    /// Large enough for a turn; serve.c has room for eight times as much.
+    /// Large enough to be judged.
     pub fn is_full(&self) -> bool {
         self.texts.len().max(self.expected.len()) >= 1 << 20
     }

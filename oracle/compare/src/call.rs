@@ -1,10 +1,10 @@
-//! A call over the C interface as data, so that another process can answer it.
+//! A call over the C interface as data.
 use std::fmt::{self, Debug, Display, Formatter};
 
 /// Declares the calls and a list of them all.
 macro_rules! functions {
     ($($(#[$said:meta])* $name:ident,)*) => {
-        /// The calls, in the order that serve.c has too.
+        /// The calls, in the order of include/hostpath.h.
         #[derive(Clone, Copy, Debug, PartialEq, Eq, PartialOrd, Ord)]
         #[repr(u8)]
         pub enum Function {
@@ -85,15 +85,6 @@ pub struct Call<'a> {
 impl<'a> Call<'a> {
     pub fn new(function: Function, texts: [&'a [u8]; 2], numbers: [u64; 2]) -> Self {
         Self { function, kind: 0, texts, numbers }
-    }
-
-    /// As serve.c reads it, with the size of the lent buffer.
-    pub fn encode(&self, room: usize, to: &mut Vec<u8>) {
-        to.extend([self.function as u8, self.kind]);
-        to.extend(self.numbers.iter().flat_map(|number| number.to_le_bytes()));
-        let sizes = [self.texts[0].len(), self.texts[1].len(), room];
-        to.extend(sizes.iter().flat_map(|size| (*size as u32).to_le_bytes()));
-        self.texts.iter().for_each(|text| to.extend_from_slice(text));
     }
 }
 

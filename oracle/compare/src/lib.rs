@@ -5,8 +5,6 @@ pub mod batch;
 pub mod books;
 pub mod call;
 pub mod identifiers;
-#[cfg_attr(feature = "linked", path = "linked.rs")]
-#[cfg_attr(not(feature = "linked"), path = "served.rs")]
 pub mod library;
 pub mod no_books;
 pub mod original;
@@ -34,6 +32,6 @@ impl Size {
 /// A set's name and what it asks.
 pub type Sets = &'static [(&'static str, fn(&mut set::Set, Size))];
 
-/// The families of sets that this build can run.
+/// The families of sets.
 pub const FAMILIES: &[Sets] =
     &[page::SETS, identifiers::SETS, paths::SETS, renderings::SETS, books::SETS, no_books::SETS];

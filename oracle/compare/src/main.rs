@@ -19,7 +19,7 @@ fn main() -> ExitCode {
         }
     };
     let chosen = std::env::args().nth(2).unwrap_or_default();
-    let (mut library, page) = (Library::start(), Page::default());
+    let (mut library, page) = (Library::default(), Page::default());
     let (mut passed, mut failed) = (0, 0);
     let sets = FAMILIES.iter().copied().flatten();
     for (name, run) in sets.filter(|(name, _)| name.starts_with(&chosen)) {
@@ -35,7 +35,6 @@ fn main() -> ExitCode {
             failed += 1;
         }
     }
-    library.stop();
     println!("{passed} passed, {failed} failed");
     ExitCode::from(u8::from(failed > 0))
 }

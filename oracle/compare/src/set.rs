@@ -46,7 +46,6 @@ pub struct Set<'a> {
     library: &'a mut Library,
     page: &'a Page,
     batch: Batch,
-    sent: Option<Batch>,
     checks: u64,
     differences: u64,
     last: u64,
@@ -62,7 +61,6 @@ impl<'a> Set<'a> {
             library,
             page,
             batch: Batch::default(),
-            sent: None,
             checks: 0,
             differences: 0,
             last: 0,
@@ -188,31 +186,20 @@ impl<'a> Set<'a> {
     fn push(&mut self, call: Call, expected: Expected) {
         self.batch.push(self.checks, call, expected);
         if self.batch.is_full() {
-            self.turn();
+            self.finish();
         }
     }
 
-    /// Judges the batch that was sent, a check once, and sends the next.
-    fn turn(&mut self) {
-        if let Some(sent) = self.sent.take() {
-            let replies = self.library.receive(sent.expected().len());
-            for difference in sent.differences(&replies) {
-                if difference.check != self.last {
-                    self.differ(|| difference.to_string());
-                }
-                self.last = difference.check;
-            }
-        }
-        if !self.batch.is_empty() {
-            self.library.send(&self.batch);
-            self.sent = Some(std::mem::take(&mut self.batch));
-        }
-    }
-
-    /// Judges all that was asked.
+    /// Judges all that was asked, a check once.
     pub fn finish(&mut self) {
-        self.turn();
-        self.turn();
+        let batch = std::mem::take(&mut self.batch);
+        let replies = self.library.replies(&batch);
+        for difference in batch.differences(&replies) {
+            if difference.check != self.last {
+                self.differ(|| difference.to_string());
+            }
+            self.last = difference.check;
+        }
     }
 
     pub fn differ(&mut self, difference: impl FnOnce() -> String) {

@@ -1,9 +1,28 @@
-//! Null pointers with count 0, which no slice of Rust has: the calls of the book as C declares them.
+//! Null pointers with count 0, which no slice of Rust has: calls as C declares them.
 use core::ptr::{null, null_mut};
 
-use hostpath::{book_size, Pair, BOOK_VALUE};
+use hostpath::{book_size, Pair, Written, BOOK_VALUE};
 
 extern "C" {
+    fn hp_validate_identifier_chars(id: *const u8, n: usize) -> u8;
+    fn hp_validate_port_identifier(id: *const u8, n: usize) -> u8;
+    fn hp_validate_named_u64_index(id: *const u8, n: usize, name: *const u8, m: usize) -> u8;
+    fn hp_client_id_new(kind: *const u8, n: usize, counter: u64, out: *mut u8, k: usize)
+        -> Written;
+    fn hp_channel_id_new(counter: u64, out: *mut u8, k: usize) -> Written;
+    fn hp_read(text: *const u8, n: usize, out: *mut u8, k: usize) -> u8;
+    fn hp_key(text: *const u8, n: usize, out: *mut u8, k: usize) -> Written;
+    fn hp_render(
+        kind: u8,
+        first: *const u8,
+        n: usize,
+        second: *const u8,
+        m: usize,
+        a: u64,
+        b: u64,
+        out: *mut u8,
+        k: usize,
+    ) -> Written;
     fn hp_book_new(book: *mut u8, n: usize) -> u8;
     fn hp_book_write(b: *mut u8, n: usize, text: *const u8, m: usize, v: *const u8, k: usize)
         -> u8;
@@ -21,11 +40,42 @@ extern "C" {
 
 const PORT: &[u8] = b"ports/transfer";
 
+fn refused(refusal: u8) -> Written {
+    Written { refusal, length: 0 }
+}
+
+#[test]
+fn identifiers() {
+    // SAFETY: as of every call here, a pointer is null with count 0 or that of a live slice.
+    unsafe {
+        assert_eq!(hp_validate_identifier_chars(null(), 0), 0);
+        assert_eq!(hp_validate_port_identifier(null(), 0), 6);
+        assert_eq!(hp_validate_named_u64_index(null(), 0, null(), 0), 7);
+        assert_eq!(hp_client_id_new(null(), 0, 4, null_mut(), 0), refused(6));
+        assert_eq!(hp_channel_id_new(4, null_mut(), 0), refused(4));
+    }
+}
+
+#[test]
+fn paths() {
+    let (port, size) = (PORT.as_ptr(), PORT.len());
+    let mut out = [0; 17];
+    unsafe {
+        assert_eq!(hp_read(null(), 0, null_mut(), 0), 3);
+        assert_eq!(hp_read(port, size, null_mut(), 0), 4);
+        assert_eq!(hp_key(null(), 0, null_mut(), 0), refused(3));
+        assert_eq!(hp_key(port, size, null_mut(), 0), refused(4));
+        assert_eq!(hp_render(10, null(), 0, null(), 0, 0, 0, null_mut(), 0), refused(6));
+        let made = hp_render(18, null(), 0, null(), 0, 5, 0, out.as_mut_ptr(), out.len());
+        assert_eq!(made, Written { refusal: 0, length: 17 });
+    }
+    assert_eq!(&out, b"/5/upgradedClient");
+}
+
 #[test]
 fn books() {
     let (port, size) = (PORT.as_ptr(), PORT.len());
     let mut out = [0; BOOK_VALUE];
-    // SAFETY: as of every call here, a pointer is null with count 0 or that of a live slice.
     unsafe {
         assert_eq!(hp_book_new(null_mut(), 0), 9);
         assert_eq!(hp_book_write(null_mut(), 0, port, size, out.as_ptr(), BOOK_VALUE), 9);

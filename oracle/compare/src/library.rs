@@ -6,34 +6,26 @@ use crate::call::{Call, Function};
 
 #[derive(Default)]
 pub struct Library {
-    replies: Vec<u8>,
     /// The book that calls are lent, between its guards.
     book: Vec<u8>,
 }
 
 impl Library {
-    pub fn start() -> Self {
-        Self::default()
-    }
-
-    pub fn send(&mut self, batch: &Batch) {
+    /// The replies to the calls of a batch, one behind the other.
+    pub fn replies(&mut self, batch: &Batch) -> Vec<u8> {
+        let mut replies = Vec::with_capacity(batch.expected().len());
         for (call, room) in batch.calls() {
-            let head = self.replies.len();
-            let lent = put_reply(&mut self.replies, Returned::default(), room);
-            let returned = answer(&call, &mut self.book, &mut self.replies[lent..lent + room]);
-            let told = self.replies[head..head + HEAD].iter_mut().zip(returned.bytes());
+            let head = replies.len();
+            let lent = put_reply(&mut replies, Returned::default(), room);
+            let returned = answer(&call, &mut self.book, &mut replies[lent..lent + room]);
+            let told = replies[head..head + HEAD].iter_mut().zip(returned.bytes());
             told.for_each(|(to, byte)| *to = byte);
             if call.function.has_book() {
-                self.replies.extend_from_slice(&self.book);
+                replies.extend_from_slice(&self.book);
             }
         }
+        replies
     }
-
-    pub fn receive(&mut self, _: usize) -> Vec<u8> {
-        std::mem::take(&mut self.replies)
-    }
-
-    pub fn stop(self) {}
 }
 
 fn number(answer: Result<(), Refusal>) -> Returned {

@@ -1,3 +1,0 @@
-/* What hostpath.h takes from stdint.h, for a compiler that comes without it. */
-typedef __UINT8_TYPE__ uint8_t;
-typedef __UINT64_TYPE__ uint64_t;
