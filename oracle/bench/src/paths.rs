@@ -1,4 +1,5 @@
 //! Reading for each kind and for all, rendering, and both in one.
+use std::cell::RefCell;
 use std::hint::black_box;
 
 use hostpath::READING;
@@ -44,8 +45,14 @@ fn reading(name: String, texts: Vec<String>) -> Family {
     )
 }
 
+/// A buffer with room for every rendering, lent to call after call: to clear it is no part of a call.
+fn lent() -> RefCell<[u8; MOST]> {
+    RefCell::new([0; MOST])
+}
+
 fn key(texts: Vec<String>) -> Family {
     let same = texts.clone();
+    let out = lent();
     Family::new(
         "key, all kinds together".into(),
         move || {
@@ -55,9 +62,9 @@ fn key(texts: Vec<String>) -> Family {
             }
         },
         move || {
-            let mut out = [0; MOST];
+            let mut out = out.borrow_mut();
             for text in &same {
-                let written = hostpath::key(black_box(text.as_bytes()), &mut out);
+                let written = hostpath::key(black_box(text.as_bytes()), &mut out[..]);
                 keep((written, &out));
             }
         },
@@ -71,14 +78,15 @@ fn rendering(name: String, texts: &[String]) -> Family {
         .map(terms::parts)
         .map(|parts| (parts.kind, parts.first.into(), parts.second.into(), parts.numbers))
         .collect();
+    let out = lent();
     Family::new(
         name,
         move || paths.iter().for_each(|path| keep(black_box(path).to_string())),
         move || {
-            let mut out = [0; MOST];
+            let mut out = out.borrow_mut();
             for (kind, first, second, [a, b]) in &parts {
                 let (first, second) = black_box((first.as_bytes(), second.as_bytes()));
-                let written = hostpath::render(*kind, first, second, *a, *b, &mut out);
+                let written = hostpath::render(*kind, first, second, *a, *b, &mut out[..]);
                 keep((written, &out));
             }
         },
