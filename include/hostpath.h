@@ -1,4 +1,4 @@
-/* IBC host paths and identifiers, and books of records under such paths: the C interface of libnode.a.
+/* IBC host paths and identifiers, and books of records under such paths: the C interface of libhostpath.a.
  *
  * Every call takes any bytes and any numbers. A text is a pointer and a count of bytes, a null
  * pointer with count 0 among them; `out` and `book` are lent buffers, each a pointer and a size in the

@@ -30,8 +30,8 @@ done | sort >"$work/source"
 # The rows: function | definition | uniqueness lemma | wrong answer | wrong answer; of exported calls:
 # call | the function it hands on to | uniqueness lemma
 grep -E '^\| `[a-z_]+::' docs/CONTRACTS.md >"$work/all"
-grep -v '^| `node::' "$work/all" >"$work/rows"
-grep '^| `node::' "$work/all" >"$work/calls"
+grep -v '^| `hostpath::' "$work/all" >"$work/rows"
+grep '^| `hostpath::' "$work/all" >"$work/calls"
 cut -d '|' -f 2 "$work/all" | tr -d '` *' | sort >"$work/named"
 
 while read -r name; do
@@ -80,7 +80,7 @@ while IFS='|' read -r _ call target lemma _; do
     target=$(names "$target")
     has_lemma "$call" "$lemma"
     if grep -qxF "$target" "$work/source" &&
-        sed -n "/ fn ${name#*::}(/,/^}/p" crates/node/src/lib.rt | grep -qE "^    .*\<${target##*::}\("; then
+        sed -n "/ fn ${name#*::}(/,/^}/p" crates/hostpath/src/lib.rt | grep -qE "^    .*\<${target##*::}\("; then
         passed=$((passed + 1))
     else
         fail "$name does not hand on to $target"

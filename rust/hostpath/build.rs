@@ -1,4 +1,4 @@
-//! Links libnode.a, which `rt staticlib node` writes for x86-64. HOSTPATH_LIB names its folder;
+//! Links libhostpath.a, which `rt staticlib hostpath` writes for x86-64. HOSTPATH_LIB names its folder;
 //! without it, the repository's own target/staticlib is taken, or on another processor target/native,
 //! where `oracle/library` writes a build for tests and figures.
 use std::env;
@@ -7,7 +7,7 @@ use std::path::PathBuf;
 fn main() {
     println!("cargo:rerun-if-env-changed=HOSTPATH_LIB");
     let folder = env::var_os("HOSTPATH_LIB").map_or_else(beside, PathBuf::from);
-    let archive = folder.join("libnode.a");
+    let archive = folder.join("libhostpath.a");
     assert!(
         archive.is_file(),
         "no {}: run `oracle/library` in the repository first",
@@ -15,7 +15,7 @@ fn main() {
     );
     println!("cargo:rerun-if-changed={}", archive.display());
     println!("cargo:rustc-link-search=native={}", folder.canonicalize().unwrap().display());
-    println!("cargo:rustc-link-lib=static=node");
+    println!("cargo:rustc-link-lib=static=hostpath");
 }
 
 fn beside() -> PathBuf {

@@ -19,15 +19,15 @@ use Rattle.book.specs.Outcome.{Found, Wrote, Removed, Looked}
 use Rattle.demands.specs.Permitted.{Permitted}
 use Rattle.demands.specs.Demand3.{Taken, Demand3}
 use Rattle.demands.specs.Demand3Laws as laws
-use Rattle.node.proofs.hp_book_write as w
-use Rattle.node.proofs.hp_book_write.Kinds as wk
-use Rattle.node.proofs.hp_book_write.Reads as wr
-use Rattle.node.proofs.hp_book_remove as d
-use Rattle.node.proofs.hp_book_remove.Kinds as dk
-use Rattle.node.proofs.hp_book_remove.Reads as dr
-use Rattle.node.proofs.hp_book_lookup as l
-use Rattle.node.proofs.hp_book_lookup.Kinds as lk
-use Rattle.node.proofs.hp_book_lookup.Reads as lr
+use Rattle.hostpath.proofs.hp_book_write as w
+use Rattle.hostpath.proofs.hp_book_write.Kinds as wk
+use Rattle.hostpath.proofs.hp_book_write.Reads as wr
+use Rattle.hostpath.proofs.hp_book_remove as d
+use Rattle.hostpath.proofs.hp_book_remove.Kinds as dk
+use Rattle.hostpath.proofs.hp_book_remove.Reads as dr
+use Rattle.hostpath.proofs.hp_book_lookup as l
+use Rattle.hostpath.proofs.hp_book_lookup.Kinds as lk
+use Rattle.hostpath.proofs.hp_book_lookup.Reads as lr
 
 -- one call of each function: its buffers before and after, its result, and what its contract ensures
 pub record Writes (b t v : List ℕ) (r : ℕ) (b₁ : List ℕ) : Type 0 where

@@ -32,11 +32,11 @@ use Rattle.demands.specs.PathCalls.{ReadCall, KeyCall, RenderCall, Itera
 use Rattle.demands.specs.Told.{Told, told, toldOf}
 use Rattle.demands.specs.Demand2Laws as laws
 use Rattle.demands.specs.Written.{Done, Back, WhenRead}
-use Rattle.node.proofs.hp_validate_client_type.Reads as hp-validate-client-type
-use Rattle.node.proofs.hp_validate_client_identifier.Reads as hp-validate-client-identifier
-use Rattle.node.proofs.hp_validate_connection_identifier.Reads as hp-validate-connection-identifier
-use Rattle.node.proofs.hp_validate_port_identifier.Reads as hp-validate-port-identifier
-use Rattle.node.proofs.hp_validate_channel_identifier.Reads as hp-validate-channel-identifier
+use Rattle.hostpath.proofs.hp_validate_client_type.Reads as hp-validate-client-type
+use Rattle.hostpath.proofs.hp_validate_client_identifier.Reads as hp-validate-client-identifier
+use Rattle.hostpath.proofs.hp_validate_connection_identifier.Reads as hp-validate-connection-identifier
+use Rattle.hostpath.proofs.hp_validate_port_identifier.Reads as hp-validate-port-identifier
+use Rattle.hostpath.proofs.hp_validate_channel_identifier.Reads as hp-validate-channel-identifier
 use Rattle.reader.proofs.read_path.Reads as read-path
 use Rattle.render.proofs.render.Reads as render
 use Rattle.render.proofs.key.write_key.Reads as write-key

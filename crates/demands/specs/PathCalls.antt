@@ -15,18 +15,18 @@ use Rattle.text.specs.Put.{text, answer, left}
 use Rattle.path.specs.Read.{readingBytes, keyOf, renderOf}
 use Rattle.path.specs.Kinds.{carried}
 use Rattle.render.specs.Iteration.{iterationKey}
-use Rattle.node.proofs.hp_read as r
-use Rattle.node.proofs.hp_read.Kinds as rk
-use Rattle.node.proofs.hp_read.Reads as rr
-use Rattle.node.proofs.hp_key as k
-use Rattle.node.proofs.hp_key.Kinds as kk
-use Rattle.node.proofs.hp_key.Reads as kr
-use Rattle.node.proofs.hp_render as w
-use Rattle.node.proofs.hp_render.Kinds as wk
-use Rattle.node.proofs.hp_render.Reads as wr
-use Rattle.node.proofs.hp_iteration_key as i
-use Rattle.node.proofs.hp_iteration_key.Kinds as ik
-use Rattle.node.proofs.hp_iteration_key.Reads as ir
+use Rattle.hostpath.proofs.hp_read as r
+use Rattle.hostpath.proofs.hp_read.Kinds as rk
+use Rattle.hostpath.proofs.hp_read.Reads as rr
+use Rattle.hostpath.proofs.hp_key as k
+use Rattle.hostpath.proofs.hp_key.Kinds as kk
+use Rattle.hostpath.proofs.hp_key.Reads as kr
+use Rattle.hostpath.proofs.hp_render as w
+use Rattle.hostpath.proofs.hp_render.Kinds as wk
+use Rattle.hostpath.proofs.hp_render.Reads as wr
+use Rattle.hostpath.proofs.hp_iteration_key as i
+use Rattle.hostpath.proofs.hp_iteration_key.Kinds as ik
+use Rattle.hostpath.proofs.hp_iteration_key.Reads as ir
 
 pub record ReadCall (t out : List ℕ) (n : ℕ) (out₁ : List ℕ) : Type 0 where
   pub lifetimes : Lfts 2

@@ -1,7 +1,7 @@
 use mathlib.Core.Path.{ap}
 use borrow.Author.Needs.{needs}
-use Rattle.node.proofs.hp_read.Statement.{statement}
-use Rattle.node.proofs.hp_read.Tie as tie
+use Rattle.hostpath.proofs.hp_read.Statement.{statement}
+use Rattle.hostpath.proofs.hp_read.Tie as tie
 
 write-reading-requires : tie.Need-write-reading-requires
 write-reading-requires c κs = search needs
