@@ -27,7 +27,7 @@ use Rattle.ask.specs.Answer.{mark, head, printed, lineAnswer}
 
 -- the rendering of a view over its text
 abbrev pub viewText : List ℕ → PathView → List ℕ
-viewText t v = render (partsOf (v .kind)) (carried (shownOf t (v .one)) (shownOf t (v .two)) (v .a) (v .b))
+viewText t v = render (partsOf (v .kind)) (carried (shownOf t (v .first)) (shownOf t (v .second)) (v .a) (v .b))
 
 -- what a line that was refused, or read, is answered with
 module _ (t : List ℕ) (r : Reading) (by : r ≡ readPath t) where

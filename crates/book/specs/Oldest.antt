@@ -23,7 +23,7 @@ use Rattle.book.specs.Book.{Book}
 
 -- what a key tells of the client: revision number and height, where it is of kind 5 and of this client
 abbrev pub stateBy : List ℕ → List ℕ → Reading → StateAnswer
-stateBy client k (Read p e) = cond (eqb (kindOf p) 5 && same (shownOf k (carriedOf p .one)) client) (State (carriedOf p .a) (carriedOf p .b)) Nothing
+stateBy client k (Read p e) = cond (eqb (kindOf p) 5 && same (shownOf k (carriedOf p .first)) client) (State (carriedOf p .a) (carriedOf p .b)) Nothing
 stateBy client k (Refused r) = Nothing
 
 unfoldable pub stateOf : List ℕ → List ℕ → StateAnswer

@@ -20,7 +20,7 @@ use Rattle.path.specs.declared.Reading.the-variants.{Read, Refused}
 use Rattle.path.specs.Read.{readPath}
 use Rattle.path.specs.Text.{shownOf}
 use Rattle.path.specs.View.{kindOf, carriedOf, viewOf}
-use Rattle.path.specs.ViewLaws.{view-kind, view-one, view-a, view-b}
+use Rattle.path.specs.ViewLaws.{view-kind, view-first, view-a, view-b}
 use Rattle.text.specs.PlaceLaws.{at-some}
 use Rattle.text.specs.PlaceLaws.{drop-place}
 use Rattle.form.specs.Form.{Form, place, keyAt}
@@ -39,19 +39,19 @@ unfolding stateOf
 state-refused client k r w eq er = sym (ap (stateBy client k) (sym er ∙ eq))
 
 module _ (client k : List ℕ) (r : Reading) (p : Path) (e : Bool) (eq : r ≡ Read p e) (er : r ≡ readPath k) (v : PathView) (ev : v ≡ viewOf p) where
-  told : stateOf client k ≡ cond (eqb (kindOf p) 5 && same (shownOf k (carriedOf p .one)) client) (State (carriedOf p .a) (carriedOf p .b)) Nothing
+  told : stateOf client k ≡ cond (eqb (kindOf p) 5 && same (shownOf k (carriedOf p .first)) client) (State (carriedOf p .a) (carriedOf p .b)) Nothing
   unfolding stateOf
   told = ap (stateBy client k) (sym er ∙ eq)
 
   pub state-other : (v .kind ≡ 5 → ⊥) → Nothing ≡ stateOf client k
   state-other h = sym (told ∙ rw (ne-eqb (kindOf p) 5 (λ q. h (view-kind v p ev ∙ q))))
 
-  module _ (h : v .kind ≡ 5) (part : List ℕ) (ep : part ≡ shownOf k (v .one)) (s : Bool) (es : s ≡ same part client) where
+  module _ (h : v .kind ≡ 5) (part : List ℕ) (ep : part ≡ shownOf k (v .first)) (s : Bool) (es : s ≡ same part client) where
     five : eqb (kindOf p) 5 ≡ true
     five = eq-eqb (kindOf p) 5 (sym (view-kind v p ev) ∙ h)
 
-    mine : same (shownOf k (carriedOf p .one)) client ≡ s
-    mine = sym (es ∙ ap (λ (l : List ℕ). same l client) (ep ∙ ap (shownOf k) (view-one v p ev)))
+    mine : same (shownOf k (carriedOf p .first)) client ≡ s
+    mine = sym (es ∙ ap (λ (l : List ℕ). same l client) (ep ∙ ap (shownOf k) (view-first v p ev)))
 
     pub state-elsewhere : s ≡ false → Nothing ≡ stateOf client k
     state-elsewhere f = sym (told ∙ rw (five, mine ∙ f))

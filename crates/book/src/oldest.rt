@@ -33,7 +33,7 @@ pub(crate) fn state_in(key: &[u8], client: &[u8]) -> StateAnswer
     if kind != 5 {
         return StateAnswer::Nothing;
     }
-    if !text::part::equal(reader::part(key, v.one), client) {
+    if !text::part::equal(reader::part(key, v.first), client) {
         return StateAnswer::Nothing;
     }
     StateAnswer::State(v.a, v.b)

@@ -80,7 +80,7 @@ read-reads κs a r s p = p
 
 -- arguments that a kind lacks have no influence on rendering
 pub lacking : (kind : ℕ) (v w : Carried (List ℕ)) (out : List ℕ) (x y : Written) (out₁ out₂ : List ℕ)
-    → RenderCall kind (v .one) (v .two) (v .a) (v .b) out x out₁ → RenderCall kind (w .one) (w .two) (w .a) (w .b) out y out₂
+    → RenderCall kind (v .first) (v .second) (v .a) (v .b) out x out₁ → RenderCall kind (w .first) (w .second) (w .a) (w .b) out y out₂
     → only (partsOf kind) v ≡ only (partsOf kind) w → (x ≡ y) × (out₁ ≡ out₂)
 lacking kind v w out x y out₁ out₂ c d e = let p = rendering c in let q = rendering d in laws.lacking kind v w out x y out₁ out₂ (p .0) (p .1) (q .0) (q .1) e
 

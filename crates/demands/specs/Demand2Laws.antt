@@ -114,8 +114,8 @@ reads-back k v valid out n out₁ x q room =
       rw (d .1) (record {
         kind-is = r .kind;
         exact = refl;
-        first-is = ap (λ (y : Carried (List ℕ)). y .one) c;
-        second-is = ap (λ (y : Carried (List ℕ)). y .two) c;
+        first-is = ap (λ (y : Carried (List ℕ)). y .first) c;
+        second-is = ap (λ (y : Carried (List ℕ)). y .second) c;
         a-is = ap (λ (y : Carried (List ℕ)). y .a) c;
         b-is = ap (λ (y : Carried (List ℕ)). y .b) c;
       }),

@@ -232,7 +232,7 @@ module _ (ns : List ℕ) (v : Carried (List ℕ)) where
 
 pub parent-wants : (v : Carried (List ℕ)) → Wants clients (textOf consensusParent v)
 unfolding textOf namesFault nameFault
-parent-wants v = accepted-wants clients (first (checkOf client (v .one)) 0) (render consensusParent v) (both-of (Listed clients) refl (checkOf client (v .one)) 0 (plain-of (Listed clients) refl refl refl refl 9 64 (v .one)) refl)
+parent-wants v = accepted-wants clients (first (checkOf client (v .first)) 0) (render consensusParent v) (both-of (Listed clients) refl (checkOf client (v .first)) 0 (plain-of (Listed clients) refl refl refl refl 9 64 (v .first)) refl)
 
 abbrev pub ends : List ℕ
 ends = 2 ∷ 5 ∷ 6 ∷ 7 ∷ 8 ∷ 4 ∷ []
@@ -240,5 +240,5 @@ ends = 2 ∷ 5 ∷ 6 ∷ 7 ∷ 8 ∷ 4 ∷ []
 pub packets-wants : (w : List ℕ) (v : Carried (List ℕ)) → Wants ends (textOf (packetsPath w) v)
 unfolding textOf namesFault nameFault
 packets-wants w v =
-    accepted-wants ends (first (checkOf port (v .one)) (first (checkOf check.channel (v .two)) 0)) (render (packetsPath w) v)
-    (both-of (Listed ends) refl (checkOf port (v .one)) (first (checkOf check.channel (v .two)) 0) (plain-of (Listed ends) refl refl refl refl 2 128 (v .one)) (both-of (Listed ends) refl (checkOf check.channel (v .two)) 0 (indexed-of (Listed ends) refl refl refl refl refl refl 8 64 (bytes "channel") (v .two)) refl))
+    accepted-wants ends (first (checkOf port (v .first)) (first (checkOf check.channel (v .second)) 0)) (render (packetsPath w) v)
+    (both-of (Listed ends) refl (checkOf port (v .first)) (first (checkOf check.channel (v .second)) 0) (plain-of (Listed ends) refl refl refl refl 2 128 (v .first)) (both-of (Listed ends) refl (checkOf check.channel (v .second)) 0 (indexed-of (Listed ends) refl refl refl refl refl refl 8 64 (bytes "channel") (v .second)) refl))

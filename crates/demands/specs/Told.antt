@@ -38,4 +38,4 @@ told bs =
 
 -- what a reading says
 abbrev pub toldOf : Path → Bool → Told
-toldOf p e = record { kind = kindOf p; mark = cond e 1 0; first = carriedOf p .one; second = carriedOf p .two; a = carriedOf p .a; b = carriedOf p .b }
+toldOf p e = record { kind = kindOf p; mark = cond e 1 0; first = carriedOf p .first; second = carriedOf p .second; a = carriedOf p .a; b = carriedOf p .b }

@@ -36,7 +36,7 @@ big-back (suc n) v h =
 
 -- ---- the 26 bytes
 abbrev pub bytes26 : Path → Bool → List ℕ
-bytes26 p e = kindOf p ∷ cond e 1 0 ∷ (placeBytes (carriedOf p .one) ++ (placeBytes (carriedOf p .two) ++ (bigEndian 8 (carriedOf p .a) ++ bigEndian 8 (carriedOf p .b))))
+bytes26 p e = kindOf p ∷ cond e 1 0 ∷ (placeBytes (carriedOf p .first) ++ (placeBytes (carriedOf p .second) ++ (bigEndian 8 (carriedOf p .a) ++ bigEndian 8 (carriedOf p .b))))
 
 -- a number of n bytes that stands behind others
 big-at : (pre post : List ℕ) (at n v : ℕ) (bs : List ℕ) → bs ≡ pre ++ (bigEndian n v ++ post) → length pre ≡ at → v < 256 ^ n → bigAt at n bs ≡ v
@@ -78,23 +78,23 @@ module _ (t : List ℕ) (p : Path) (e : Bool) (h : readPath t ≡ Read p e) wher
       let u = read-valid t p e h in
       let bs : List ℕ = bytes26 p e in
       let head : List ℕ = kindOf p ∷ cond e 1 0 ∷ [] in
-      let s₁ = c .one .start in
-      let l₁ = c .one .len in
-      let s₂ = c .two .start in
-      let l₂ = c .two .len in
-      let p₁ : bigAt 2 2 bs ≡ s₁ = big-at head (x l₁ ++ (placeBytes (c .two) ++ (y (c .a) ++ y (c .b)))) 2 2 s₁ bs (simp append-assoc) refl (small s₁ (omega (arith, w .0))) in
-      let p₂ : bigAt 4 2 bs ≡ l₁ = big-at (head ++ x s₁) (placeBytes (c .two) ++ (y (c .a) ++ y (c .b))) 4 2 l₁ bs (simp append-assoc) (omega (arith, length-append head (x s₁), lx s₁)) (small l₁ (omega (arith, w .0))) in
-      let p₃ : bigAt 6 2 bs ≡ s₂ = big-at (head ++ placeBytes (c .one)) (x l₂ ++ (y (c .a) ++ y (c .b))) 6 2 s₂ bs (simp append-assoc) (omega (arith, length-append head (placeBytes (c .one)), length-append (x s₁) (x l₁), lx s₁, lx l₁)) (small s₂ (omega (arith, w .1))) in
-      let p₄ : bigAt 8 2 bs ≡ l₂ = big-at (head ++ (placeBytes (c .one) ++ x s₂)) (y (c .a) ++ y (c .b)) 8 2 l₂ bs (simp append-assoc) (omega (arith, length-append head (placeBytes (c .one) ++ x s₂), length-append (placeBytes (c .one)) (x s₂), length-append (x s₁) (x l₁), lx s₁, lx l₁, lx s₂)) (small l₂ (omega (arith, w .1))) in
-      let p₅ : bigAt 10 8 bs ≡ c .a = big-at (head ++ (placeBytes (c .one) ++ placeBytes (c .two))) (y (c .b)) 10 8 (c .a) bs (simp append-assoc) (omega (arith, length-append head (placeBytes (c .one) ++ placeBytes (c .two)), length-append (placeBytes (c .one)) (placeBytes (c .two)), length-append (x s₁) (x l₁), length-append (x s₂) (x l₂), lx s₁, lx l₁, lx s₂, lx l₂)) (large (c .a) (u .a)) in
-      let p₆ : bigAt 18 8 bs ≡ c .b = big-at (head ++ (placeBytes (c .one) ++ (placeBytes (c .two) ++ y (c .a)))) [] 18 8 (c .b) bs (simp (append-assoc, append-nil)) (omega (arith, length-append head (placeBytes (c .one) ++ (placeBytes (c .two) ++ y (c .a))), length-append (placeBytes (c .one)) (placeBytes (c .two) ++ y (c .a)), length-append (placeBytes (c .two)) (y (c .a)), length-append (x s₁) (x l₁), length-append (x s₂) (x l₂), lx s₁, lx l₁, lx s₂, lx l₂, ly (c .a))) (large (c .b) (u .b)) in
+      let s₁ = c .first .start in
+      let l₁ = c .first .len in
+      let s₂ = c .second .start in
+      let l₂ = c .second .len in
+      let p₁ : bigAt 2 2 bs ≡ s₁ = big-at head (x l₁ ++ (placeBytes (c .second) ++ (y (c .a) ++ y (c .b)))) 2 2 s₁ bs (simp append-assoc) refl (small s₁ (omega (arith, w .0))) in
+      let p₂ : bigAt 4 2 bs ≡ l₁ = big-at (head ++ x s₁) (placeBytes (c .second) ++ (y (c .a) ++ y (c .b))) 4 2 l₁ bs (simp append-assoc) (omega (arith, length-append head (x s₁), lx s₁)) (small l₁ (omega (arith, w .0))) in
+      let p₃ : bigAt 6 2 bs ≡ s₂ = big-at (head ++ placeBytes (c .first)) (x l₂ ++ (y (c .a) ++ y (c .b))) 6 2 s₂ bs (simp append-assoc) (omega (arith, length-append head (placeBytes (c .first)), length-append (x s₁) (x l₁), lx s₁, lx l₁)) (small s₂ (omega (arith, w .1))) in
+      let p₄ : bigAt 8 2 bs ≡ l₂ = big-at (head ++ (placeBytes (c .first) ++ x s₂)) (y (c .a) ++ y (c .b)) 8 2 l₂ bs (simp append-assoc) (omega (arith, length-append head (placeBytes (c .first) ++ x s₂), length-append (placeBytes (c .first)) (x s₂), length-append (x s₁) (x l₁), lx s₁, lx l₁, lx s₂)) (small l₂ (omega (arith, w .1))) in
+      let p₅ : bigAt 10 8 bs ≡ c .a = big-at (head ++ (placeBytes (c .first) ++ placeBytes (c .second))) (y (c .b)) 10 8 (c .a) bs (simp append-assoc) (omega (arith, length-append head (placeBytes (c .first) ++ placeBytes (c .second)), length-append (placeBytes (c .first)) (placeBytes (c .second)), length-append (x s₁) (x l₁), length-append (x s₂) (x l₂), lx s₁, lx l₁, lx s₂, lx l₂)) (large (c .a) (u .a)) in
+      let p₆ : bigAt 18 8 bs ≡ c .b = big-at (head ++ (placeBytes (c .first) ++ (placeBytes (c .second) ++ y (c .a)))) [] 18 8 (c .b) bs (simp (append-assoc, append-nil)) (omega (arith, length-append head (placeBytes (c .first) ++ (placeBytes (c .second) ++ y (c .a))), length-append (placeBytes (c .first)) (placeBytes (c .second) ++ y (c .a)), length-append (placeBytes (c .second)) (y (c .a)), length-append (x s₁) (x l₁), length-append (x s₂) (x l₂), lx s₁, lx l₁, lx s₂, lx l₂, ly (c .a))) (large (c .b) (u .b)) in
       λ i. record { kind = kindOf p; mark = cond e 1 0; first = record { start = p₁ i; len = p₂ i }; second = record { start = p₃ i; len = p₄ i }; a = p₅ i; b = p₆ i }
 
   pub length26 : length (bytes26 p e) ≡ 26
   unfolding c x y
   length26 =
-      let s₁ = c .one .start in
-      let l₁ = c .one .len in
-      let s₂ = c .two .start in
-      let l₂ = c .two .len in
-      omega (arith, length-append (placeBytes (c .one)) (placeBytes (c .two) ++ (y (c .a) ++ y (c .b))), length-append (placeBytes (c .two)) (y (c .a) ++ y (c .b)), length-append (y (c .a)) (y (c .b)), length-append (x s₁) (x l₁), length-append (x s₂) (x l₂), lx s₁, lx l₁, lx s₂, lx l₂, ly (c .a), ly (c .b))
+      let s₁ = c .first .start in
+      let l₁ = c .first .len in
+      let s₂ = c .second .start in
+      let l₂ = c .second .len in
+      omega (arith, length-append (placeBytes (c .first)) (placeBytes (c .second) ++ (y (c .a) ++ y (c .b))), length-append (placeBytes (c .second)) (y (c .a) ++ y (c .b)), length-append (y (c .a)) (y (c .b)), length-append (x s₁) (x l₁), length-append (x s₂) (x l₂), lx s₁, lx l₁, lx s₂, lx l₂, ly (c .a), ly (c .b))

@@ -26,8 +26,8 @@ pub record Done (w : List ℕ) (x : Written) (out₁ : List ℕ) : Type 0 where
 pub record Back (w : List ℕ) (said : Told) (kind : ℕ) (v : Carried (List ℕ)) : Type 0 where
   pub kind-is : said .kind ≡ kind
   pub exact : said .mark ≡ 1
-  pub first-is : partOf w (said .first) ≡ v .one
-  pub second-is : partOf w (said .second) ≡ v .two
+  pub first-is : partOf w (said .first) ≡ v .first
+  pub second-is : partOf w (said .second) ≡ v .second
   pub a-is : said .a ≡ v .a
   pub b-is : said .b ≡ v .b
 

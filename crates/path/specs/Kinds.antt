@@ -18,13 +18,13 @@ pub data Part : Type 0 where
 
 -- what a path carries besides its kind: two identifiers, as places or as texts, and two numbers. What a kind lacks is empty or 0
 pub record Carried (A : Type 0) : Type 0 where
-  pub one : A
-  pub two : A
+  pub first : A
+  pub second : A
   pub a : ℕ
   pub b : ℕ
 
 abbrev pub carried : {A : Type 0} → A → A → ℕ → ℕ → Carried A
-carried one two a b = record { one = one; two = two; a = a; b = b }
+carried first second a b = record { first = first; second = second; a = a; b = b }
 
 -- which of the two identifiers of a path it is: a channel is the second, and all others are the first
 pub data Which : Type 0 where
@@ -38,12 +38,12 @@ whichOf channel = the-second
 whichOf upgrade = the-first
 
 abbrev pub taken : {A : Type 0} → Which → Carried A → A
-taken the-first v = v .one
-taken the-second v = v .two
+taken the-first v = v .first
+taken the-second v = v .second
 
 abbrev pub placed : {A : Type 0} → Which → A → Carried A → Carried A
-placed the-first x v = record { one = x; two = v .two; a = v .a; b = v .b }
-placed the-second x v = record { one = v .one; two = x; a = v .a; b = v .b }
+placed the-first x v = carried x (v .second) (v .a) (v .b)
+placed the-second x v = carried (v .first) x (v .a) (v .b)
 
 -- an identifier of what a path carries, and that with another in its place
 abbrev pub nameIn : {A : Type 0} → Name → Carried A → A
@@ -79,52 +79,52 @@ unfoldable pub kind3 : Kind
 kind3 = record { parts = word (bytes "nextChannelSequence") ∷ []; make = λ v. NextChannelSequence (record {}) }
 
 unfoldable pub kind4 : Kind
-kind4 = record { parts = clientParts (word (bytes "clientState") ∷ []); make = λ v. ClientState (record { client = v .one }) }
+kind4 = record { parts = clientParts (word (bytes "clientState") ∷ []); make = λ v. ClientState (record { client = v .first }) }
 
 unfoldable pub kind5 : Kind
-kind5 = record { parts = consensusParts []; make = λ v. ClientConsensusState (record { client = v .one; number = record { 0 = v .a }; height = record { 0 = v .b } }) }
+kind5 = record { parts = consensusParts []; make = λ v. ClientConsensusState (record { client = v .first; number = record { 0 = v .a }; height = record { 0 = v .b } }) }
 
 unfoldable pub kind6 : Kind
-kind6 = record { parts = consensusParts (word (bytes "processedTime") ∷ []); make = λ v. ClientUpdateTime (record { client = v .one; number = record { 0 = v .a }; height = record { 0 = v .b } }) }
+kind6 = record { parts = consensusParts (word (bytes "processedTime") ∷ []); make = λ v. ClientUpdateTime (record { client = v .first; number = record { 0 = v .a }; height = record { 0 = v .b } }) }
 
 unfoldable pub kind7 : Kind
-kind7 = record { parts = consensusParts (word (bytes "processedHeight") ∷ []); make = λ v. ClientUpdateHeight (record { client = v .one; number = record { 0 = v .a }; height = record { 0 = v .b } }) }
+kind7 = record { parts = consensusParts (word (bytes "processedHeight") ∷ []); make = λ v. ClientUpdateHeight (record { client = v .first; number = record { 0 = v .a }; height = record { 0 = v .b } }) }
 
 unfoldable pub kind8 : Kind
-kind8 = record { parts = clientParts (word (bytes "connections") ∷ []); make = λ v. ClientConnection (record { client = v .one }) }
+kind8 = record { parts = clientParts (word (bytes "connections") ∷ []); make = λ v. ClientConnection (record { client = v .first }) }
 
 unfoldable pub kind9 : Kind
-kind9 = record { parts = word (bytes "connections") ∷ name connection ∷ []; make = λ v. Connection (record { connection = v .one }) }
+kind9 = record { parts = word (bytes "connections") ∷ name connection ∷ []; make = λ v. Connection (record { connection = v .first }) }
 
 unfoldable pub kind10 : Kind
-kind10 = record { parts = word (bytes "ports") ∷ name port ∷ []; make = λ v. Ports (record { port = v .one }) }
+kind10 = record { parts = word (bytes "ports") ∷ name port ∷ []; make = λ v. Ports (record { port = v .first }) }
 
 unfoldable pub kind11 : Kind
-kind11 = record { parts = channelParts (bytes "channelEnds") []; make = λ v. ChannelEnd (record { port = v .one; channel = v .two }) }
+kind11 = record { parts = channelParts (bytes "channelEnds") []; make = λ v. ChannelEnd (record { port = v .first; channel = v .second }) }
 
 unfoldable pub kind12 : Kind
-kind12 = record { parts = channelParts (bytes "nextSequenceSend") []; make = λ v. SeqSend (record { port = v .one; channel = v .two }) }
+kind12 = record { parts = channelParts (bytes "nextSequenceSend") []; make = λ v. SeqSend (record { port = v .first; channel = v .second }) }
 
 unfoldable pub kind13 : Kind
-kind13 = record { parts = channelParts (bytes "nextSequenceRecv") []; make = λ v. SeqRecv (record { port = v .one; channel = v .two }) }
+kind13 = record { parts = channelParts (bytes "nextSequenceRecv") []; make = λ v. SeqRecv (record { port = v .first; channel = v .second }) }
 
 unfoldable pub kind14 : Kind
-kind14 = record { parts = channelParts (bytes "nextSequenceAck") []; make = λ v. SeqAck (record { port = v .one; channel = v .two }) }
+kind14 = record { parts = channelParts (bytes "nextSequenceAck") []; make = λ v. SeqAck (record { port = v .first; channel = v .second }) }
 
 unfoldable pub kind15 : Kind
-kind15 = record { parts = packetParts (bytes "commitments"); make = λ v. Commitment (record { port = v .one; channel = v .two; sequence = record { 0 = v .a } }) }
+kind15 = record { parts = packetParts (bytes "commitments"); make = λ v. Commitment (record { port = v .first; channel = v .second; sequence = record { 0 = v .a } }) }
 
 unfoldable pub kind16 : Kind
-kind16 = record { parts = packetParts (bytes "acks"); make = λ v. Ack (record { port = v .one; channel = v .two; sequence = record { 0 = v .a } }) }
+kind16 = record { parts = packetParts (bytes "acks"); make = λ v. Ack (record { port = v .first; channel = v .second; sequence = record { 0 = v .a } }) }
 
 unfoldable pub kind17 : Kind
-kind17 = record { parts = packetParts (bytes "receipts"); make = λ v. Receipt (record { port = v .one; channel = v .two; sequence = record { 0 = v .a } }) }
+kind17 = record { parts = packetParts (bytes "receipts"); make = λ v. Receipt (record { port = v .first; channel = v .second; sequence = record { 0 = v .a } }) }
 
 unfoldable pub kind18 : Kind
-kind18 = record { parts = name upgrade ∷ count ∷ word (bytes "upgradedClient") ∷ []; make = λ v. UpgradeClientState (record { upgrade = v .one; height = record { 0 = v .a } }) }
+kind18 = record { parts = name upgrade ∷ count ∷ word (bytes "upgradedClient") ∷ []; make = λ v. UpgradeClientState (record { upgrade = v .first; height = record { 0 = v .a } }) }
 
 unfoldable pub kind19 : Kind
-kind19 = record { parts = name upgrade ∷ count ∷ word (bytes "upgradedConsState") ∷ []; make = λ v. UpgradeConsensusState (record { upgrade = v .one; height = record { 0 = v .a } }) }
+kind19 = record { parts = name upgrade ∷ count ∷ word (bytes "upgradedConsState") ∷ []; make = λ v. UpgradeConsensusState (record { upgrade = v .first; height = record { 0 = v .a } }) }
 
 -- in the order of the enum: kind 1 stands first
 unfoldable pub kinds : List Kind

@@ -1,6 +1,6 @@
 -- How long a rendering is, by the lengths of its identifiers.
 -- Assumes nothing.
-use Prim.Native.Nat.{ℕ, zero, suc, _+_, _*_}
+use Prim.Native.Nat.{ℕ, zero, suc, _+_}
 use mathlib.Core.List.{List, [], _∷_}
 use lib.ListN.{length}
 use Rattle.text.specs.Number.{width}
@@ -66,7 +66,3 @@ unfoldable pub firstOf : ℕ → ℕ → ℕ → ℕ
 firstOf zero x y = 0
 firstOf (suc zero) x y = x + 0
 firstOf (suc (suc n)) x y = x + (y + 0)
-
--- what a kind has, in one number: the bytes of its words, slashes and dashes, then its identifiers, then its numbers
-unfoldable pub sizes : List Part → ℕ
-sizes ps = fixed ps + 256 * (nameCount ps + 16 * numberCount ps)

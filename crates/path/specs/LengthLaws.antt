@@ -19,7 +19,7 @@ use Rattle.identifiers.specs.CheckLaws.{first-zero, accepted-length}
 use Rattle.path.specs.declared.Path.{Path}
 use Rattle.path.specs.declared.Reading.the-variants.{Read}
 use Rattle.path.specs.Text.{joinBy}
-use Rattle.path.specs.Kinds.{Part, word, name, count, pair, Carried, kinds, kind1, kind2, kind3, kind4, kind5, kind6, kind7, kind8, kind9, kind10, kind11, kind12, kind13, kind14, kind15, kind16, kind17, kind18, kind19, nameIn}
+use Rattle.path.specs.Kinds.{Part, word, name, count, pair, Carried, carried, kinds, kind1, kind2, kind3, kind4, kind5, kind6, kind7, kind8, kind9, kind10, kind11, kind12, kind13, kind14, kind15, kind16, kind17, kind18, kind19, nameIn}
 use Rattle.path.specs.declared.name.Name.{Name}
 use Rattle.path.specs.declared.name.Name.the-variants.{Client as client, Connection as connection, Port as port, Channel as channel, Upgrade as upgrade}
 use Rattle.path.specs.Read.{nameFault, show, shown, render, partsOf, namesFault, renderPath, readPath}
@@ -34,7 +34,7 @@ mostName client v = 64
 mostName connection v = 64
 mostName port v = 128
 mostName channel v = 64
-mostName upgrade v = length (v .one)
+mostName upgrade v = length (v .first)
 
 abbrev pub mostPart : Part → Carried (List ℕ) → ℕ
 mostPart (word w) v = length w
@@ -49,10 +49,10 @@ mostOf (p ∷ ps) v = suc (mostPart p v) + mostOf ps v
 
 name-most : (n : Name) (v : Carried (List ℕ)) → nameFault n (nameIn n v) ≡ 0 → length (nameIn n v) ≤ mostName n v
 unfolding nameFault
-name-most client v h = accepted-length check.client (v .one) h .1
-name-most connection v h = accepted-length check.connection (v .one) h .1
-name-most port v h = accepted-length check.port (v .one) h .1
-name-most channel v h = accepted-length check.channel (v .two) h .1
+name-most client v h = accepted-length check.client (v .first) h .1
+name-most connection v h = accepted-length check.connection (v .first) h .1
+name-most port v h = accepted-length check.port (v .first) h .1
+name-most channel v h = accepted-length check.channel (v .second) h .1
 name-most upgrade v h = omega arith
 
 -- the bytes of texts, with one before each
@@ -94,7 +94,7 @@ longest k v l m a b h =
 
 -- a port of 128 bytes, a channel of 64 and a sequence of 20
 abbrev pub longPath : Carried (List ℕ)
-longPath = record { one = replicate 128 97; two = bytes "channel-+" ++ replicate 55 48; a = 18446744073709551615; b = 0 }
+longPath = carried (replicate 128 97) (bytes "channel-+" ++ replicate 55 48) 18446744073709551615 0
 
 pub long-is : length (render (partsOf 15) longPath) ≡ 251
 unfolding partsOf kinds kind15 render show joinBy decimal digits width widthBy

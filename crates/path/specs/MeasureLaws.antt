@@ -1,6 +1,6 @@
 -- The length of a rendering by three sums, and the tables of the code.
 -- Assumes nothing.
-use Prim.Native.Nat.{ℕ, zero, suc, _+_, _*_, _/_, _%_, _≤_}
+use Prim.Native.Nat.{ℕ, zero, suc, _+_, _≤_}
 use mathlib.Core.Path.{_≡_, refl, _∙_}
 use mathlib.Core.Bool.{true}
 use mathlib.Core.List.{List, [], _∷_, map}
@@ -11,16 +11,16 @@ use borrow.Author.Tests.{leb-true}
 use Rattle.text.specs.Number.{width, decimal}
 use Rattle.text.specs.NumberLaws.{length-decimal}
 use Rattle.path.specs.Text.{joinBy}
-use Rattle.path.specs.Kinds.{Part, word, name, count, pair, Carried, kinds, kind1, kind2, kind3, kind4, kind5, kind6, kind7, kind8, kind9, kind10, kind11, kind12, kind13, kind14, kind15, kind16, kind17, kind18, kind19, nameIn}
+use Rattle.path.specs.Kinds.{Part, word, name, count, pair, Carried, carried, kinds, kind1, kind2, kind3, kind4, kind5, kind6, kind7, kind8, kind9, kind10, kind11, kind12, kind13, kind14, kind15, kind16, kind17, kind18, kind19, nameIn}
 use Rattle.path.specs.declared.name.Name.{Name}
 use Rattle.path.specs.declared.name.Name.the-variants.{Client as client, Connection as connection, Port as port, Channel as channel, Upgrade as upgrade}
 use Rattle.path.specs.Read.{show, render, partsOf}
 use Rattle.path.specs.ReadLaws.{has-both, kind-has, kind-parts}
-use Rattle.path.specs.Length.{partLength, renderLength, fixed, namesIn, numbersIn, nameCount, numberCount, sizes, firstOf}
+use Rattle.path.specs.Length.{partLength, renderLength, fixed, namesIn, numbersIn, nameCount, numberCount, firstOf}
 
 -- ---- a rendering is that long
 abbrev pub lengths : Carried (List ℕ) → Carried ℕ
-lengths v = record { one = length (v .one); two = length (v .two); a = v .a; b = v .b }
+lengths v = carried (length (v .first)) (length (v .second)) (v .a) (v .b)
 
 name-length : (n : Name) (v : Carried (List ℕ)) → length (nameIn n v) ≡ nameIn n (lengths v)
 name-length client v = refl
@@ -56,7 +56,7 @@ length-sums (count ∷ (q ∷ ps)) v = omega (arith, length-sums (q ∷ ps) v)
 length-sums (pair ∷ (q ∷ ps)) v = omega (arith, length-sums (q ∷ ps) v)
 
 -- ---- the table: a kind with one identifier has the first, and one with two has both; with the numbers it is the same
-names-all : (v : Carried ℕ) → map (λ e. namesIn (e .parts) v) kinds ≡ map (λ e. firstOf (nameCount (e .parts)) (v .one) (v .two)) kinds
+names-all : (v : Carried ℕ) → map (λ e. namesIn (e .parts) v) kinds ≡ map (λ e. firstOf (nameCount (e .parts)) (v .first) (v .second)) kinds
 unfolding namesIn nameCount firstOf kinds kind1 kind2 kind3 kind4 kind5 kind6 kind7 kind8 kind9 kind10 kind11 kind12 kind13 kind14 kind15 kind16 kind17 kind18 kind19
 names-all v = refl
 
@@ -69,11 +69,11 @@ unfolding fixed kinds kind1 kind2 kind3 kind4 kind5 kind6 kind7 kind8 kind9 kind
 fixed-all = refl
 
 module _ (k : ℕ) (low : 1 ≤ k) (high : k ≤ 19) where
-  pub length-by : (v : Carried ℕ) → renderLength (partsOf k) v ≡ fixed (partsOf k) + (firstOf (nameCount (partsOf k)) (v .one) (v .two) + firstOf (numberCount (partsOf k)) (width (v .a)) (width (v .b)))
+  pub length-by : (v : Carried ℕ) → renderLength (partsOf k) v ≡ fixed (partsOf k) + (firstOf (nameCount (partsOf k)) (v .first) (v .second) + firstOf (numberCount (partsOf k)) (width (v .a)) (width (v .b)))
   length-by v =
       length-sums (partsOf k) v ∙ rw (
         kind-parts k low high,
-        has-both (λ e. namesIn (e .parts) v) (λ e. firstOf (nameCount (e .parts)) (v .one) (v .two)) (kind-has k low high) (names-all v),
+        has-both (λ e. namesIn (e .parts) v) (λ e. firstOf (nameCount (e .parts)) (v .first) (v .second)) (kind-has k low high) (names-all v),
         has-both (λ e. numbersIn (e .parts) v) (λ e. firstOf (numberCount (e .parts)) (width (v .a)) (width (v .b))) (kind-has k low high) (numbers-all v),
       )
 
@@ -86,25 +86,3 @@ unfolding firstOf
 first-of-most zero x y = omega arith
 first-of-most (suc zero) x y = omega arith
 first-of-most (suc (suc n)) x y = omega arith
-
-fixed-held : map (λ e. sizes (e .parts) % 256) kinds ≡ map (λ e. fixed (e .parts)) kinds
-unfolding sizes fixed nameCount numberCount kinds kind1 kind2 kind3 kind4 kind5 kind6 kind7 kind8 kind9 kind10 kind11 kind12 kind13 kind14 kind15 kind16 kind17 kind18 kind19
-fixed-held = refl
-
-names-held : map (λ e. sizes (e .parts) / 256 % 16) kinds ≡ map (λ e. nameCount (e .parts)) kinds
-unfolding sizes fixed nameCount numberCount kinds kind1 kind2 kind3 kind4 kind5 kind6 kind7 kind8 kind9 kind10 kind11 kind12 kind13 kind14 kind15 kind16 kind17 kind18 kind19
-names-held = refl
-
-numbers-held : map (λ e. sizes (e .parts) / 4096) kinds ≡ map (λ e. numberCount (e .parts)) kinds
-unfolding sizes fixed nameCount numberCount kinds kind1 kind2 kind3 kind4 kind5 kind6 kind7 kind8 kind9 kind10 kind11 kind12 kind13 kind14 kind15 kind16 kind17 kind18 kind19
-numbers-held = refl
-
-module _ (k : ℕ) (low : 1 ≤ k) (high : k ≤ 19) where
-  pub sizes-fixed : sizes (partsOf k) % 256 ≡ fixed (partsOf k)
-  sizes-fixed = rw (kind-parts k low high) (has-both (λ e. sizes (e .parts) % 256) (λ e. fixed (e .parts)) (kind-has k low high) fixed-held)
-
-  pub sizes-names : sizes (partsOf k) / 256 % 16 ≡ nameCount (partsOf k)
-  sizes-names = rw (kind-parts k low high) (has-both (λ e. sizes (e .parts) / 256 % 16) (λ e. nameCount (e .parts)) (kind-has k low high) names-held)
-
-  pub sizes-numbers : sizes (partsOf k) / 4096 ≡ numberCount (partsOf k)
-  sizes-numbers = rw (kind-parts k low high) (has-both (λ e. sizes (e .parts) / 4096) (λ e. numberCount (e .parts)) (kind-has k low high) numbers-held)

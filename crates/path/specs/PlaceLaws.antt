@@ -21,7 +21,7 @@ use Rattle.path.specs.ReadLaws.{made-carried}
 
 -- the places end in the text
 abbrev pub Lie : List ℕ → Carried Place → Type 0
-Lie t v = (v .one .start + v .one .len ≤ length t) × (v .two .start + v .two .len ≤ length t)
+Lie t v = (v .first .start + v .first .len ≤ length t) × (v .second .start + v .second .len ≤ length t)
 
 name-lies : (t : List ℕ) (n : Name) (p : Place) (v : Carried Place) → p .start + p .len ≤ length t → Lie t v → Lie t (setName n p v)
 name-lies t client p v h l = (h, l .1)
@@ -48,5 +48,5 @@ unfolding shownOf
 shown-lies t p h = rw (le-leb (p .start) (length t) (omega arith), le-leb (p .len) (length t - p .start) (omega arith))
 
 -- what is shown of the identifiers of what was read
-pub shown-read : (t : List ℕ) (p : Path) → Reads t p → (shownOf t (carriedOf p .one) ≡ partOf t (carriedOf p .one)) × (shownOf t (carriedOf p .two) ≡ partOf t (carriedOf p .two))
+pub shown-read : (t : List ℕ) (p : Path) → Reads t p → (shownOf t (carriedOf p .first) ≡ partOf t (carriedOf p .first)) × (shownOf t (carriedOf p .second) ≡ partOf t (carriedOf p .second))
 shown-read t p r = let l = read-lies t p r in (shown-lies t _ (l .0), shown-lies t _ (l .1))

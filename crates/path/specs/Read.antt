@@ -23,7 +23,7 @@ use Rattle.path.specs.declared.Refusal.the-variants.{TooLong, NotAscii, 
 use Rattle.path.specs.declared.Reading.{Reading}
 use Rattle.path.specs.declared.Reading.the-variants.{Read, Refused}
 use Rattle.path.specs.Text.{components, component, cutAt, join, placeAt, nowhere, partOf}
-use Rattle.path.specs.Kinds.{Part, word, name, count, pair, Carried, nameIn, setName, Kind, kinds}
+use Rattle.path.specs.Kinds.{Part, word, name, count, pair, Carried, carried, nameIn, setName, Kind, kinds}
 use Rattle.path.specs.declared.name.Name.{Name}
 use Rattle.path.specs.declared.name.Name.the-variants.{Client as client, Connection as connection, Port as port, Channel as channel, Upgrade as upgrade}
 use Rattle.path.specs.View.{kindOf, carriedOf}
@@ -69,12 +69,12 @@ fits pair c = arePair (cutAt 45 c)
 abbrev pub adds : Part → List ℕ → Place → Carried Place → Carried Place
 adds (word w) c p v = v
 adds (name n) c p v = setName n p v
-adds count c p v = record { one = v .one; two = v .two; a = numberIn c; b = v .b }
-adds pair c p v = record { one = v .one; two = v .two; a = numberIn (getD (cutAt 45 c) 0 []); b = numberIn (getD (cutAt 45 c) 1 []) }
+adds count c p v = carried (v .first) (v .second) (numberIn c) (v .b)
+adds pair c p v = carried (v .first) (v .second) (numberIn (getD (cutAt 45 c) 0 [])) (numberIn (getD (cutAt 45 c) 1 []))
 
 -- what the components from the k-th on carry, and whether each is what its part asks for
 abbrev pub carriedFrom : ℕ → List Part → List ℕ → Carried Place
-carriedFrom k [] t = record { one = nowhere; two = nowhere; a = 0; b = 0 }
+carriedFrom k [] t = carried nowhere nowhere 0 0
 carriedFrom k (p ∷ ps) t = adds p (component t k) (placeAt t k) (carriedFrom (k + 1) ps t)
 
 abbrev pub fitFrom : ℕ → List Part → List ℕ → Bool
@@ -121,7 +121,7 @@ partsOf k = getD (map (λ e. e .parts) kinds) (k - 1) []
 
 -- places of a text as the texts that stand there
 abbrev pub textsOf : List ℕ → Carried Place → Carried (List ℕ)
-textsOf t v = record { one = partOf t (v .one); two = partOf t (v .two); a = v .a; b = v .b }
+textsOf t v = carried (partOf t (v .first)) (partOf t (v .second)) (v .a) (v .b)
 
 -- the rendering of a typed path whose places are in the text t
 unfoldable pub renderPath : List ℕ → Path → List ℕ
@@ -174,7 +174,7 @@ abbrev pub placeBytes : Place → List ℕ
 placeBytes p = bigEndian 2 (p .start) ++ bigEndian 2 (p .len)
 
 abbrev pub bytesBy : Reading → Wanted
-bytesBy (Read p e) = text (kindOf p ∷ cond e 1 0 ∷ (placeBytes (carriedOf p .one) ++ (placeBytes (carriedOf p .two) ++ (bigEndian 8 (carriedOf p .a) ++ bigEndian 8 (carriedOf p .b)))))
+bytesBy (Read p e) = text (kindOf p ∷ cond e 1 0 ∷ (placeBytes (carriedOf p .first) ++ (placeBytes (carriedOf p .second) ++ (bigEndian 8 (carriedOf p .a) ++ bigEndian 8 (carriedOf p .b)))))
 bytesBy (Refused r) = refused (refusalOf r)
 
 unfoldable pub readingBytes : List ℕ → Wanted

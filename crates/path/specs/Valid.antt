@@ -7,7 +7,7 @@ use mathlib.Core.List.{List, [], _∷_}
 use lib.ListN.{length}
 use Rattle.path.specs.declared.Path.{Path}
 use Rattle.path.specs.declared.Reading.the-variants.{Read}
-use Rattle.path.specs.Kinds.{Part, word, name, count, pair, Carried, nameIn, setName}
+use Rattle.path.specs.Kinds.{Part, word, name, count, pair, Carried, carried, nameIn, setName}
 use Rattle.path.specs.declared.name.Name.{Name}
 use Rattle.path.specs.declared.name.Name.the-variants.{Client as client, Connection as connection, Port as port, Channel as channel, Upgrade as upgrade}
 use Rattle.path.specs.Read.{render, partsOf, textsOf, namesFault, readPath}
@@ -26,13 +26,13 @@ pub record Valid (k : ℕ) (v : Carried (List ℕ)) : Type 0 where
 
 -- ---- what a kind has of two identifiers and two numbers: what it lacks is empty or 0
 abbrev pub setCount : ℕ → Carried (List ℕ) → Carried (List ℕ)
-setCount m v = record { one = v .one; two = v .two; a = m; b = v .b }
+setCount m v = carried (v .first) (v .second) m (v .b)
 
 abbrev pub setPair : ℕ → ℕ → Carried (List ℕ) → Carried (List ℕ)
-setPair m n v = record { one = v .one; two = v .two; a = m; b = n }
+setPair m n v = carried (v .first) (v .second) m n
 
 abbrev pub only : List Part → Carried (List ℕ) → Carried (List ℕ)
-only [] v = record { one = []; two = []; a = 0; b = 0 }
+only [] v = carried [] [] 0 0
 only (word w ∷ ps) v = only ps v
 only (name n ∷ ps) v = setName n (nameIn n v) (only ps v)
 only (count ∷ ps) v = setCount (v .a) (only ps v)

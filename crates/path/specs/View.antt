@@ -63,7 +63,7 @@ carriedOf (UpgradeConsensusState x) = carried (x .upgrade) nowhere (x .height .0
 
 -- both, in one
 abbrev pub seen : ℕ → Carried Place → PathView
-seen k v = record { kind = k; one = v .one; two = v .two; a = v .a; b = v .b }
+seen k v = record { kind = k; first = v .first; second = v .second; a = v .a; b = v .b }
 
 unfoldable pub viewOf : Path → PathView
 viewOf p = seen (kindOf p) (carriedOf p)
@@ -78,11 +78,11 @@ provableFlag k = cond (leb 1 k && leb k 19) (record { refusal = 0; value = cond 
 
 -- the places of the identifiers of a reading: none on a refusal
 abbrev pub firstPlace : Reading → Place
-firstPlace (Read p e) = carriedOf p .one
+firstPlace (Read p e) = carriedOf p .first
 firstPlace (Refused w) = nowhere
 
 abbrev pub secondPlace : Reading → Place
-secondPlace (Read p e) = carriedOf p .two
+secondPlace (Read p e) = carriedOf p .second
 secondPlace (Refused w) = nowhere
 
 -- r is the part of x at the place p, no copy: what it holds, and where it points. The empty part at the start of x where p does not lie in x

@@ -19,13 +19,13 @@ module _ (v : PathView) (p : Path) (e : v ≡ viewOf p) where
   unfolding viewOf
   view-kind = ap (λ (z : PathView). z .kind) e
 
-  pub view-one : v .one ≡ carriedOf p .one
+  pub view-first : v .first ≡ carriedOf p .first
   unfolding viewOf
-  view-one = ap (λ (z : PathView). z .one) e
+  view-first = ap (λ (z : PathView). z .first) e
 
-  pub view-two : v .two ≡ carriedOf p .two
+  pub view-second : v .second ≡ carriedOf p .second
   unfolding viewOf
-  view-two = ap (λ (z : PathView). z .two) e
+  view-second = ap (λ (z : PathView). z .second) e
 
   pub view-a : v .a ≡ carriedOf p .a
   unfolding viewOf

@@ -13,13 +13,13 @@ ghost use Rattle.path.specs.Kinds.{carried};
 ghost use Rattle.path.specs.Text.{nowhere};
 ghost use Rattle.path.specs.View.{seen};
 
-fn one_place(kind: u8, one: Place, a: u64, b: u64) -> PathView
-    ensures { λ r. ⌜ r ≡ seen kind (carried one nowhere a b) ⌝ }
+fn one_place(kind: u8, first: Place, a: u64, b: u64) -> PathView
+    ensures { λ r. ⌜ r ≡ seen kind (carried first nowhere a b) ⌝ }
 {
     PathView {
         kind,
-        one,
-        two: Place { start: 0, len: 0 },
+        first,
+        second: Place { start: 0, len: 0 },
         a,
         b,
     }
@@ -69,12 +69,12 @@ pub(crate) fn upgrade(kind: u8, x: UpgradePlaces) -> PathView
 pub(crate) fn channel(kind: u8, x: ChannelPlaces) -> PathView
     ensures { λ r. ⌜ r ≡ seen kind (carried (x .port) (x .channel) 0 0) ⌝ }
 {
-    let one = x.port;
-    let two = x.channel;
+    let first = x.port;
+    let second = x.channel;
     PathView {
         kind,
-        one,
-        two,
+        first,
+        second,
         a: 0,
         b: 0,
     }
@@ -83,12 +83,12 @@ pub(crate) fn channel(kind: u8, x: ChannelPlaces) -> PathView
 pub(crate) fn packet(kind: u8, x: PacketPlaces) -> PathView
     ensures { λ r. ⌜ r ≡ seen kind (carried (x .port) (x .channel) (x .sequence .0) 0) ⌝ }
 {
-    let one = x.port;
-    let two = x.channel;
+    let first = x.port;
+    let second = x.channel;
     PathView {
         kind,
-        one,
-        two,
+        first,
+        second,
         a: x.sequence.0,
         b: 0,
     }

@@ -109,8 +109,8 @@ pub enum Reading {
 // A path as its kind's number, places and numbers. What the kind lacks is the empty part at the start, or 0.
 pub struct PathView {
     pub kind: u8,
-    pub one: Place,
-    pub two: Place,
+    pub first: Place,
+    pub second: Place,
     pub a: u64,
     pub b: u64,
 }

@@ -9,4 +9,4 @@ use Rattle.text.specs.Number.{bigEndian}
 
 -- kind; 1 exact or 0 loose; the two places; the two numbers
 unfoldable pub viewBytes : PathView → Bool → List ℕ
-viewBytes v e = v .kind ∷ cond e 1 0 ∷ (placeBytes (v .one) ++ (placeBytes (v .two) ++ (bigEndian 8 (v .a) ++ bigEndian 8 (v .b))))
+viewBytes v e = v .kind ∷ cond e 1 0 ∷ (placeBytes (v .first) ++ (placeBytes (v .second) ++ (bigEndian 8 (v .a) ++ bigEndian 8 (v .b))))

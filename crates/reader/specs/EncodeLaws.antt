@@ -32,23 +32,23 @@ kept o o′ a p h e = ap length e ∙ length-put o p a h
 
 -- one writer after the other
 pub put-view : (v : PathView) (x : Bool) (m : ℕ) (o o1 o2 o3 o4 o5 o6 : List ℕ) → 26 ≤ length o → m ≡ cond x 1 0
-    → o1 ≡ put o 0 (v .kind ∷ []) → o2 ≡ put o1 1 (m ∷ []) → o3 ≡ put o2 2 (placeBytes (v .one)) → o4 ≡ put o3 6 (placeBytes (v .two))
+    → o1 ≡ put o 0 (v .kind ∷ []) → o2 ≡ put o1 1 (m ∷ []) → o3 ≡ put o2 2 (placeBytes (v .first)) → o4 ≡ put o3 6 (placeBytes (v .second))
     → o5 ≡ put o4 10 (bigEndian 8 (v .a)) → o6 ≡ put o5 18 (bigEndian 8 (v .b)) → o6 ≡ put o 0 (viewBytes v x)
 unfolding viewBytes
 put-view v x m o o1 o2 o3 o4 o5 o6 h i e1 e2 e3 e4 e5 e6 =
-    let n3 = length-place (v .one) in
-    let n4 = length-place (v .two) in
+    let n3 = length-place (v .first) in
+    let n4 = length-place (v .second) in
     let n5 = length-big 8 (v .a) in
     let l1 = kept o o1 (v .kind ∷ []) 0 (omega arith) e1 in
     let l2 = kept o1 o2 (m ∷ []) 1 (omega arith) e2 in
-    let l3 = kept o2 o3 (placeBytes (v .one)) 2 (omega arith) e3 in
-    let l4 = kept o3 o4 (placeBytes (v .two)) 6 (omega arith) e4 in
+    let l3 = kept o2 o3 (placeBytes (v .first)) 2 (omega arith) e3 in
+    let l4 = kept o3 o4 (placeBytes (v .second)) 6 (omega arith) e4 in
     sym (
     rw (← i)
     (put-next o 0 (v .kind ∷ []) _ o1 1 (omega arith) refl e1
     ∙ put-next o1 1 (m ∷ []) _ o2 2 (omega arith) refl e2
-    ∙ put-next o2 2 (placeBytes (v .one)) _ o3 6 (omega arith) (omega arith) e3
-    ∙ put-next o3 6 (placeBytes (v .two)) _ o4 10 (omega arith) (omega arith) e4
+    ∙ put-next o2 2 (placeBytes (v .first)) _ o3 6 (omega arith) (omega arith) e3
+    ∙ put-next o3 6 (placeBytes (v .second)) _ o4 10 (omega arith) (omega arith) e4
     ∙ put-next o4 10 (bigEndian 8 (v .a)) _ o5 18 (omega arith) (omega arith) e5
     ∙ sym e6)
     )

@@ -16,7 +16,7 @@ use Rattle.path.specs.declared.PathAnswer.the-variants.{Found, Nothing}
 use Rattle.path.specs.declared.Refusal.the-variants.{NotAscii, NotAPath}
 use Rattle.path.specs.declared.Reading.the-variants.{Read, Refused}
 use Rattle.path.specs.Text.{partOf}
-use Rattle.path.specs.Kinds.{kinds}
+use Rattle.path.specs.Kinds.{kinds, carried}
 use Rattle.path.specs.Read.{partsOf, textsOf, renderPath, carriedFrom, readFirst, readPath}
 use Rattle.path.specs.View.{kindOf, carriedOf, viewOf}
 use Rattle.path.specs.AsciiLaws.{first-low, kinds-low}
@@ -38,25 +38,25 @@ module _ (t : List ℕ) (p : Path) (h : Found p ≡ readFirst kinds t) where
   found-kind : (1 ≤ kindOf p) × (kindOf p ≤ 19)
   found-kind = rw (found .made) (made-range (found .listed) (carriedFrom 0 (found .kind .parts) t))
 
-  found-one : carriedOf p .one .start + carriedOf p .one .len ≤ length t
-  found-one = read-lies t p found .0
+  found-first : carriedOf p .first .start + carriedOf p .first .len ≤ length t
+  found-first = read-lies t p found .0
 
-  found-two : carriedOf p .two .start + carriedOf p .two .len ≤ length t
-  found-two = read-lies t p found .1
+  found-second : carriedOf p .second .start + carriedOf p .second .len ≤ length t
+  found-second = read-lies t p found .1
 
-  exact-mark : (n : ℕ) → n ≡ renderLength (partsOf (kindOf p)) (record { one = carriedOf p .one .len; two = carriedOf p .two .len; a = carriedOf p .a; b = carriedOf p .b }) → eqb n (length t) ≡ same t (renderPath t p)
+  exact-mark : (n : ℕ) → n ≡ renderLength (partsOf (kindOf p)) (carried (carriedOf p .first .len) (carriedOf p .second .len) (carriedOf p .a) (carriedOf p .b)) → eqb n (length t) ≡ same t (renderPath t p)
   unfolding renderPath
   exact-mark n e =
-      let l : n ≡ length (renderPath t p) = e ∙ sym (render-length (partsOf (kindOf p)) (textsOf t (carriedOf p)) ∙ rw (lies-length t (carriedOf p .one) found-one, lies-length t (carriedOf p .two) found-two)) in
+      let l : n ≡ length (renderPath t p) = e ∙ sym (render-length (partsOf (kindOf p)) (textsOf t (carriedOf p)) ∙ rw (lies-length t (carriedOf p .first) found-first, lies-length t (carriedOf p .second) found-second)) in
       rw l (sym (exact-by-length found))
 
   -- its view may be measured
-  pub found-measured : length t ≤ 4096 → (v : PathView) → v ≡ viewOf p → (1 ≤ v .kind) × (v .kind ≤ 19) × (v .one .len + v .two .len < 2 ^ 63)
+  pub found-measured : length t ≤ 4096 → (v : PathView) → v ≡ viewOf p → (1 ≤ v .kind) × (v .kind ≤ 19) × (v .first .len + v .second .len < 2 ^ 63)
   unfolding viewOf
-  found-measured short v e = rw e (found-kind .0, found-kind .1, omega (arith, found-one, found-two))
+  found-measured short v e = rw e (found-kind .0, found-kind .1, omega (arith, found-first, found-second))
 
   -- it is ASCII, and the mark goes by the length
-  pub found-read : length t ≤ 4096 → (v : PathView) → v ≡ viewOf p → (n : ℕ) → n ≡ renderLength (partsOf (v .kind)) (record { one = v .one .len; two = v .two .len; a = v .a; b = v .b }) → Read p (eqb n (length t)) ≡ readPath t
+  pub found-read : length t ≤ 4096 → (v : PathView) → v ≡ viewOf p → (n : ℕ) → n ≡ renderLength (partsOf (v .kind)) (carried (v .first .len) (v .second .len) (v .a) (v .b)) → Read p (eqb n (length t)) ≡ readPath t
   unfolding viewOf readPath
   found-read short v e n l = rw (le-ltb 4096 (length t) short, first-low kinds t p kinds-low (sym h), ← h, exact-mark n (l ∙ rw e))
 

@@ -40,12 +40,12 @@ pub(crate) fn write_view(v: PathView, exact: bool, out: &mut [u8]) -> Written
             length: 0,
         };
     }
-    let one = v.one;
-    let two = v.two;
+    let first = v.first;
+    let second = v.second;
     write_byte(out, 0, v.kind);
     write_byte(out, 1, mark(exact));
-    write_place(out, 2, one);
-    write_place(out, 6, two);
+    write_place(out, 2, first);
+    write_place(out, 6, second);
     write_big_endian(out, 10, v.a, 8);
     write_big_endian(out, 18, v.b, 8);
     Written {

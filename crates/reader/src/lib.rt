@@ -39,8 +39,8 @@ pub fn first_identifier(text: &[u8], reading: Reading) -> &[u8]
         return part(text, Place { start: 0, len: 0 });
     };
     let v = path::view(path);
-    let one = v.one;
-    part(text, one)
+    let first = v.first;
+    part(text, first)
 }
 
 // The second identifier, likewise.
@@ -51,8 +51,8 @@ pub fn second_identifier(text: &[u8], reading: Reading) -> &[u8]
         return part(text, Place { start: 0, len: 0 });
     };
     let v = path::view(path);
-    let two = v.two;
-    part(text, two)
+    let second = v.second;
+    part(text, second)
 }
 
 // Why a text of at most 4,096 bytes is no path.
@@ -78,7 +78,7 @@ pub fn read_path(text: &[u8]) -> Reading
         return Reading::Refused(fault(text));
     };
     let v = path::view(path);
-    let length = path::measure::render_length(v.kind, v.one.len, v.two.len, v.a, v.b);
+    let length = path::measure::render_length(v.kind, v.first.len, v.second.len, v.a, v.b);
     Reading::Read {
         path,
         exact: length == text.len(),

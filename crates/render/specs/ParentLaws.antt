@@ -19,9 +19,9 @@ use Rattle.writers.specs.TextLaws.{parent-text, leaf-text, below-text, packets-
 use Rattle.render.specs.Render.{kindFault}
 
 module _ (v : Carried (List ℕ)) where
-  pub parent-wanted : textOf consensusParent v ≡ accepted (checkOf check.client (v .one)) (parentText (v .one))
+  pub parent-wanted : textOf consensusParent v ≡ accepted (checkOf check.client (v .first)) (parentText (v .first))
   unfolding textOf namesFault nameFault
-  parent-wanted = rw (parent-text v, first-last (checkOf check.client (v .one)))
+  parent-wanted = rw (parent-text v, first-last (checkOf check.client (v .first)))
 
   pub leaf-wanted : textOf (consensusLeaf []) v ≡ text (leafText (v .a) (v .b) [])
   unfolding textOf namesFault
@@ -31,9 +31,9 @@ module _ (v : Carried (List ℕ)) where
   unfolding textOf namesFault
   below-wanted w = rw (below-text v w)
 
-  pub packets-wanted : (w f : List ℕ) → f ≡ w ++ bytes "/ports/" → textOf (packetsPath w) v ≡ accepted (kindFault 15 (v .one) (v .two)) (packetsText f (v .one) (v .two))
+  pub packets-wanted : (w f : List ℕ) → f ≡ w ++ bytes "/ports/" → textOf (packetsPath w) v ≡ accepted (kindFault 15 (v .first) (v .second)) (packetsText f (v .first) (v .second))
   unfolding textOf namesFault kindFault
-  packets-wanted w f e = rw (packets-text v w f e, first-last (nameFault channel (v .two)))
+  packets-wanted w f e = rw (packets-text v w f e, first-last (nameFault channel (v .second)))
 
 -- ---- a check's refusal, and none
 module _ {n m : ℕ} (w : List ℕ) (e : n ≡ m) where

@@ -41,17 +41,17 @@ module _ (k : ℕ) (v : Carried (List ℕ)) where
     render-kind = rw (le-leb 1 k (omega arith), le-leb k 19 high)
 
     -- ---- the identifiers
-    kind-fault : namesFault (partsOf k) v ≡ kindFault k (v .one) (v .two)
+    kind-fault : namesFault (partsOf k) v ≡ kindFault k (v .first) (v .second)
     unfolding kindFault partsOf namesFault kinds kind4 kind5 kind6 kind7 kind8 kind9 kind10 kind11 kind12 kind13 kind14 kind15 kind16 kind17 kind18 kind19
     kind-fault =
-        agree-at (λ k. namesFault (partsOf k) v) (λ k. kindFault k (v .one) (v .two)) 4 16
-        (rw (first-last (nameFault client (v .one)), first-last (nameFault connection (v .one)), first-last (nameFault upgrade (v .one)), first-last (nameFault port (v .one)), first-last (nameFault channel (v .two))))
+        agree-at (λ k. namesFault (partsOf k) v) (λ k. kindFault k (v .first) (v .second)) 4 16
+        (rw (first-last (nameFault client (v .first)), first-last (nameFault connection (v .first)), first-last (nameFault upgrade (v .first)), first-last (nameFault port (v .first)), first-last (nameFault channel (v .second))))
         k low (omega arith)
 
-    pub kind-refused : (n : ℕ) → n ≡ kindFault k (v .one) (v .two) → (n ≡ 0 → ⊥) → limited (partsOf k) v ≡ refused n
+    pub kind-refused : (n : ℕ) → n ≡ kindFault k (v .first) (v .second) → (n ≡ 0 → ⊥) → limited (partsOf k) v ≡ refused n
     kind-refused n e h = rw (kind-fault, ← e, ne-eqb n 0 h, ne-eqb n 0 h)
 
-    pub kind-limited : kindFault k (v .one) (v .two) ≡ 0 → limited (partsOf k) v ≡ short (render (partsOf k) v)
+    pub kind-limited : kindFault k (v .first) (v .second) ≡ 0 → limited (partsOf k) v ≡ short (render (partsOf k) v)
     unfolding short
     kind-limited e = rw (kind-fault, e)
 

@@ -16,16 +16,16 @@ ghost use Rattle.path.specs.Text.{shownOf};
 // Writes the rendering of a path whose places are in the text, and returns the place after it.
 pub fn write_rendering(out: &mut [u8], at: usize, text: &[u8], v: PathView) -> usize
     requires { ⌜ (1 ≤ v .kind) × (v .kind ≤ 19) ⌝ }
-    requires { ⌜ at + length (render (partsOf (v .kind)) (carried (shownOf (now text) (v .one)) (shownOf (now text) (v .two)) (v .a) (v .b))) ≤ length (now out) ⌝ }
-    ensures { λ r. ⌜ r ≡ at + length (render (partsOf (v .kind)) (carried (shownOf (now (text .entry)) (v .one)) (shownOf (now (text .entry)) (v .two)) (v .a) (v .b))) ⌝ }
-    ensures { λ _. ⌜ now (out .exit) ≡ put (now (out .entry)) at (render (partsOf (v .kind)) (carried (shownOf (now (text .entry)) (v .one)) (shownOf (now (text .entry)) (v .two)) (v .a) (v .b))) ⌝ }
+    requires { ⌜ at + length (render (partsOf (v .kind)) (carried (shownOf (now text) (v .first)) (shownOf (now text) (v .second)) (v .a) (v .b))) ≤ length (now out) ⌝ }
+    ensures { λ r. ⌜ r ≡ at + length (render (partsOf (v .kind)) (carried (shownOf (now (text .entry)) (v .first)) (shownOf (now (text .entry)) (v .second)) (v .a) (v .b))) ⌝ }
+    ensures { λ _. ⌜ now (out .exit) ≡ put (now (out .entry)) at (render (partsOf (v .kind)) (carried (shownOf (now (text .entry)) (v .first)) (shownOf (now (text .entry)) (v .second)) (v .a) (v .b))) ⌝ }
 {
     write_kind(
         out,
         at,
         v.kind,
-        part(text, v.one),
-        part(text, v.two),
+        part(text, v.first),
+        part(text, v.second),
         v.a,
         v.b,
     )
@@ -44,5 +44,5 @@ pub fn write_key(text: &[u8], out: &mut [u8]) -> Written
         };
     };
     let v = path::view(path);
-    fit_kind(out, v.kind, part(text, v.one), part(text, v.two), v.a, v.b)
+    fit_kind(out, v.kind, part(text, v.first), part(text, v.second), v.a, v.b)
 }

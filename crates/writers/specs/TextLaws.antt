@@ -19,25 +19,25 @@ module _ (v : Carried (List ℕ)) (k : ℕ) where
   unfolding partsOf render show joinBy kinds kind1 kind2 kind3
   sequence-text l h = agree-at (λ k. render (partsOf k) v) (λ k. getD sequenceTexts (k - 1) []) 1 3 refl k l (omega arith)
 
-  pub client-text : 4 ≤ k → k ≤ 8 → render (partsOf k) v ≡ getD (clientTexts (v .one) (v .a) (v .b)) (k - 4) []
+  pub client-text : 4 ≤ k → k ≤ 8 → render (partsOf k) v ≡ getD (clientTexts (v .first) (v .a) (v .b)) (k - 4) []
   unfolding partsOf render show joinBy kinds kind4 kind5 kind6 kind7 kind8
-  client-text l h = agree-at (λ k. render (partsOf k) v) (λ k. getD (clientTexts (v .one) (v .a) (v .b)) (k - 4) []) 4 5 (simp (append-assoc, append-nil)) k l (omega arith)
+  client-text l h = agree-at (λ k. render (partsOf k) v) (λ k. getD (clientTexts (v .first) (v .a) (v .b)) (k - 4) []) 4 5 (simp (append-assoc, append-nil)) k l (omega arith)
 
-  pub channel-text : 9 ≤ k → k ≤ 14 → render (partsOf k) v ≡ getD (channelTexts (v .one) (v .two)) (k - 9) []
+  pub channel-text : 9 ≤ k → k ≤ 14 → render (partsOf k) v ≡ getD (channelTexts (v .first) (v .second)) (k - 9) []
   unfolding partsOf render show joinBy kinds kind9 kind10 kind11 kind12 kind13 kind14
-  channel-text l h = agree-at (λ k. render (partsOf k) v) (λ k. getD (channelTexts (v .one) (v .two)) (k - 9) []) 9 6 (simp append-assoc) k l (omega arith)
+  channel-text l h = agree-at (λ k. render (partsOf k) v) (λ k. getD (channelTexts (v .first) (v .second)) (k - 9) []) 9 6 (simp append-assoc) k l (omega arith)
 
-  pub packet-text : 15 ≤ k → k ≤ 17 → render (partsOf k) v ≡ getD (packetTexts (v .one) (v .two) (v .a)) (k - 15) []
+  pub packet-text : 15 ≤ k → k ≤ 17 → render (partsOf k) v ≡ getD (packetTexts (v .first) (v .second) (v .a)) (k - 15) []
   unfolding partsOf render show joinBy kinds kind15 kind16 kind17
-  packet-text l h = agree-at (λ k. render (partsOf k) v) (λ k. getD (packetTexts (v .one) (v .two) (v .a)) (k - 15) []) 15 3 (simp append-assoc) k l (omega arith)
+  packet-text l h = agree-at (λ k. render (partsOf k) v) (λ k. getD (packetTexts (v .first) (v .second) (v .a)) (k - 15) []) 15 3 (simp append-assoc) k l (omega arith)
 
-  pub upgrade-text : 18 ≤ k → k ≤ 19 → render (partsOf k) v ≡ getD (upgradeTexts (v .one) (v .a)) (k - 18) []
+  pub upgrade-text : 18 ≤ k → k ≤ 19 → render (partsOf k) v ≡ getD (upgradeTexts (v .first) (v .a)) (k - 18) []
   unfolding partsOf render show joinBy kinds kind18 kind19
-  upgrade-text l h = agree-at (λ k. render (partsOf k) v) (λ k. getD (upgradeTexts (v .one) (v .a)) (k - 18) []) 18 2 (simp append-assoc) k l (omega arith)
+  upgrade-text l h = agree-at (λ k. render (partsOf k) v) (λ k. getD (upgradeTexts (v .first) (v .a)) (k - 18) []) 18 2 (simp append-assoc) k l (omega arith)
 
 -- the texts that are no whole path
 module _ (v : Carried (List ℕ)) where
-  pub parent-text : render consensusParent v ≡ parentText (v .one)
+  pub parent-text : render consensusParent v ≡ parentText (v .first)
   unfolding render show joinBy
   parent-text = refl
 
@@ -49,6 +49,6 @@ module _ (v : Carried (List ℕ)) where
   unfolding render show joinBy
   below-text w = simp append-assoc
 
-  pub packets-text : (w f : List ℕ) → f ≡ w ++ bytes "/ports/" → render (packetsPath w) v ≡ packetsText f (v .one) (v .two)
+  pub packets-text : (w f : List ℕ) → f ≡ w ++ bytes "/ports/" → render (packetsPath w) v ≡ packetsText f (v .first) (v .second)
   unfolding render show joinBy
   packets-text w f e = rw e (simp append-assoc)

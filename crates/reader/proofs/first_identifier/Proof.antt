@@ -2,7 +2,7 @@
 -- Assumes nothing.
 use mathlib.Core.Path.{sym, ap, _∙_}
 use Rattle.path.specs.View.{firstPlace}
-use Rattle.path.specs.ViewLaws.{shows-at, view-one}
+use Rattle.path.specs.ViewLaws.{shows-at, view-first}
 use borrow.Author.Needs.{needs}
 use Rattle.reader.proofs.first_identifier.Statement.{statement}
 use Rattle.reader.proofs.first_identifier.Tie as tie
@@ -26,7 +26,7 @@ part-requires-2 : tie.Need-part-requires-2
 part-requires-2 c κs = search needs
 
 returns-2 : tie.Need-returns-2
-returns-2 c = shows-at _ _ _ _ (view-one _ _ (c .before .before .view .ensures) ∙ sym (ap firstPlace (c .before .before .before .before .reading .given .1))) (c .part2 .ensures)
+returns-2 c = shows-at _ _ _ _ (view-first _ _ (c .before .before .view .ensures) ∙ sym (ap firstPlace (c .before .before .before .before .reading .given .1))) (c .part2 .ensures)
 
 pub first-identifier-spec : {M : Type 1} → statement M
 first-identifier-spec =

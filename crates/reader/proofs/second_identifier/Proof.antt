@@ -2,7 +2,7 @@
 -- Assumes nothing.
 use mathlib.Core.Path.{sym, ap, _∙_}
 use Rattle.path.specs.View.{secondPlace}
-use Rattle.path.specs.ViewLaws.{shows-at, view-two}
+use Rattle.path.specs.ViewLaws.{shows-at, view-second}
 use borrow.Author.Needs.{needs}
 use Rattle.reader.proofs.second_identifier.Statement.{statement}
 use Rattle.reader.proofs.second_identifier.Tie as tie
@@ -26,7 +26,7 @@ part-requires-2 : tie.Need-part-requires-2
 part-requires-2 c κs = search needs
 
 returns-2 : tie.Need-returns-2
-returns-2 c = shows-at _ _ _ _ (view-two _ _ (c .before .before .view .ensures) ∙ sym (ap secondPlace (c .before .before .before .before .reading .given .1))) (c .part2 .ensures)
+returns-2 c = shows-at _ _ _ _ (view-second _ _ (c .before .before .view .ensures) ∙ sym (ap secondPlace (c .before .before .before .before .reading .given .1))) (c .part2 .ensures)
 
 pub second-identifier-spec : {M : Type 1} → statement M
 second-identifier-spec =

@@ -29,10 +29,10 @@ fixed-bytes-requires : tie.Need-fixed-bytes-requires
 fixed-bytes-requires c κs = search needs
 
 add-result : tie.Need-add-result
-add-result c = omega (arith, c .before .before .before .before .before .first-of .ensures, first-of-most (c .before .before .before .before .before .before .name-count .result) (c .before .before .before .before .before .before .before .args .one) (c .before .before .before .before .before .before .before .args .two), c .before .first-of2 .ensures, first-of-most (c .before .before .before .before .number-count .result) (c .before .before .before .number-width .result) (c .before .before .number-width2 .result), width-u64 _ (c .before .before .before .before .before .before .before .fits .a .fits), width-u64 _ (c .before .before .before .before .before .before .before .fits .b .fits), c .before .before .before .number-width .ensures, c .before .before .number-width2 .ensures)
+add-result c = omega (arith, c .before .before .before .before .before .first-of .ensures, first-of-most (c .before .before .before .before .before .before .name-count .result) (c .before .before .before .before .before .before .before .args .first) (c .before .before .before .before .before .before .before .args .second), c .before .first-of2 .ensures, first-of-most (c .before .before .before .before .number-count .result) (c .before .before .before .number-width .result) (c .before .before .number-width2 .result), width-u64 _ (c .before .before .before .before .before .before .before .fits .a .fits), width-u64 _ (c .before .before .before .before .before .before .before .fits .b .fits), c .before .before .before .number-width .ensures, c .before .before .number-width2 .ensures)
 
 add-result-2 : tie.Need-add-result-2
-add-result-2 c = omega (arith, c .fixed-bytes .ensures, fixed-most (c .before .before .before .before .before .before .before .args .kind) (c .before .before .before .before .before .before .before .pre .0) (c .before .before .before .before .before .before .before .pre .1), c .before .before .before .before .before .first-of .ensures, first-of-most (c .before .before .before .before .before .before .name-count .result) (c .before .before .before .before .before .before .before .args .one) (c .before .before .before .before .before .before .before .args .two), c .before .first-of2 .ensures, first-of-most (c .before .before .before .before .number-count .result) (c .before .before .before .number-width .result) (c .before .before .number-width2 .result), width-u64 _ (c .before .before .before .before .before .before .before .fits .a .fits), width-u64 _ (c .before .before .before .before .before .before .before .fits .b .fits), c .before .before .before .number-width .ensures, c .before .before .number-width2 .ensures)
+add-result-2 c = omega (arith, c .fixed-bytes .ensures, fixed-most (c .before .before .before .before .before .before .before .args .kind) (c .before .before .before .before .before .before .before .pre .0) (c .before .before .before .before .before .before .before .pre .1), c .before .before .before .before .before .first-of .ensures, first-of-most (c .before .before .before .before .before .before .name-count .result) (c .before .before .before .before .before .before .before .args .first) (c .before .before .before .before .before .before .before .args .second), c .before .first-of2 .ensures, first-of-most (c .before .before .before .before .number-count .result) (c .before .before .before .number-width .result) (c .before .before .number-width2 .result), width-u64 _ (c .before .before .before .before .before .before .before .fits .a .fits), width-u64 _ (c .before .before .before .before .before .before .before .fits .b .fits), c .before .before .before .number-width .ensures, c .before .before .number-width2 .ensures)
 
 returns : tie.Need-returns
 returns c = rw (length-by (c .before .before .before .before .before .before .before .args .kind) (c .before .before .before .before .before .before .before .pre .0) (c .before .before .before .before .before .before .before .pre .1), c .fixed-bytes .ensures, c .before .before .before .before .before .first-of .ensures, c .before .before .before .before .before .before .name-count .ensures, c .before .first-of2 .ensures, c .before .before .before .before .number-count .ensures, c .before .before .before .number-width .ensures, c .before .before .number-width2 .ensures)
