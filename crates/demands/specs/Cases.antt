@@ -16,7 +16,7 @@ use Rattle.path.specs.declared.Refusal.the-variants.{NotAPath}
 use Rattle.path.specs.declared.Reading.{Reading}
 use Rattle.path.specs.declared.Reading.the-variants.{Read, Refused}
 use Rattle.path.specs.Text.{cutAt, joinBy, placesFrom}
-use Rattle.path.specs.Kinds.{kinds, kind1, kind2, kind3, kind4, kind5, kind6, kind7, kind8, kind9, kind10, kind11, kind12, kind13, kind14, kind15, kind16, kind17, kind18, kind19}
+use Rattle.path.specs.Kinds.{kinds}
 use Rattle.path.specs.Read.{nameFault, fits, fitsKind, readKind, readFirst, readPath, show, render, partsOf, renderPath}
 
 -- what is asked: to read a text, or to check an identifier
@@ -92,5 +92,5 @@ cases =
     ∷ []
 
 pub cases-hold : map (λ c. answerOf (c .question)) cases ≡ map (λ c. c .outcome) cases
-unfolding numeralOf digitsAt digitsFrom decimal digits width widthBy every ascii startsWith same among identifierByte charsOf within indexOf namedOf checkOf cutAt joinBy placesFrom kinds kind1 kind2 kind3 kind4 kind5 kind6 kind7 kind8 kind9 kind10 kind11 kind12 kind13 kind14 kind15 kind16 kind17 kind18 kind19 nameFault fits fitsKind readKind readFirst readPath show render partsOf renderPath
+unfolding numeralOf digitsAt digitsFrom decimal digits width widthBy every ascii startsWith same among identifierByte charsOf within indexOf namedOf checkOf cutAt joinBy placesFrom kinds nameFault fits fitsKind readKind readFirst readPath show render partsOf renderPath
 cases-hold = refl

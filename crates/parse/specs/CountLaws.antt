@@ -78,7 +78,7 @@ abbrev counts : List ℕ
 counts = 1 ∷ 2 ∷ 3 ∷ 4 ∷ 5 ∷ 7 ∷ []
 
 kinds-counts : lengthsIn counts kinds ≡ true
-unfolding among kinds kind1 kind2 kind3 kind4 kind5 kind6 kind7 kind8 kind9 kind10 kind11 kind12 kind13 kind14 kind15 kind16 kind17 kind18 kind19
+unfolding among kinds
 kinds-counts = refl
 
 module _ (t : List ℕ) (c : Cut) (e : c ≡ cutOf t) where
@@ -98,7 +98,7 @@ pub groups :
     × (those 4 kinds ≡ kind5 ∷ [])
     × (those 5 kinds ≡ kind6 ∷ kind7 ∷ kind11 ∷ kind12 ∷ kind13 ∷ kind14 ∷ [])
     × (those 7 kinds ≡ kind15 ∷ kind16 ∷ kind17 ∷ [])
-unfolding those kinds kind1 kind2 kind3 kind4 kind5 kind6 kind7 kind8 kind9 kind10 kind11 kind12 kind13 kind14 kind15 kind16 kind17 kind18 kind19
+unfolding those kinds
 groups = (refl, refl, refl, refl, refl, refl)
 
 -- what is read of a text whose number of components a group has
@@ -146,17 +146,17 @@ no-head (e ∷ es) t h = rw (other-head e t (h .0)) (no-head es t (h .1))
 
 module _ (t : List ℕ) where
   pub no-port : same (component t 0) (bytes "connections") ≡ true → Nothing ≡ readFirst (kind10 ∷ []) t
-  unfolding fits same kind10
+  unfolding fits same
   no-port h = no-head (kind10 ∷ []) t (rw (same-is (component t 0) (bytes "connections") h) (refl, tt))
 
   pub no-connection : same (component t 0) (bytes "connections") ≡ false → Nothing ≡ readFirst (kind9 ∷ []) t
-  unfolding fits kind9
+  unfolding fits
   no-connection h = no-head (kind9 ∷ []) t (h, tt)
 
   pub no-ends : same (component t 0) (bytes "clients") ≡ true → Nothing ≡ readFirst (kind11 ∷ kind12 ∷ kind13 ∷ kind14 ∷ []) t
-  unfolding fits same kind11 kind12 kind13 kind14
+  unfolding fits same
   no-ends h = no-head (kind11 ∷ kind12 ∷ kind13 ∷ kind14 ∷ []) t (rw (same-is (component t 0) (bytes "clients") h) (refl, (refl, (refl, (refl, tt)))))
 
   pub no-update : same (component t 0) (bytes "clients") ≡ false → Nothing ≡ readFirst (kind6 ∷ kind7 ∷ []) t
-  unfolding fits kind6 kind7
+  unfolding fits
   no-update h = no-head (kind6 ∷ kind7 ∷ []) t (h, (h, tt))

@@ -19,7 +19,7 @@ use Rattle.path.specs.declared.PathAnswer.{PathAnswer}
 use Rattle.path.specs.declared.PathAnswer.the-variants.{Found, Nothing}
 use Rattle.path.specs.Text.{components, cutAt}
 use Rattle.path.specs.TextLaws.{everyIn, every-join, join-cut}
-use Rattle.path.specs.Kinds.{Part, word, name, count, pair, Kind, kinds, kind1, kind2, kind3, kind4, kind5, kind6, kind7, kind8, kind9, kind10, kind11, kind12, kind13, kind14, kind15, kind16, kind17, kind18, kind19}
+use Rattle.path.specs.Kinds.{Part, word, name, count, pair, Kind, kinds, kind18, kind19}
 use Rattle.path.specs.declared.name.Name.{Name}
 use Rattle.path.specs.declared.name.Name.the-variants.{Client as client, Connection as connection, Port as port, Channel as channel, Upgrade as upgrade}
 use Rattle.path.specs.Read.{nameFault, isNumber, arePair, fits, carriedFrom, fitsKind, readKind, orElse, readFirst}
@@ -122,9 +122,9 @@ none-high es t l h = go (readFirst es t) refl
     go Nothing e = refl
 
 pub kinds-low : kindsLow kinds ≡ true
-unfolding every kinds kind1 kind2 kind3 kind4 kind5 kind6 kind7 kind8 kind9 kind10 kind11 kind12 kind13 kind14 kind15 kind16 kind17 kind18 kind19
+unfolding every kinds
 kinds-low = refl
 
 pub upgrades-low : kindsLow (kind18 ∷ kind19 ∷ []) ≡ true
-unfolding every kind18 kind19
+unfolding every
 upgrades-low = refl

@@ -29,7 +29,7 @@ use Rattle.path.specs.declared.Reading.{Reading}
 use Rattle.path.specs.declared.Reading.the-variants.{Read, Refused}
 use Rattle.path.specs.Text.{components, component, cutAt, joinBy, join, placeAt, partOf}
 use Rattle.path.specs.TextLaws.{part-component, without, allWithout, cut-join, every-append, every-all, every-both, everyIn, every-join}
-use Rattle.path.specs.Kinds.{Part, word, name, count, pair, Carried, Kind, kinds, kind1, kind2, kind3, kind4, kind5, kind6, kind7, kind8, kind9, kind10, kind11, kind12, kind13, kind14, kind15, kind16, kind17, kind18, kind19, nameIn, setName}
+use Rattle.path.specs.Kinds.{Part, word, name, count, pair, Carried, Kind, kinds, nameIn, setName}
 use Rattle.path.specs.declared.name.Name.{Name}
 use Rattle.path.specs.declared.name.Name.the-variants.{Client as client, Connection as connection, Port as port, Channel as channel, Upgrade as upgrade}
 use Rattle.path.specs.Read.{nameFault, valueOf, numberIn, fits, adds, carriedFrom, fitFrom, componentCount, fitsKind, readFirst, show, shown, render, partsOf, textsOf, renderPath, namesFault, renderOf, readingOf, readPath, keyBy, keyOf}
@@ -158,21 +158,21 @@ sound [] = false
 sound (p ∷ ps) = wordsPlain (p ∷ ps)
 
 sound-all : map (λ e. sound (e .parts)) kinds ≡ map (λ e. true) kinds
-unfolding every kinds kind1 kind2 kind3 kind4 kind5 kind6 kind7 kind8 kind9 kind10 kind11 kind12 kind13 kind14 kind15 kind16 kind17 kind18 kind19
+unfolding every kinds
 sound-all = refl
 
 -- what a kind lacks does not show
 only-all : (v : Carried (List ℕ)) → map (λ e. shown (e .parts) (only (e .parts) v)) kinds ≡ map (λ e. shown (e .parts) v) kinds
-unfolding show kinds kind1 kind2 kind3 kind4 kind5 kind6 kind7 kind8 kind9 kind10 kind11 kind12 kind13 kind14 kind15 kind16 kind17 kind18 kind19
+unfolding show kinds
 only-all v = refl
 
 names-all : (v : Carried (List ℕ)) → map (λ e. namesFault (e .parts) (only (e .parts) v)) kinds ≡ map (λ e. namesFault (e .parts) v) kinds
-unfolding namesFault kinds kind1 kind2 kind3 kind4 kind5 kind6 kind7 kind8 kind9 kind10 kind11 kind12 kind13 kind14 kind15 kind16 kind17 kind18 kind19
+unfolding namesFault kinds
 names-all v = refl
 
 -- what a kind makes has nothing that it lacks
 lacks-all : (x : List ℕ) (v : Carried Place) → map (λ e. only (e .parts) (textsOf x (carriedOf (e .make v)))) kinds ≡ map (λ e. textsOf x (carriedOf (e .make v))) kinds
-unfolding kinds kind1 kind2 kind3 kind4 kind5 kind6 kind7 kind8 kind9 kind10 kind11 kind12 kind13 kind14 kind15 kind16 kind17 kind18 kind19
+unfolding kinds
 lacks-all x v = refl
 
 -- ---- a kind

@@ -22,7 +22,7 @@ use Rattle.path.specs.declared.Place.{Place}
 use Rattle.path.specs.declared.Path.{Path}
 use Rattle.path.specs.Text.{components, component, cutAt, joinBy, join, placeAt, partOf}
 use Rattle.path.specs.TextLaws.{part-component, join-cons, join-cut}
-use Rattle.path.specs.Kinds.{Part, word, name, count, pair, Carried, Kind, kinds, kind1, kind2, kind3, kind4, kind5, kind6, kind7, kind8, kind9, kind10, kind11, kind12, kind13, kind14, kind15, kind16, kind17, kind18, kind19, nameIn, setName}
+use Rattle.path.specs.Kinds.{Part, word, name, count, pair, Carried, Kind, kinds, nameIn, setName}
 use Rattle.path.specs.declared.name.Name.{Name}
 use Rattle.path.specs.declared.name.Name.the-variants.{Client as client, Connection as connection, Port as port, Channel as channel, Upgrade as upgrade}
 use Rattle.path.specs.Read.{valueOf, isNumber, numberIn, arePair, fits, adds, carriedFrom, fitFrom, componentCount, fitsKind, show, shown, render, textsOf, renderPath}
@@ -143,7 +143,7 @@ all-spelled k (p ∷ (q ∷ ps)) t h f =
 -- ---- a kind
 -- each part of a kind renders what its own component adds
 shown-all : (t : List ℕ) → map (λ e. shown (e .parts) (textsOf t (carriedFrom 0 (e .parts) t))) kinds ≡ map (λ e. ownFrom 0 (e .parts) t) kinds
-unfolding show kinds kind1 kind2 kind3 kind4 kind5 kind6 kind7 kind8 kind9 kind10 kind11 kind12 kind13 kind14 kind15 kind16 kind17 kind18 kind19
+unfolding show kinds
 shown-all t = refl
 
 module _ {e : Kind} (m : Has kinds e) (t : List ℕ) where

@@ -69,61 +69,61 @@ channelParts first rest = word first ∷ word (bytes "ports") ∷ name port ∷ 
 abbrev packetParts : List ℕ → List Part
 packetParts first = channelParts first (word (bytes "sequences") ∷ count ∷ [])
 
-unfoldable pub kind1 : Kind
+abbrev pub kind1 : Kind
 kind1 = record { parts = word (bytes "nextClientSequence") ∷ []; make = λ v. NextClientSequence (record {}) }
 
-unfoldable pub kind2 : Kind
+abbrev pub kind2 : Kind
 kind2 = record { parts = word (bytes "nextConnectionSequence") ∷ []; make = λ v. NextConnectionSequence (record {}) }
 
-unfoldable pub kind3 : Kind
+abbrev pub kind3 : Kind
 kind3 = record { parts = word (bytes "nextChannelSequence") ∷ []; make = λ v. NextChannelSequence (record {}) }
 
-unfoldable pub kind4 : Kind
+abbrev pub kind4 : Kind
 kind4 = record { parts = clientParts (word (bytes "clientState") ∷ []); make = λ v. ClientState (record { client = v .first }) }
 
-unfoldable pub kind5 : Kind
+abbrev pub kind5 : Kind
 kind5 = record { parts = consensusParts []; make = λ v. ClientConsensusState (record { client = v .first; number = record { 0 = v .a }; height = record { 0 = v .b } }) }
 
-unfoldable pub kind6 : Kind
+abbrev pub kind6 : Kind
 kind6 = record { parts = consensusParts (word (bytes "processedTime") ∷ []); make = λ v. ClientUpdateTime (record { client = v .first; number = record { 0 = v .a }; height = record { 0 = v .b } }) }
 
-unfoldable pub kind7 : Kind
+abbrev pub kind7 : Kind
 kind7 = record { parts = consensusParts (word (bytes "processedHeight") ∷ []); make = λ v. ClientUpdateHeight (record { client = v .first; number = record { 0 = v .a }; height = record { 0 = v .b } }) }
 
-unfoldable pub kind8 : Kind
+abbrev pub kind8 : Kind
 kind8 = record { parts = clientParts (word (bytes "connections") ∷ []); make = λ v. ClientConnection (record { client = v .first }) }
 
-unfoldable pub kind9 : Kind
+abbrev pub kind9 : Kind
 kind9 = record { parts = word (bytes "connections") ∷ name connection ∷ []; make = λ v. Connection (record { connection = v .first }) }
 
-unfoldable pub kind10 : Kind
+abbrev pub kind10 : Kind
 kind10 = record { parts = word (bytes "ports") ∷ name port ∷ []; make = λ v. Ports (record { port = v .first }) }
 
-unfoldable pub kind11 : Kind
+abbrev pub kind11 : Kind
 kind11 = record { parts = channelParts (bytes "channelEnds") []; make = λ v. ChannelEnd (record { port = v .first; channel = v .second }) }
 
-unfoldable pub kind12 : Kind
+abbrev pub kind12 : Kind
 kind12 = record { parts = channelParts (bytes "nextSequenceSend") []; make = λ v. SeqSend (record { port = v .first; channel = v .second }) }
 
-unfoldable pub kind13 : Kind
+abbrev pub kind13 : Kind
 kind13 = record { parts = channelParts (bytes "nextSequenceRecv") []; make = λ v. SeqRecv (record { port = v .first; channel = v .second }) }
 
-unfoldable pub kind14 : Kind
+abbrev pub kind14 : Kind
 kind14 = record { parts = channelParts (bytes "nextSequenceAck") []; make = λ v. SeqAck (record { port = v .first; channel = v .second }) }
 
-unfoldable pub kind15 : Kind
+abbrev pub kind15 : Kind
 kind15 = record { parts = packetParts (bytes "commitments"); make = λ v. Commitment (record { port = v .first; channel = v .second; sequence = record { 0 = v .a } }) }
 
-unfoldable pub kind16 : Kind
+abbrev pub kind16 : Kind
 kind16 = record { parts = packetParts (bytes "acks"); make = λ v. Ack (record { port = v .first; channel = v .second; sequence = record { 0 = v .a } }) }
 
-unfoldable pub kind17 : Kind
+abbrev pub kind17 : Kind
 kind17 = record { parts = packetParts (bytes "receipts"); make = λ v. Receipt (record { port = v .first; channel = v .second; sequence = record { 0 = v .a } }) }
 
-unfoldable pub kind18 : Kind
+abbrev pub kind18 : Kind
 kind18 = record { parts = name upgrade ∷ count ∷ word (bytes "upgradedClient") ∷ []; make = λ v. UpgradeClientState (record { upgrade = v .first; height = record { 0 = v .a } }) }
 
-unfoldable pub kind19 : Kind
+abbrev pub kind19 : Kind
 kind19 = record { parts = name upgrade ∷ count ∷ word (bytes "upgradedConsState") ∷ []; make = λ v. UpgradeConsensusState (record { upgrade = v .first; height = record { 0 = v .a } }) }
 
 -- in the order of the enum: kind 1 stands first

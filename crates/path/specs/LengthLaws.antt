@@ -19,7 +19,7 @@ use Rattle.identifiers.specs.CheckLaws.{first-zero, accepted-length}
 use Rattle.path.specs.declared.Path.{Path}
 use Rattle.path.specs.declared.Reading.the-variants.{Read}
 use Rattle.path.specs.Text.{joinBy}
-use Rattle.path.specs.Kinds.{Part, word, name, count, pair, Carried, carried, kinds, kind1, kind2, kind3, kind4, kind5, kind6, kind7, kind8, kind9, kind10, kind11, kind12, kind13, kind14, kind15, kind16, kind17, kind18, kind19, nameIn}
+use Rattle.path.specs.Kinds.{Part, word, name, count, pair, Carried, carried, kinds, nameIn}
 use Rattle.path.specs.declared.name.Name.{Name}
 use Rattle.path.specs.declared.name.Name.the-variants.{Client as client, Connection as connection, Port as port, Channel as channel, Upgrade as upgrade}
 use Rattle.path.specs.Read.{nameFault, show, shown, render, partsOf, namesFault, renderPath, readPath}
@@ -83,7 +83,7 @@ rendered-most ps v a b h = omega (arith, join-total 47 (shown ps v), shown-most 
 
 -- ---- the kinds but the last two
 all-most : (v : Carried (List ℕ)) → every (λ k. leb (mostOf (partsOf k) v) 252) (upFrom 17 1) ≡ true
-unfolding every partsOf kinds kind1 kind2 kind3 kind4 kind5 kind6 kind7 kind8 kind9 kind10 kind11 kind12 kind13 kind14 kind15 kind16 kind17 kind18 kind19
+unfolding every partsOf kinds
 all-most v = refl
 
 pub longest : (k : ℕ) (v : Carried (List ℕ)) → 1 ≤ k → k ≤ 17 → v .a < 2 ^ 64 → v .b < 2 ^ 64 → namesFault (partsOf k) v ≡ 0 → length (render (partsOf k) v) ≤ 251
@@ -97,11 +97,11 @@ abbrev pub longPath : Carried (List ℕ)
 longPath = carried (replicate 128 97) (bytes "channel-+" ++ replicate 55 48) 18446744073709551615 0
 
 pub long-is : length (render (partsOf 15) longPath) ≡ 251
-unfolding partsOf kinds kind15 render show joinBy decimal digits width widthBy
+unfolding partsOf kinds render show joinBy decimal digits width widthBy
 long-is = refl
 
 pub long-valid : Valid 15 longPath
-unfolding partsOf kinds kind15 namesFault nameFault checkOf charsOf within namedOf indexOf identifierByte among every ascii startsWith numeralOf digitsAt digitsFrom
+unfolding partsOf kinds namesFault nameFault checkOf charsOf within namedOf indexOf identifierByte among every ascii startsWith numeralOf digitsAt digitsFrom
 long-valid = record { least = omega arith; most = omega arith; names = refl; a = omega arith; b = omega arith; size = omega (arith, long-is) }
 
 -- ---- what is read renders in at most 4,096 bytes

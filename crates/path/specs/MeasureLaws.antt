@@ -1,17 +1,15 @@
 -- The length of a rendering by three sums, and the tables of the code.
 -- Assumes nothing.
-use Prim.Native.Nat.{ℕ, zero, suc, _+_, _≤_}
-use mathlib.Core.Path.{_≡_, refl, _∙_}
-use mathlib.Core.Bool.{true}
+use Prim.Native.Nat.{ℕ, suc, _+_, _-_, _≤_}
+use mathlib.Core.Path.{_≡_, refl, ap, _∙_}
 use mathlib.Core.List.{List, [], _∷_, map}
 use native.Mathlib.Omega.{arith}
-use lib.Dec.{leb}
-use lib.ListN.{length, length-append}
-use borrow.Author.Tests.{leb-true}
+use lib.ListN.{length, length-append, getD}
 use Rattle.text.specs.Number.{width, decimal}
 use Rattle.text.specs.NumberLaws.{length-decimal}
+use Rattle.text.specs.TableLaws.{valuesFrom, table-at}
 use Rattle.path.specs.Text.{joinBy}
-use Rattle.path.specs.Kinds.{Part, word, name, count, pair, Carried, carried, kinds, kind1, kind2, kind3, kind4, kind5, kind6, kind7, kind8, kind9, kind10, kind11, kind12, kind13, kind14, kind15, kind16, kind17, kind18, kind19, nameIn}
+use Rattle.path.specs.Kinds.{Part, word, name, count, pair, Carried, carried, kinds, nameIn}
 use Rattle.path.specs.declared.name.Name.{Name}
 use Rattle.path.specs.declared.name.Name.the-variants.{Client as client, Connection as connection, Port as port, Channel as channel, Upgrade as upgrade}
 use Rattle.path.specs.Read.{show, render, partsOf}
@@ -57,16 +55,12 @@ length-sums (pair ∷ (q ∷ ps)) v = omega (arith, length-sums (q ∷ ps) v)
 
 -- ---- the table: a kind with one identifier has the first, and one with two has both; with the numbers it is the same
 names-all : (v : Carried ℕ) → map (λ e. namesIn (e .parts) v) kinds ≡ map (λ e. firstOf (nameCount (e .parts)) (v .first) (v .second)) kinds
-unfolding namesIn nameCount firstOf kinds kind1 kind2 kind3 kind4 kind5 kind6 kind7 kind8 kind9 kind10 kind11 kind12 kind13 kind14 kind15 kind16 kind17 kind18 kind19
+unfolding namesIn nameCount firstOf kinds
 names-all v = refl
 
 numbers-all : (v : Carried ℕ) → map (λ e. numbersIn (e .parts) v) kinds ≡ map (λ e. firstOf (numberCount (e .parts)) (width (v .a)) (width (v .b))) kinds
-unfolding numbersIn numberCount firstOf kinds kind1 kind2 kind3 kind4 kind5 kind6 kind7 kind8 kind9 kind10 kind11 kind12 kind13 kind14 kind15 kind16 kind17 kind18 kind19
+unfolding numbersIn numberCount firstOf kinds
 numbers-all v = refl
-
-fixed-all : map (λ e. leb (fixed (e .parts)) 64) kinds ≡ map (λ e. true) kinds
-unfolding fixed kinds kind1 kind2 kind3 kind4 kind5 kind6 kind7 kind8 kind9 kind10 kind11 kind12 kind13 kind14 kind15 kind16 kind17 kind18 kind19
-fixed-all = refl
 
 module _ (k : ℕ) (low : 1 ≤ k) (high : k ≤ 19) where
   pub length-by : (v : Carried ℕ) → renderLength (partsOf k) v ≡ fixed (partsOf k) + (firstOf (nameCount (partsOf k)) (v .first) (v .second) + firstOf (numberCount (partsOf k)) (width (v .a)) (width (v .b)))
@@ -77,12 +71,6 @@ module _ (k : ℕ) (low : 1 ≤ k) (high : k ≤ 19) where
         has-both (λ e. numbersIn (e .parts) v) (λ e. firstOf (numberCount (e .parts)) (width (v .a)) (width (v .b))) (kind-has k low high) (numbers-all v),
       )
 
-  -- it is not much longer than its identifiers
-  pub fixed-most : fixed (partsOf k) ≤ 64
-  fixed-most = leb-true _ _ (rw (kind-parts k low high) (has-both (λ e. leb (fixed (e .parts)) 64) (λ e. true) (kind-has k low high) fixed-all))
-
-pub first-of-most : (n x y : ℕ) → firstOf n x y ≤ x + y
-unfolding firstOf
-first-of-most zero x y = omega arith
-first-of-most (suc zero) x y = omega arith
-first-of-most (suc (suc n)) x y = omega arith
+-- ---- a table of the code that has a number for each kind: the bytes of its words, its identifiers, its numbers
+pub at-kind : (g : List Part → ℕ) (k : ℕ) → 1 ≤ k → k ≤ 19 → getD (valuesFrom (λ i. g (partsOf (suc i))) 0 19) (k - 1) 0 ≡ g (partsOf k)
+at-kind g k low high = table-at (λ i. g (partsOf (suc i))) 19 (k - 1) (omega arith) ∙ ap (λ n. g (partsOf n)) (let e : suc (k - 1) ≡ k = omega arith in e)

@@ -18,7 +18,7 @@ use Rattle.path.specs.declared.Path.{Path}
 use Rattle.path.specs.declared.Path.the-variants.{NextClientSequence, NextConnectionSequence, NextChannelSequence, ClientState, ClientConsensusState, ClientUpdateTime, ClientUpdateHeight, ClientConnection, Connection, Ports, ChannelEnd, SeqSend, SeqRecv, SeqAck, Commitment, Ack, Receipt, UpgradeClientState, UpgradeConsensusState}
 use Rattle.path.specs.declared.PathAnswer.the-variants.{Found, Nothing}
 use Rattle.path.specs.Text.{components}
-use Rattle.path.specs.Kinds.{Part, word, name, count, pair, Carried, Kind, kinds, kind1, kind2, kind3, kind4, kind5, kind6, kind7, kind8, kind9, kind10, kind11, kind12, kind13, kind14, kind15, kind16, kind17, kind18, kind19}
+use Rattle.path.specs.Kinds.{Part, word, name, count, pair, Carried, Kind, kinds, kind1}
 use Rattle.path.specs.Read.{fits, carriedFrom, fitFrom, componentCount, fitsKind, readKind, orElse, readFirst, partsOf}
 use Rattle.path.specs.Reads.{Has, here, later, Reads, kindAt}
 use Rattle.path.specs.View.{kindOf, carriedOf}
@@ -114,7 +114,7 @@ apartAll [] = true
 apartAll (e ∷ es) = clashAll e es && apartAll es
 
 pub kinds-apart : apartAll kinds ≡ true
-unfolding kinds kind1 kind2 kind3 kind4 kind5 kind6 kind7 kind8 kind9 kind10 kind11 kind12 kind13 kind14 kind15 kind16 kind17 kind18 kind19 same
+unfolding kinds same
 kinds-apart = refl
 
 clash-has : (x : Kind) {es : List Kind} {e : Kind} → Has es e → clashAll x es ≡ true → clash (x .parts) (e .parts) ≡ true
@@ -167,7 +167,7 @@ has-both f g (later {x} {es} m) h = let t : map f es ≡ map g es = cc in has-bo
 
 -- it has the kind's parts
 parts-all : (v : Carried Place) → map (λ e. partsOf (kindOf (e .make v))) kinds ≡ map (λ e. e .parts) kinds
-unfolding partsOf kinds kind1 kind2 kind3 kind4 kind5 kind6 kind7 kind8 kind9 kind10 kind11 kind12 kind13 kind14 kind15 kind16 kind17 kind18 kind19
+unfolding partsOf kinds
 parts-all v = refl
 
 pub made-parts : {e : Kind} → Has kinds e → (v : Carried Place) → partsOf (kindOf (e .make v)) ≡ e .parts
@@ -175,7 +175,7 @@ made-parts m v = has-both (λ e. partsOf (kindOf (e .make v))) (λ e. e .parts) 
 
 -- its number is one of the nineteen
 range-all : (v : Carried Place) → map (λ e. leb 1 (kindOf (e .make v)) && leb (kindOf (e .make v)) 19) kinds ≡ map (λ e. true) kinds
-unfolding kinds kind1 kind2 kind3 kind4 kind5 kind6 kind7 kind8 kind9 kind10 kind11 kind12 kind13 kind14 kind15 kind16 kind17 kind18 kind19
+unfolding kinds
 range-all v = refl
 
 pub made-range : {e : Kind} → Has kinds e → (v : Carried Place) → (1 ≤ kindOf (e .make v)) × (kindOf (e .make v) ≤ 19)
@@ -185,7 +185,7 @@ made-range {e} m v =
 
 -- it carries what was read
 carried-all : (t : List ℕ) → map (λ e. carriedOf (e .make (carriedFrom 0 (e .parts) t))) kinds ≡ map (λ e. carriedFrom 0 (e .parts) t) kinds
-unfolding kinds kind1 kind2 kind3 kind4 kind5 kind6 kind7 kind8 kind9 kind10 kind11 kind12 kind13 kind14 kind15 kind16 kind17 kind18 kind19
+unfolding kinds
 carried-all t = refl
 
 pub made-carried : {e : Kind} → Has kinds e → (t : List ℕ) → carriedOf (e .make (carriedFrom 0 (e .parts) t)) ≡ carriedFrom 0 (e .parts) t
@@ -212,7 +212,7 @@ kinds-count = refl
 
 -- the table is in the order of the kinds' numbers
 numbers-all : (v : Carried Place) → map (λ e. kindOf (e .make v)) kinds ≡ upFrom 19 1
-unfolding kinds kind1 kind2 kind3 kind4 kind5 kind6 kind7 kind8 kind9 kind10 kind11 kind12 kind13 kind14 kind15 kind16 kind17 kind18 kind19
+unfolding kinds
 numbers-all v = refl
 
 map-at : {A : Type 0} (f : Kind → A) (d : A) (es : List Kind) (i : ℕ) → i < length es → getD (map f es) i d ≡ f (getD es i kind1)
@@ -238,7 +238,7 @@ module _ (k : ℕ) (low : 1 ≤ k) (high : k ≤ 19) where
 
 -- every typed path is made by its kind
 pub path-made : (p : Path) → p ≡ kindAt (kindOf p) .make (carriedOf p)
-unfolding kinds kind1 kind2 kind3 kind4 kind5 kind6 kind7 kind8 kind9 kind10 kind11 kind12 kind13 kind14 kind15 kind16 kind17 kind18 kind19
+unfolding kinds
 path-made (NextClientSequence x) = refl
 path-made (NextConnectionSequence x) = refl
 path-made (NextChannelSequence x) = refl

@@ -1,6 +1,7 @@
 // How long the rendering of a path is.
 ghost use mathlib.Core.Path.{_≡_};
 ghost use Prim.Native.Nat.{_+_, _^_, _≤_, _<_};
+ghost use Rattle.text.specs.Number.{width};
 ghost use Rattle.path.specs.Kinds.{carried};
 ghost use Rattle.path.specs.Read.{partsOf};
 ghost use Rattle.path.specs.Length.{renderLength, fixed, nameCount, numberCount, firstOf};
@@ -38,6 +39,7 @@ fn number_count(kind: u8) -> u8
 fn first_of(n: usize, x: usize, y: usize) -> usize
     requires { ⌜ x + y < 2 ^ 64 ⌝ }
     ensures { λ r. ⌜ r ≡ firstOf n x y ⌝ }
+    ensures { λ r. ⌜ r ≤ x + y ⌝ }
 {
     if n == 0 {
         return 0;
@@ -48,16 +50,24 @@ fn first_of(n: usize, x: usize, y: usize) -> usize
     x + y
 }
 
+// The digits of the numbers that the kind has.
+fn digits(kind: u8, a: u64, b: u64) -> usize
+    requires { ⌜ (1 ≤ kind) × (kind ≤ 19) ⌝ }
+    ensures { λ r. ⌜ r ≡ firstOf (numberCount (partsOf kind)) (width a) (width b) ⌝ }
+    ensures { λ r. ⌜ r ≤ 40 ⌝ }
+{
+    first_of(
+        number_count(kind) as usize,
+        text::number_width(a),
+        text::number_width(b),
+    )
+}
+
 // The length of the rendering by kind, with identifiers of these lengths. What the kind lacks has no influence.
 pub fn render_length(kind: u8, first: usize, second: usize, a: u64, b: u64) -> usize
     requires { ⌜ (1 ≤ kind) × (kind ≤ 19) × (first + second < 2 ^ 63) ⌝ }
     ensures { λ r. ⌜ r ≡ renderLength (partsOf kind) (carried first second a b) ⌝ }
 {
     let names = first_of(name_count(kind) as usize, first, second);
-    let numbers = first_of(
-        number_count(kind) as usize,
-        text::number_width(a),
-        text::number_width(b),
-    );
-    fixed_bytes(kind) as usize + (names + numbers)
+    fixed_bytes(kind) as usize + (names + digits(kind, a, b))
 }

@@ -11,7 +11,7 @@ use Rattle.text.specs.Put.{Wrote, refused, text, refusal, done, answer, left}
 use Rattle.text.specs.PutLaws.{gives-refusal, gives-same, gives-short, gives-text}
 use Rattle.text.specs.TableLaws.{agree-at}
 use Rattle.identifiers.specs.CheckLaws.{first-last}
-use Rattle.path.specs.Kinds.{Carried, carried, kinds, kind1, kind2, kind3, kind4, kind5, kind6, kind7, kind8, kind9, kind10, kind11, kind12, kind13, kind14, kind15, kind16, kind17, kind18, kind19}
+use Rattle.path.specs.Kinds.{Carried, carried, kinds}
 use Rattle.path.specs.declared.name.Name.the-variants.{Client as client, Connection as connection, Port as port, Channel as channel, Upgrade as upgrade}
 use Rattle.path.specs.Text.{joinBy}
 use Rattle.path.specs.Read.{show, render, nameFault, namesFault, limited, partsOf, renderOf}
@@ -32,7 +32,7 @@ module _ (k : ℕ) (v : Carried (List ℕ)) where
 
   -- the first three are one word each
   pub render-word : 1 ≤ k → k ≤ 3 → renderOf k v ≡ text (getD sequenceTexts (k - 1) [])
-  unfolding renderOf partsOf namesFault render show joinBy kinds kind1 kind2 kind3
+  unfolding renderOf partsOf namesFault render show joinBy kinds
   render-word l h = agree-at (λ k. renderOf k v) (λ k. text (getD sequenceTexts (k - 1) [])) 1 3 refl k l (omega arith)
 
   module _ (low : 4 ≤ k) (high : k ≤ 19) where
@@ -42,7 +42,7 @@ module _ (k : ℕ) (v : Carried (List ℕ)) where
 
     -- ---- the identifiers
     kind-fault : namesFault (partsOf k) v ≡ kindFault k (v .first) (v .second)
-    unfolding kindFault partsOf namesFault kinds kind4 kind5 kind6 kind7 kind8 kind9 kind10 kind11 kind12 kind13 kind14 kind15 kind16 kind17 kind18 kind19
+    unfolding kindFault partsOf namesFault kinds
     kind-fault =
         agree-at (λ k. namesFault (partsOf k) v) (λ k. kindFault k (v .first) (v .second)) 4 16
         (rw (first-last (nameFault client (v .first)), first-last (nameFault connection (v .first)), first-last (nameFault upgrade (v .first)), first-last (nameFault port (v .first)), first-last (nameFault channel (v .second))))
@@ -85,5 +85,5 @@ module _ (w out : List ℕ) (n : ℕ) (e : min 4097 n ≡ min 4097 (length w)) w
 
 -- ---- the length of a word
 pub word-length : (k : ℕ) → 1 ≤ k → k ≤ 3 → length (getD sequenceTexts (k - 1) []) ≡ renderLength (partsOf k) (carried 0 0 0 0)
-unfolding partsOf renderLength kinds kind1 kind2 kind3
+unfolding partsOf renderLength kinds
 word-length k l h = agree-at (λ k. length (getD sequenceTexts (k - 1) [])) (λ k. renderLength (partsOf k) (carried 0 0 0 0)) 1 3 refl k l (omega arith)

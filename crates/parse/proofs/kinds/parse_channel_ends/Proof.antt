@@ -4,7 +4,7 @@ use mathlib.Core.Path.{sym, _∙_}
 use mathlib.Core.Bool.{true, false, and-false}
 use lib.Dec.{lit<}
 use Rattle.parse.specs.CutLaws.{cut-components}
-use Rattle.path.specs.Kinds.{kind11, kind12, kind13, kind14}
+use Rattle.path.specs.Kinds.{}
 use Rattle.path.specs.Read.{fitsKind, readKind, readFirst}
 use Rattle.parse.specs.Pieces.{endsIn, endsParts}
 use Rattle.parse.specs.FitLaws.{no-run, is-run, endsAnswers, word-if}
@@ -22,7 +22,7 @@ enum-told : tie.Need-enum-told
 enum-told c = search needs
 
 returns : tie.Need-returns
-unfolding endsIn fitsKind readKind readFirst kind11 kind12 kind13 kind14
+unfolding endsIn fitsKind readKind readFirst
 returns c = simp (no-run endsAnswers 1 endsParts _ _ (sym (c .enum-told .given .1) ∙ c .before .before .read-ends .ensures), and-false)
 
 slice-aggregate-is-word : tie.Need-slice-aggregate-is-word
@@ -32,7 +32,7 @@ is-word-requires : tie.Need-is-word-requires
 is-word-requires c κs = search needs
 
 returns-2 : tie.Need-returns-2
-unfolding endsIn fitsKind readKind readFirst kind11 kind12 kind13 kind14
+unfolding endsIn fitsKind readKind readFirst
 returns-2 c =
     let s = c .before .before .before .before .before .before .before .before in
     let n = cut-components (s .args .text .now) (s .args .cut) 5 (s .pre .0) (s .pre .1) (lit< tt) in
@@ -47,7 +47,7 @@ is-word-requires-2 : tie.Need-is-word-requires-2
 is-word-requires-2 c κs = search needs
 
 returns-3 : tie.Need-returns-3
-unfolding endsIn fitsKind readKind readFirst kind11 kind12 kind13 kind14
+unfolding endsIn fitsKind readKind readFirst
 returns-3 c =
     let s = c .before .before .before .before .before .before .before .before .before .before .before in
     let n = cut-components (s .args .text .now) (s .args .cut) 5 (s .pre .0) (s .pre .1) (lit< tt) in
@@ -63,7 +63,7 @@ is-word-requires-3 : tie.Need-is-word-requires-3
 is-word-requires-3 c κs = search needs
 
 returns-4 : tie.Need-returns-4
-unfolding endsIn fitsKind readKind readFirst kind11 kind12 kind13 kind14
+unfolding endsIn fitsKind readKind readFirst
 returns-4 c =
     let s = c .before .before .before .before .before .before .before .before .before .before .before .before .before .before in
     let n = cut-components (s .args .text .now) (s .args .cut) 5 (s .pre .0) (s .pre .1) (lit< tt) in
@@ -80,7 +80,7 @@ is-word-requires-4 : tie.Need-is-word-requires-4
 is-word-requires-4 c κs = search needs
 
 returns-5 : tie.Need-returns-5
-unfolding endsIn fitsKind readKind readFirst kind11 kind12 kind13 kind14
+unfolding endsIn fitsKind readKind readFirst
 returns-5 c =
     let s = c .before .before .before .before .before .before .before .before .before .before .before .before .before .before .before .before .before in
     let n = cut-components (s .args .text .now) (s .args .cut) 5 (s .pre .0) (s .pre .1) (lit< tt) in
@@ -92,7 +92,7 @@ returns-5 c =
     simp (n, r .0, r .1, w1, w2, w3, w4)
 
 returns-6 : tie.Need-returns-6
-unfolding endsIn fitsKind readKind readFirst kind11 kind12 kind13 kind14
+unfolding endsIn fitsKind readKind readFirst
 returns-6 c =
     let w1 = word-if _ _ _ (c .before .before .before .before .before .before .before .before .before .before .is-word .ensures) false (c .before .before .before .before .before .before .before .before .before .if1 .left) in
     let w2 = word-if _ _ _ (c .before .before .before .before .before .before .before .is-word2 .ensures) false (c .before .before .before .before .before .before .if2 .left) in

@@ -4,7 +4,7 @@ use mathlib.Core.Path.{sym, _∙_}
 use mathlib.Core.Bool.{and-false}
 use lib.Dec.{lit<}
 use Rattle.parse.specs.CutLaws.{cut-components}
-use Rattle.path.specs.Kinds.{kind5}
+use Rattle.path.specs.Kinds.{}
 use Rattle.path.specs.Read.{fitsKind, readKind, readFirst}
 use Rattle.parse.specs.Pieces.{consensusIn, consensusParts}
 use Rattle.parse.specs.FitLaws.{no-run, is-run, consensusAnswers}
@@ -22,11 +22,11 @@ enum-told : tie.Need-enum-told
 enum-told c = search needs
 
 returns : tie.Need-returns
-unfolding consensusIn fitsKind readKind readFirst kind5
+unfolding consensusIn fitsKind readKind readFirst
 returns c = simp (no-run consensusAnswers 0 consensusParts _ _ (sym (c .enum-told .given .1) ∙ c .before .before .read-consensus .ensures), and-false)
 
 returns-2 : tie.Need-returns-2
-unfolding consensusIn fitsKind readKind readFirst kind5
+unfolding consensusIn fitsKind readKind readFirst
 returns-2 c =
     let s = c .before .before .before .before .before in
     let n = cut-components (s .args .text .now) (s .args .cut) 4 (s .pre .0) (s .pre .1) (lit< tt) in

@@ -3,7 +3,7 @@
 use mathlib.Core.Bool.{true, false, and-false}
 use lib.Dec.{lit<}
 use Rattle.parse.specs.CutLaws.{cut-components}
-use Rattle.path.specs.Kinds.{kind1, kind2, kind3}
+use Rattle.path.specs.Kinds.{}
 use Rattle.path.specs.Read.{fitsKind, readKind, readFirst}
 use Rattle.parse.specs.FitLaws.{word-if}
 use borrow.Author.Needs.{needs}
@@ -17,7 +17,7 @@ is-word-requires : tie.Need-is-word-requires
 is-word-requires c κs = search needs
 
 returns : tie.Need-returns
-unfolding fitsKind readKind readFirst kind1 kind2 kind3
+unfolding fitsKind readKind readFirst
 returns c =
     let s = c .before .before .before .before in
     let n = cut-components (s .args .text .now) (s .args .cut) 1 (s .pre .0) (s .pre .1) (lit< tt) in
@@ -31,7 +31,7 @@ is-word-requires-2 : tie.Need-is-word-requires-2
 is-word-requires-2 c κs = search needs
 
 returns-2 : tie.Need-returns-2
-unfolding fitsKind readKind readFirst kind1 kind2 kind3
+unfolding fitsKind readKind readFirst
 returns-2 c =
     let s = c .before .before .before .before .before .before .before in
     let n = cut-components (s .args .text .now) (s .args .cut) 1 (s .pre .0) (s .pre .1) (lit< tt) in
@@ -46,7 +46,7 @@ is-word-requires-3 : tie.Need-is-word-requires-3
 is-word-requires-3 c κs = search needs
 
 returns-3 : tie.Need-returns-3
-unfolding fitsKind readKind readFirst kind1 kind2 kind3
+unfolding fitsKind readKind readFirst
 returns-3 c =
     let s = c .before .before .before .before .before .before .before .before .before .before in
     let n = cut-components (s .args .text .now) (s .args .cut) 1 (s .pre .0) (s .pre .1) (lit< tt) in
@@ -56,7 +56,7 @@ returns-3 c =
     simp (n, w1, w2, w3)
 
 returns-4 : tie.Need-returns-4
-unfolding fitsKind readKind readFirst kind1 kind2 kind3
+unfolding fitsKind readKind readFirst
 returns-4 c =
     let w1 = word-if _ _ _ (c .before .before .before .before .before .before .before .is-word .ensures) false (c .before .before .before .before .before .before .if1 .left) in
     let w2 = word-if _ _ _ (c .before .before .before .before .is-word2 .ensures) false (c .before .before .before .if2 .left) in

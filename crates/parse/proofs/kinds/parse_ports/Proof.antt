@@ -5,7 +5,7 @@ use mathlib.Core.Bool.{and-false}
 use lib.Dec.{lit<}
 use Rattle.text.specs.Bytes.{bytes}
 use Rattle.parse.specs.CutLaws.{cut-components}
-use Rattle.path.specs.Kinds.{kind10}
+use Rattle.path.specs.Kinds.{}
 use Rattle.path.specs.declared.name.Name.the-variants.{Port as port}
 use Rattle.path.specs.Read.{fitsKind, readKind, readFirst}
 use Rattle.parse.specs.Pieces.{placeAfter, placeParts}
@@ -24,11 +24,11 @@ enum-told : tie.Need-enum-told
 enum-told c = search needs
 
 returns : tie.Need-returns
-unfolding placeAfter fitsKind readKind readFirst kind10
+unfolding placeAfter fitsKind readKind readFirst
 returns c = simp (no-run placeAnswers 0 (placeParts (bytes "ports") port) _ _ (sym (c .enum-told .given .1) ∙ c .before .before .read-port .ensures), and-false)
 
 returns-2 : tie.Need-returns-2
-unfolding placeAfter fitsKind readKind readFirst kind10
+unfolding placeAfter fitsKind readKind readFirst
 returns-2 c =
     let s = c .before .before .before .before .before in
     let n = cut-components (s .args .text .now) (s .args .cut) 2 (s .pre .0) (s .pre .1) (lit< tt) in

@@ -4,7 +4,7 @@ use mathlib.Core.Path.{sym, _∙_}
 use mathlib.Core.Bool.{true, false, and-false}
 use lib.Dec.{lit<}
 use Rattle.parse.specs.CutLaws.{cut-components}
-use Rattle.path.specs.Kinds.{kind6, kind7}
+use Rattle.path.specs.Kinds.{}
 use Rattle.path.specs.Read.{fitsKind, readKind, readFirst}
 use Rattle.parse.specs.Pieces.{consensusIn, consensusParts}
 use Rattle.parse.specs.FitLaws.{no-run, is-run, consensusAnswers, word-if}
@@ -22,7 +22,7 @@ enum-told : tie.Need-enum-told
 enum-told c = search needs
 
 returns : tie.Need-returns
-unfolding consensusIn fitsKind readKind readFirst kind6 kind7
+unfolding consensusIn fitsKind readKind readFirst
 returns c = simp (no-run consensusAnswers 0 consensusParts _ _ (sym (c .enum-told .given .1) ∙ c .before .before .read-consensus .ensures), and-false)
 
 slice-aggregate-is-word : tie.Need-slice-aggregate-is-word
@@ -32,7 +32,7 @@ is-word-requires : tie.Need-is-word-requires
 is-word-requires c κs = search needs
 
 returns-2 : tie.Need-returns-2
-unfolding consensusIn fitsKind readKind readFirst kind6 kind7
+unfolding consensusIn fitsKind readKind readFirst
 returns-2 c =
     let s = c .before .before .before .before .before .before .before .before in
     let n = cut-components (s .args .text .now) (s .args .cut) 5 (s .pre .0) (s .pre .1) (lit< tt) in
@@ -47,7 +47,7 @@ is-word-requires-2 : tie.Need-is-word-requires-2
 is-word-requires-2 c κs = search needs
 
 returns-3 : tie.Need-returns-3
-unfolding consensusIn fitsKind readKind readFirst kind6 kind7
+unfolding consensusIn fitsKind readKind readFirst
 returns-3 c =
     let s = c .before .before .before .before .before .before .before .before .before .before .before in
     let n = cut-components (s .args .text .now) (s .args .cut) 5 (s .pre .0) (s .pre .1) (lit< tt) in
@@ -57,7 +57,7 @@ returns-3 c =
     simp (n, r .0, r .1, w1, w2)
 
 returns-4 : tie.Need-returns-4
-unfolding consensusIn fitsKind readKind readFirst kind6 kind7
+unfolding consensusIn fitsKind readKind readFirst
 returns-4 c =
     let w1 = word-if _ _ _ (c .before .before .before .before .is-word .ensures) false (c .before .before .before .if1 .left) in
     let w2 = word-if _ _ _ (c .before .is-word2 .ensures) false (c .if2 .left) in

@@ -6,7 +6,7 @@ use lib.Dec.{lit<}
 use mathlib.Core.List.{[], _∷_}
 use Rattle.parse.specs.UpgradeLaws.{upgrade-fits}
 use Rattle.parse.specs.CutLaws.{cut-components}
-use Rattle.path.specs.Kinds.{count, kind18, kind19}
+use Rattle.path.specs.Kinds.{count}
 use Rattle.path.specs.Read.{fitsKind, readKind, readFirst}
 use Rattle.parse.specs.Pieces.{heightAt}
 use Rattle.parse.specs.FitLaws.{no-run, is-run, heightAnswers, word-if}
@@ -24,7 +24,7 @@ enum-told : tie.Need-enum-told
 enum-told c = search needs
 
 returns : tie.Need-returns
-unfolding heightAt fitsKind readKind readFirst kind18 kind19
+unfolding heightAt fitsKind readKind readFirst
 returns c = simp (no-run heightAnswers 1 (count ∷ []) _ _ (sym (c .enum-told .given .1) ∙ c .before .before .read-height .ensures), and-false)
 
 place-at-requires : tie.Need-place-at-requires
@@ -37,7 +37,7 @@ is-word-requires : tie.Need-is-word-requires
 is-word-requires c κs = search needs
 
 returns-2 : tie.Need-returns-2
-unfolding heightAt fitsKind readKind readFirst kind18 kind19
+unfolding heightAt fitsKind readKind readFirst
 returns-2 c =
     let s = c .before .before .before .before .before .before .before .before .before in
     let n = cut-components (s .args .text .now) (s .args .cut) 3 (s .pre .0) (s .pre .1) (lit< tt) in
@@ -53,7 +53,7 @@ is-word-requires-2 : tie.Need-is-word-requires-2
 is-word-requires-2 c κs = search needs
 
 returns-3 : tie.Need-returns-3
-unfolding heightAt fitsKind readKind readFirst kind18 kind19
+unfolding heightAt fitsKind readKind readFirst
 returns-3 c =
     let s = c .before .before .before .before .before .before .before .before .before .before .before .before in
     let n = cut-components (s .args .text .now) (s .args .cut) 3 (s .pre .0) (s .pre .1) (lit< tt) in
@@ -64,7 +64,7 @@ returns-3 c =
     simp (n, r .0, r .1, u, c .before .before .before .before .before .before .place-at .ensures, w1, w2)
 
 returns-4 : tie.Need-returns-4
-unfolding heightAt fitsKind readKind readFirst kind18 kind19
+unfolding heightAt fitsKind readKind readFirst
 returns-4 c =
     let w1 = word-if _ _ _ (c .before .before .before .before .is-word .ensures) false (c .before .before .before .if1 .left) in
     let w2 = word-if _ _ _ (c .before .is-word2 .ensures) false (c .if2 .left) in

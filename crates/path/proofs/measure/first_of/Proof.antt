@@ -16,17 +16,11 @@ both (suc (suc n)) x y h = omega arith
 
 returns : tie.Need-returns
 unfolding firstOf
-returns c = rw (c .if1 .taken)
+returns c = (rw (c .if1 .taken), search needs)
 
 returns-2 : tie.Need-returns-2
 unfolding firstOf
-returns-2 c = rw (c .if2 .taken) (omega arith)
-
-add-result : tie.Need-add-result
-add-result c = search needs
-
-returns-3 : tie.Need-returns-3
-returns-3 c = both _ _ _ (omega arith)
+returns-2 c = (rw (c .if2 .taken) (omega arith), omega arith)
 
 pub first-of-spec : {M : Type 1} → statement M
-first-of-spec = tie.close (tie.spec returns returns-2 add-result returns-3)
+first-of-spec = tie.close (tie.spec returns returns-2 (λ c. search needs) (λ c. (both _ _ _ (omega arith), search needs)))
