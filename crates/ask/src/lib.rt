@@ -49,7 +49,7 @@ pub fn answer_line(out: &mut [u8], at: usize, line: &[u8]) -> usize
 {
     let reading = reader::read_path(line);
     let Reading::Read { path, exact } = reading else {
-        return write_refusal(out, at, path::number::refusal_of(reading));
+        return write_refusal(out, at, path::refusal_of(reading));
     };
     let v = path::view(path);
     let rendering = write_head(out, at, v.kind, exact);

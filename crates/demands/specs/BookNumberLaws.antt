@@ -10,7 +10,7 @@ use lib.Dec.{eqb, leb}
 use lib.ListN.{length}
 use Rattle.identifiers.specs.Check.{checkOf}
 use Rattle.identifiers.specs.Check as check
-use Rattle.path.specs.declared.number.Flag.{Flag}
+use Rattle.path.specs.declared.provable.Flag.{Flag}
 use Rattle.path.specs.View.{provable, provableFlag}
 use Rattle.keys.specs.Records.{Key, get, put, del}
 use Rattle.keys.specs.Act.{Rec, Meaning, Answer, act, addTo, takeFrom, lookIn, seen}

@@ -3,6 +3,7 @@
 use mathlib.Core.Path.{sym, _∙_}
 use denote.Ref.{now}
 use Rattle.text.specs.Outcome.{One, OneWith}
+use Rattle.text.specs.OutcomeLaws.{agree}
 use Rattle.book.specs.Book.{Current}
 use Rattle.book.specs.BookLaws.{lawful}
 use Rattle.book.specs.OutcomeLaws.{one-changed, one-found, one-made}
@@ -71,67 +72,67 @@ pub one-hp-validate-channel-identifier : One hp-validate-channel-identifier.Post
 one-hp-validate-channel-identifier κs a r₁ r₂ s₁ s₂ p q = p ∙ sym q
 
 pub one-hp-client-id-new : OneWith hp-client-id-new.Post (λ κs s. now (s .1 .1 .0))
-one-hp-client-id-new κs a r₁ r₂ s₁ s₂ p q = (p .0 ∙ sym (q .0), p .1 ∙ sym (q .1))
+one-hp-client-id-new κs a r₁ r₂ s₁ s₂ p q = agree p q
 
 pub one-hp-channel-id-new : OneWith hp-channel-id-new.Post (λ κs s. now (s .1 .0))
-one-hp-channel-id-new κs a r₁ r₂ s₁ s₂ p q = (p .0 ∙ sym (q .0), p .1 ∙ sym (q .1))
+one-hp-channel-id-new κs a r₁ r₂ s₁ s₂ p q = agree p q
 
 pub one-hp-read : OneWith hp-read.Post (λ κs s. now (s .1 .0))
-one-hp-read κs a r₁ r₂ s₁ s₂ p q = (p .0 ∙ sym (q .0), p .1 ∙ sym (q .1))
+one-hp-read κs a r₁ r₂ s₁ s₂ p q = agree p q
 
 pub one-hp-key : OneWith hp-key.Post (λ κs s. now (s .1 .0))
-one-hp-key κs a r₁ r₂ s₁ s₂ p q = (p .0 ∙ sym (q .0), p .1 ∙ sym (q .1))
+one-hp-key κs a r₁ r₂ s₁ s₂ p q = agree p q
 
 pub one-hp-render : OneWith hp-render.Post (λ κs s. now (s .1 .1 .1 .1 .1 .0))
-one-hp-render κs a r₁ r₂ s₁ s₂ p q = (p .0 ∙ sym (q .0), p .1 ∙ sym (q .1))
+one-hp-render κs a r₁ r₂ s₁ s₂ p q = agree p q
 
 pub one-hp-is-provable : One hp-is-provable.Post
 one-hp-is-provable κs a r₁ r₂ s₁ s₂ p q = p ∙ sym q
 
 pub one-hp-iteration-key : OneWith hp-iteration-key.Post (λ κs s. now (s .1 .1 .0))
-one-hp-iteration-key κs a r₁ r₂ s₁ s₂ p q = (p .0 ∙ sym (q .0), p .1 ∙ sym (q .1))
+one-hp-iteration-key κs a r₁ r₂ s₁ s₂ p q = agree p q
 
 pub one-hp-client-state-prefix : OneWith hp-client-state-prefix.Post (λ κs s. now (s .0))
-one-hp-client-state-prefix κs a r₁ r₂ s₁ s₂ p q = (p .0 ∙ sym (q .0), p .1 ∙ sym (q .1))
+one-hp-client-state-prefix κs a r₁ r₂ s₁ s₂ p q = agree p q
 
 pub one-hp-client-state-leaf : OneWith hp-client-state-leaf.Post (λ κs s. now (s .0))
-one-hp-client-state-leaf κs a r₁ r₂ s₁ s₂ p q = (p .0 ∙ sym (q .0), p .1 ∙ sym (q .1))
+one-hp-client-state-leaf κs a r₁ r₂ s₁ s₂ p q = agree p q
 
 pub one-hp-consensus-state-parent : OneWith hp-consensus-state-parent.Post (λ κs s. now (s .1 .0))
-one-hp-consensus-state-parent κs a r₁ r₂ s₁ s₂ p q = (p .0 ∙ sym (q .0), p .1 ∙ sym (q .1))
+one-hp-consensus-state-parent κs a r₁ r₂ s₁ s₂ p q = agree p q
 
 pub one-hp-consensus-state-leaf : OneWith hp-consensus-state-leaf.Post (λ κs s. now (s .1 .1 .0))
-one-hp-consensus-state-leaf κs a r₁ r₂ s₁ s₂ p q = (p .0 ∙ sym (q .0), p .1 ∙ sym (q .1))
+one-hp-consensus-state-leaf κs a r₁ r₂ s₁ s₂ p q = agree p q
 
 pub one-hp-update-time-leaf : OneWith hp-update-time-leaf.Post (λ κs s. now (s .1 .1 .0))
-one-hp-update-time-leaf κs a r₁ r₂ s₁ s₂ p q = (p .0 ∙ sym (q .0), p .1 ∙ sym (q .1))
+one-hp-update-time-leaf κs a r₁ r₂ s₁ s₂ p q = agree p q
 
 pub one-hp-update-height-leaf : OneWith hp-update-height-leaf.Post (λ κs s. now (s .1 .1 .0))
-one-hp-update-height-leaf κs a r₁ r₂ s₁ s₂ p q = (p .0 ∙ sym (q .0), p .1 ∙ sym (q .1))
+one-hp-update-height-leaf κs a r₁ r₂ s₁ s₂ p q = agree p q
 
 pub one-hp-connection-prefix : OneWith hp-connection-prefix.Post (λ κs s. now (s .0))
-one-hp-connection-prefix κs a r₁ r₂ s₁ s₂ p q = (p .0 ∙ sym (q .0), p .1 ∙ sym (q .1))
+one-hp-connection-prefix κs a r₁ r₂ s₁ s₂ p q = agree p q
 
 pub one-hp-channel-end-prefix : OneWith hp-channel-end-prefix.Post (λ κs s. now (s .0))
-one-hp-channel-end-prefix κs a r₁ r₂ s₁ s₂ p q = (p .0 ∙ sym (q .0), p .1 ∙ sym (q .1))
+one-hp-channel-end-prefix κs a r₁ r₂ s₁ s₂ p q = agree p q
 
 pub one-hp-commitments-path : OneWith hp-commitments-path.Post (λ κs s. now (s .1 .1 .0))
-one-hp-commitments-path κs a r₁ r₂ s₁ s₂ p q = (p .0 ∙ sym (q .0), p .1 ∙ sym (q .1))
+one-hp-commitments-path κs a r₁ r₂ s₁ s₂ p q = agree p q
 
 pub one-hp-acks-path : OneWith hp-acks-path.Post (λ κs s. now (s .1 .1 .0))
-one-hp-acks-path κs a r₁ r₂ s₁ s₂ p q = (p .0 ∙ sym (q .0), p .1 ∙ sym (q .1))
+one-hp-acks-path κs a r₁ r₂ s₁ s₂ p q = agree p q
 
 pub one-hp-receipts-path : OneWith hp-receipts-path.Post (λ κs s. now (s .1 .1 .0))
-one-hp-receipts-path κs a r₁ r₂ s₁ s₂ p q = (p .0 ∙ sym (q .0), p .1 ∙ sym (q .1))
+one-hp-receipts-path κs a r₁ r₂ s₁ s₂ p q = agree p q
 
 pub one-hp-commitment-prefix : OneWith hp-commitment-prefix.Post (λ κs s. now (s .0))
-one-hp-commitment-prefix κs a r₁ r₂ s₁ s₂ p q = (p .0 ∙ sym (q .0), p .1 ∙ sym (q .1))
+one-hp-commitment-prefix κs a r₁ r₂ s₁ s₂ p q = agree p q
 
 pub one-hp-ack-prefix : OneWith hp-ack-prefix.Post (λ κs s. now (s .0))
-one-hp-ack-prefix κs a r₁ r₂ s₁ s₂ p q = (p .0 ∙ sym (q .0), p .1 ∙ sym (q .1))
+one-hp-ack-prefix κs a r₁ r₂ s₁ s₂ p q = agree p q
 
 pub one-hp-receipt-prefix : OneWith hp-receipt-prefix.Post (λ κs s. now (s .0))
-one-hp-receipt-prefix κs a r₁ r₂ s₁ s₂ p q = (p .0 ∙ sym (q .0), p .1 ∙ sym (q .1))
+one-hp-receipt-prefix κs a r₁ r₂ s₁ s₂ p q = agree p q
 
 pub one-hp-book-new : OneWith hp-book-new.Post (λ κs s. now (s .0))
 one-hp-book-new κs a r₁ r₂ s₁ s₂ p q = one-made lawful tt _ _ _ _ _ p q

@@ -5,7 +5,7 @@ use identifiers::client_id::write_client_id;
 use identifiers::validate;
 use path::RevisionHeight;
 use path::RevisionNumber;
-use path::number::Flag;
+use path::provable::Flag;
 use text::Written;
 ghost use mathlib.Core.Path.{_≡_};
 ghost use mathlib.Core.List.{_∷_, []};
@@ -139,7 +139,7 @@ pub extern "C" fn hp_render(
 pub extern "C" fn hp_is_provable(kind: u8) -> Flag
     ensures { λ r. ⌜ r ≡ provableFlag kind ⌝ }
 {
-    path::number::kind_is_provable(kind)
+    path::provable::kind_is_provable(kind)
 }
 
 #[no_mangle]

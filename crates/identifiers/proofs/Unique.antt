@@ -3,6 +3,7 @@
 use mathlib.Core.Path.{sym, _∙_}
 use denote.Ref.{now}
 use Rattle.text.specs.Outcome.{One, OneWith}
+use Rattle.text.specs.OutcomeLaws.{agree}
 use Rattle.identifiers.proofs.validate.validate_identifier_chars.Reads as validate-identifier-chars
 use Rattle.identifiers.proofs.validate.validate_identifier_length.Reads as validate-identifier-length
 use Rattle.identifiers.proofs.validate.validate_prefix_length.Reads as validate-prefix-length
@@ -55,7 +56,7 @@ pub one-client-id-new : One client-id-new.Post
 one-client-id-new κs a r₁ r₂ s₁ s₂ p q = p ∙ sym q
 
 pub one-write-client-id : OneWith write-client-id.Post (λ κs s. now (s .1 .1 .0))
-one-write-client-id κs a r₁ r₂ s₁ s₂ p q = (p .0 ∙ sym (q .0), p .1 ∙ sym (q .1))
+one-write-client-id κs a r₁ r₂ s₁ s₂ p q = agree p q
 
 pub one-connection-id-from-str : One connection-id-from-str.Post
 one-connection-id-from-str κs a r₁ r₂ s₁ s₂ p q = p ∙ sym q
@@ -67,7 +68,7 @@ pub one-channel-id-new : One channel-id-new.Post
 one-channel-id-new κs a r₁ r₂ s₁ s₂ p q = p ∙ sym q
 
 pub one-write-channel-id : OneWith write-channel-id.Post (λ κs s. now (s .1 .0))
-one-write-channel-id κs a r₁ r₂ s₁ s₂ p q = (p .0 ∙ sym (q .0), p .1 ∙ sym (q .1))
+one-write-channel-id κs a r₁ r₂ s₁ s₂ p q = agree p q
 
 pub one-port-id-from-str : One port-id-from-str.Post
 one-port-id-from-str κs a r₁ r₂ s₁ s₂ p q = p ∙ sym q

@@ -3,12 +3,12 @@
 use mathlib.Core.Path.{sym, _∙_}
 use Rattle.text.specs.Outcome.{One}
 use Rattle.path.proofs.view.Reads as view
-use Rattle.path.proofs.is_provable.Reads as is-provable
+use Rattle.path.proofs.provable.is_provable.Reads as is-provable
 use Rattle.path.proofs.refusal_number.Reads as refusal-number
 use Rattle.path.proofs.measure.render_length.Reads as render-length
 use Rattle.path.proofs.name.name_fault.Reads as name-fault
-use Rattle.path.proofs.number.refusal_of.Reads as refusal-of
-use Rattle.path.proofs.number.kind_is_provable.Reads as kind-is-provable
+use Rattle.path.proofs.refusal_of.Reads as refusal-of
+use Rattle.path.proofs.provable.kind_is_provable.Reads as kind-is-provable
 
 pub one-view : One view.Post
 one-view κs a r₁ r₂ s₁ s₂ p q = p ∙ sym q

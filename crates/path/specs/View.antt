@@ -8,7 +8,7 @@ use lib.Dec.{eqb, leb}
 use denote.Ref.{RefT, now}
 use Rattle.text.specs.Refusal.{badKind}
 use Rattle.path.specs.declared.Place.{Place}
-use Rattle.path.specs.declared.number.Flag.{Flag}
+use Rattle.path.specs.declared.provable.Flag.{Flag}
 use Rattle.path.specs.declared.Path.{Path}
 use Rattle.path.specs.declared.PathView.{PathView}
 use Rattle.path.specs.declared.Path.the-variants.{NextClientSequence, NextConnectionSequence, NextChannelSequence, ClientState, ClientConsensusState, ClientUpdateTime, ClientUpdateHeight, ClientConnection, Connection, Ports, ChannelEnd, SeqSend, SeqRecv, SeqAck, Commitment, Ack, Receipt, UpgradeClientState, UpgradeConsensusState}

@@ -2,14 +2,14 @@
 mod carried;
 pub mod measure;
 pub mod name;
-pub mod number;
+pub mod provable;
 
 use text::refusal::NOT_A_PATH;
 use text::refusal::NOT_ASCII;
 use text::refusal::TOO_LONG;
 ghost use mathlib.Core.Path.{_≡_};
-ghost use Rattle.path.specs.Read.{refusalOf};
-ghost use Rattle.path.specs.View.{kindOf, viewOf, provable};
+ghost use Rattle.path.specs.Read.{refusalOf, numberOf};
+ghost use Rattle.path.specs.View.{viewOf};
 
 // A part of the caller's text: where it starts, and its length.
 pub struct Place {
@@ -142,18 +142,6 @@ pub fn view(p: Path) -> PathView
     }
 }
 
-// Whether the path is provable: all kinds but 8 and 10 are.
-pub fn is_provable(p: Path) -> bool
-    ensures { λ r. ⌜ r ≡ provable (kindOf p) ⌝ }
-{
-    let v = view(p);
-    let kind = v.kind;
-    if kind == 8 {
-        return false;
-    }
-    kind != 10
-}
-
 // The number of a refusal.
 pub fn refusal_number(why: Refusal) -> u8
     ensures { λ r. ⌜ r ≡ refusalOf why ⌝ }
@@ -163,4 +151,14 @@ pub fn refusal_number(why: Refusal) -> u8
         Refusal::NotAscii => NOT_ASCII,
         Refusal::NotAPath => NOT_A_PATH,
     }
+}
+
+// The refusal number of a reading, 0 where the text was read.
+pub fn refusal_of(reading: Reading) -> u8
+    ensures { λ r. ⌜ r ≡ numberOf reading ⌝ }
+{
+    let Reading::Refused(why) = reading else {
+        return 0;
+    };
+    refusal_number(why)
 }

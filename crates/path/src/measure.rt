@@ -7,8 +7,30 @@ ghost use Rattle.path.specs.Read.{partsOf};
 ghost use Rattle.path.specs.Length.{renderLength, fixed, nameCount, numberCount, firstOf};
 
 // What each kind has, kind 1 first: the bytes of its words, slashes and dashes, then how many identifiers, then how many numbers.
-const FIXED: [u8; 19] = [18, 22, 19, 20, 26, 40, 42, 20, 12, 6, 28, 33, 33, 32, 39, 32, 36, 16, 19];
+const FIXED: [u8; 19] = [
+    18,
+    22,
+    19,
+    20,
+    26,
+    40,
+    42,
+    20,
+    12,
+    6,
+    28,
+    33,
+    33,
+    32,
+    39,
+    32,
+    36,
+    16,
+    19,
+];
+
 const NAMES: [u8; 19] = [0, 0, 0, 1, 1, 1, 1, 1, 1, 1, 2, 2, 2, 2, 2, 2, 2, 1, 1];
+
 const NUMBERS: [u8; 19] = [0, 0, 0, 0, 2, 2, 2, 0, 0, 0, 0, 0, 0, 0, 1, 1, 1, 1, 1];
 
 fn fixed_bytes(kind: u8) -> u8

@@ -6,6 +6,7 @@ use mathlib.Core.Path.{_≡_, sym, _∙_}
 use mathlib.Core.List.{List}
 use denote.Ref.{RefT, now}
 use Rattle.text.specs.Outcome.{One, OneWith}
+use Rattle.text.specs.OutcomeLaws.{agree}
 use Rattle.path.specs.declared.Place.{Place}
 use Rattle.path.specs.View.{Shows}
 use Rattle.reader.proofs.part.Reads as part
@@ -18,7 +19,7 @@ pub one-read-path : One read-path.Post
 one-read-path κs a r₁ r₂ s₁ s₂ p q = p ∙ sym q
 
 pub one-write-reading : OneWith write-reading.Post (λ κs s. now (s .1 .0))
-one-write-reading κs a r₁ r₂ s₁ s₂ p q = (p .0 ∙ sym (q .0), p .1 ∙ sym (q .1))
+one-write-reading κs a r₁ r₂ s₁ s₂ p q = agree p q
 
 -- two parts that show one place are the same part
 abbrev pub SamePart : RefT (List ℕ) → RefT (List ℕ) → Type 0

@@ -1,8 +1,8 @@
 -- The contract of each public function, as the source has it, leaves one outcome: the result, and the content of the buffer that is lent.
 -- Assumes nothing.
-use mathlib.Core.Path.{sym, _∙_}
 use denote.Ref.{now}
 use Rattle.text.specs.Outcome.{OneWith}
+use Rattle.text.specs.OutcomeLaws.{agree}
 use Rattle.render.proofs.render.Reads as render
 use Rattle.render.proofs.key.write_rendering.Reads as write-rendering
 use Rattle.render.proofs.key.write_key.Reads as write-key
@@ -23,55 +23,55 @@ use Rattle.render.proofs.texts.ack_prefix.Reads as ack-prefix
 use Rattle.render.proofs.texts.receipt_prefix.Reads as receipt-prefix
 
 pub one-render : OneWith render.Post (λ κs s. now (s .1 .1 .1 .1 .1 .0))
-one-render κs a r₁ r₂ s₁ s₂ p q = (p .0 ∙ sym (q .0), p .1 ∙ sym (q .1))
+one-render κs a r₁ r₂ s₁ s₂ p q = agree p q
 
 pub one-write-rendering : OneWith write-rendering.Post (λ κs s. now (s .0))
-one-write-rendering κs a r₁ r₂ s₁ s₂ p q = (p .0 ∙ sym (q .0), p .1 ∙ sym (q .1))
+one-write-rendering κs a r₁ r₂ s₁ s₂ p q = agree p q
 
 pub one-write-key : OneWith write-key.Post (λ κs s. now (s .1 .0))
-one-write-key κs a r₁ r₂ s₁ s₂ p q = (p .0 ∙ sym (q .0), p .1 ∙ sym (q .1))
+one-write-key κs a r₁ r₂ s₁ s₂ p q = agree p q
 
 pub one-iteration-key : OneWith iteration-key.Post (λ κs s. now (s .1 .1 .0))
-one-iteration-key κs a r₁ r₂ s₁ s₂ p q = (p .0 ∙ sym (q .0), p .1 ∙ sym (q .1))
+one-iteration-key κs a r₁ r₂ s₁ s₂ p q = agree p q
 
 pub one-client-state-prefix : OneWith client-state-prefix.Post (λ κs s. now (s .0))
-one-client-state-prefix κs a r₁ r₂ s₁ s₂ p q = (p .0 ∙ sym (q .0), p .1 ∙ sym (q .1))
+one-client-state-prefix κs a r₁ r₂ s₁ s₂ p q = agree p q
 
 pub one-client-state-leaf : OneWith client-state-leaf.Post (λ κs s. now (s .0))
-one-client-state-leaf κs a r₁ r₂ s₁ s₂ p q = (p .0 ∙ sym (q .0), p .1 ∙ sym (q .1))
+one-client-state-leaf κs a r₁ r₂ s₁ s₂ p q = agree p q
 
 pub one-consensus-state-parent : OneWith consensus-state-parent.Post (λ κs s. now (s .1 .0))
-one-consensus-state-parent κs a r₁ r₂ s₁ s₂ p q = (p .0 ∙ sym (q .0), p .1 ∙ sym (q .1))
+one-consensus-state-parent κs a r₁ r₂ s₁ s₂ p q = agree p q
 
 pub one-consensus-state-leaf : OneWith consensus-state-leaf.Post (λ κs s. now (s .1 .1 .0))
-one-consensus-state-leaf κs a r₁ r₂ s₁ s₂ p q = (p .0 ∙ sym (q .0), p .1 ∙ sym (q .1))
+one-consensus-state-leaf κs a r₁ r₂ s₁ s₂ p q = agree p q
 
 pub one-update-time-leaf : OneWith update-time-leaf.Post (λ κs s. now (s .1 .1 .0))
-one-update-time-leaf κs a r₁ r₂ s₁ s₂ p q = (p .0 ∙ sym (q .0), p .1 ∙ sym (q .1))
+one-update-time-leaf κs a r₁ r₂ s₁ s₂ p q = agree p q
 
 pub one-update-height-leaf : OneWith update-height-leaf.Post (λ κs s. now (s .1 .1 .0))
-one-update-height-leaf κs a r₁ r₂ s₁ s₂ p q = (p .0 ∙ sym (q .0), p .1 ∙ sym (q .1))
+one-update-height-leaf κs a r₁ r₂ s₁ s₂ p q = agree p q
 
 pub one-connection-prefix : OneWith connection-prefix.Post (λ κs s. now (s .0))
-one-connection-prefix κs a r₁ r₂ s₁ s₂ p q = (p .0 ∙ sym (q .0), p .1 ∙ sym (q .1))
+one-connection-prefix κs a r₁ r₂ s₁ s₂ p q = agree p q
 
 pub one-channel-end-prefix : OneWith channel-end-prefix.Post (λ κs s. now (s .0))
-one-channel-end-prefix κs a r₁ r₂ s₁ s₂ p q = (p .0 ∙ sym (q .0), p .1 ∙ sym (q .1))
+one-channel-end-prefix κs a r₁ r₂ s₁ s₂ p q = agree p q
 
 pub one-commitments-path : OneWith commitments-path.Post (λ κs s. now (s .1 .1 .0))
-one-commitments-path κs a r₁ r₂ s₁ s₂ p q = (p .0 ∙ sym (q .0), p .1 ∙ sym (q .1))
+one-commitments-path κs a r₁ r₂ s₁ s₂ p q = agree p q
 
 pub one-acks-path : OneWith acks-path.Post (λ κs s. now (s .1 .1 .0))
-one-acks-path κs a r₁ r₂ s₁ s₂ p q = (p .0 ∙ sym (q .0), p .1 ∙ sym (q .1))
+one-acks-path κs a r₁ r₂ s₁ s₂ p q = agree p q
 
 pub one-receipts-path : OneWith receipts-path.Post (λ κs s. now (s .1 .1 .0))
-one-receipts-path κs a r₁ r₂ s₁ s₂ p q = (p .0 ∙ sym (q .0), p .1 ∙ sym (q .1))
+one-receipts-path κs a r₁ r₂ s₁ s₂ p q = agree p q
 
 pub one-commitment-prefix : OneWith commitment-prefix.Post (λ κs s. now (s .0))
-one-commitment-prefix κs a r₁ r₂ s₁ s₂ p q = (p .0 ∙ sym (q .0), p .1 ∙ sym (q .1))
+one-commitment-prefix κs a r₁ r₂ s₁ s₂ p q = agree p q
 
 pub one-ack-prefix : OneWith ack-prefix.Post (λ κs s. now (s .0))
-one-ack-prefix κs a r₁ r₂ s₁ s₂ p q = (p .0 ∙ sym (q .0), p .1 ∙ sym (q .1))
+one-ack-prefix κs a r₁ r₂ s₁ s₂ p q = agree p q
 
 pub one-receipt-prefix : OneWith receipt-prefix.Post (λ κs s. now (s .0))
-one-receipt-prefix κs a r₁ r₂ s₁ s₂ p q = (p .0 ∙ sym (q .0), p .1 ∙ sym (q .1))
+one-receipt-prefix κs a r₁ r₂ s₁ s₂ p q = agree p q

@@ -39,10 +39,17 @@ pub fn write_key(text: &[u8], out: &mut [u8]) -> Written
     let reading = reader::read_path(text);
     let Reading::Read { path, exact: _ } = reading else {
         return Written {
-            refusal: path::number::refusal_of(reading),
+            refusal: path::refusal_of(reading),
             length: 0,
         };
     };
     let v = path::view(path);
-    fit_kind(out, v.kind, part(text, v.first), part(text, v.second), v.a, v.b)
+    fit_kind(
+        out,
+        v.kind,
+        part(text, v.first),
+        part(text, v.second),
+        v.a,
+        v.b,
+    )
 }

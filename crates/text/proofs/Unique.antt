@@ -3,6 +3,7 @@
 use mathlib.Core.Path.{sym, _∙_}
 use denote.Ref.{now}
 use Rattle.text.specs.Outcome.{One, OneWith}
+use Rattle.text.specs.OutcomeLaws.{agree}
 use Rattle.text.proofs.read_number.Reads as read-number
 use Rattle.text.proofs.number_width.Reads as number-width
 use Rattle.text.proofs.write_number.Reads as write-number
@@ -23,10 +24,10 @@ pub one-number-width : One number-width.Post
 one-number-width κs a r₁ r₂ s₁ s₂ p q = p ∙ sym q
 
 pub one-write-number : OneWith write-number.Post (λ κs s. now (s .0))
-one-write-number κs a r₁ r₂ s₁ s₂ p q = (p .0 ∙ sym (q .0), p .1 ∙ sym (q .1))
+one-write-number κs a r₁ r₂ s₁ s₂ p q = agree p q
 
 pub one-write-big-endian : OneWith write-big-endian.Post (λ κs s. now (s .0))
-one-write-big-endian κs a r₁ r₂ s₁ s₂ p q = (p .0 ∙ sym (q .0), p .1 ∙ sym (q .1))
+one-write-big-endian κs a r₁ r₂ s₁ s₂ p q = agree p q
 
 pub one-larger : One larger.Post
 one-larger κs a r₁ r₂ s₁ s₂ p q = p ∙ sym q
@@ -44,10 +45,10 @@ pub one-equal : One equal.Post
 one-equal κs a r₁ r₂ s₁ s₂ p q = p ∙ sym q
 
 pub one-write-byte : OneWith write-byte.Post (λ κs s. now (s .0))
-one-write-byte κs a r₁ r₂ s₁ s₂ p q = (p .0 ∙ sym (q .0), p .1 ∙ sym (q .1))
+one-write-byte κs a r₁ r₂ s₁ s₂ p q = agree p q
 
 pub one-write-text : OneWith write-text.Post (λ κs s. now (s .0))
-one-write-text κs a r₁ r₂ s₁ s₂ p q = (p .0 ∙ sym (q .0), p .1 ∙ sym (q .1))
+one-write-text κs a r₁ r₂ s₁ s₂ p q = agree p q
 
 pub one-give : OneWith give.Post (λ κs s. now (s .0))
-one-give κs a r₁ r₂ s₁ s₂ p q = (p .0 ∙ sym (q .0), p .1 ∙ sym (q .1))
+one-give κs a r₁ r₂ s₁ s₂ p q = agree p q

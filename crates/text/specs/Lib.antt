@@ -5,6 +5,7 @@ pub mod NumberLaws
 pub mod Order
 pub mod OrderLaws
 pub mod Outcome
+pub mod OutcomeLaws
 pub mod Part
 pub mod PartLaws
 pub mod PlaceLaws

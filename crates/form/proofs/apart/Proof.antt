@@ -18,18 +18,6 @@ abbrev μ-loop : tie.MeasureT-loop
 loop-holds : tie.Need-loop-holds Inv-loop μ-loop
 loop-holds c = (omega arith, λ j h. absurd (let z : ⊥ = omega arith in z))
 
-add-low-eight : tie.Need-add-low-eight Inv-loop μ-loop
-add-low-eight c = search needs
-
-low-eight-requires : tie.Need-low-eight-requires Inv-loop μ-loop
-low-eight-requires c κs = search needs
-
-add-low-eight-2 : tie.Need-add-low-eight-2 Inv-loop μ-loop
-add-low-eight-2 c = search needs
-
-low-eight-requires-2 : tie.Need-low-eight-requires-2 Inv-loop μ-loop
-low-eight-requires-2 c κs = search needs
-
 returns : tie.Need-returns Inv-loop μ-loop
 returns c =
     let l = c .before .before .before .before .loop in
@@ -40,12 +28,6 @@ returns c =
       alike = l .inv .1;
       last = λ same. absurd (c .if1 .taken (c .before .before .low-eight .ensures ∙ e (a .a + l .i) ∙ low-same (a .s .now) (a .a + l .i) (a .b + l .i) same ∙ sym (e (a .b + l .i)) ∙ sym (c .before .low-eight2 .ensures)));
     }
-
-add-i : tie.Need-add-i Inv-loop μ-loop
-add-i c = search needs
-
-loop-less : tie.Need-loop-less Inv-loop μ-loop
-loop-less c = search needs
 
 loop-again : tie.Need-loop-again Inv-loop μ-loop
 loop-again c =
@@ -65,12 +47,12 @@ apart-spec =
     Inv-loop
     μ-loop
     loop-holds
-    add-low-eight
-    low-eight-requires
-    add-low-eight-2
-    low-eight-requires-2
+    (λ c. search needs)
+    (λ c κs. search needs)
+    (λ c. search needs)
+    (λ c κs. search needs)
     returns
-    add-i
-    loop-less
+    (λ c. search needs)
+    (λ c. search needs)
     loop-again
     returns-2)

@@ -12,58 +12,10 @@ use borrow.Author.Needs.{needs}
 use Rattle.form.proofs.compare_next.Statement.{statement}
 use Rattle.form.proofs.compare_next.Tie as tie
 
-key-at-requires : tie.Need-key-at-requires
-key-at-requires c κs = search needs
-
-add-wide : tie.Need-add-wide
-add-wide c = search needs
-
-shared-slice-read-wide : tie.Need-shared-slice-read-wide
-shared-slice-read-wide c = search needs
-
-wide-requires : tie.Need-wide-requires
-wide-requires c κs = search needs
-
-least-requires : tie.Need-least-requires
-least-requires c κs = search needs
-
-add-compare-key : tie.Need-add-compare-key
-add-compare-key c = search needs
-
-compare-key-requires : tie.Need-compare-key-requires
-compare-key-requires c κs = search needs
-
 returns : tie.Need-returns
 returns c =
     let a = c .before .before .before .before .before .before .before .args in
     c .compare-key .ensures ∙ ap (λ (l : List ℕ). code (cmp l (stored (a .book .now) (a .at + 288)))) (c .before .before .before .before .before .key-at .ensures)
-
-add-apart : tie.Need-add-apart
-add-apart c = search needs
-
-add-apart-2 : tie.Need-add-apart-2
-add-apart-2 c = search needs
-
-apart-requires : tie.Need-apart-requires
-apart-requires c κs = search needs
-
-add-high-eight : tie.Need-add-high-eight
-add-high-eight c = search needs
-
-add-high-eight-2 : tie.Need-add-high-eight-2
-add-high-eight-2 c = search needs
-
-high-eight-requires : tie.Need-high-eight-requires
-high-eight-requires c κs = search needs
-
-add-high-eight-3 : tie.Need-add-high-eight-3
-add-high-eight-3 c = search needs
-
-add-high-eight-4 : tie.Need-add-high-eight-4
-add-high-eight-4 c = search needs
-
-high-eight-requires-2 : tie.Need-high-eight-requires-2
-high-eight-requires-2 c κs = search needs
 
 returns-2 : tie.Need-returns-2
 returns-2 c =
@@ -89,9 +41,6 @@ returns-3 c =
     let y = c .before .before .high-eight2 .ensures ∙ high-sum s (a .at + 289 + i .result) in
     next-gt s _ (a .at) (n .result) (i .result) (omega arith) (λ j. omega (arith, g j)) (k .ensures) (n .ensures .0) (omega (arith, c .before .before .before .before .before .before .before .wide .ensures, n .ensures)) (omega (arith, i .ensures .within)) (i .ensures .alike) (rw (← x, ← y) (c .if3 .taken))
 
-add-compare-from : tie.Need-add-compare-from
-add-compare-from c = search needs
-
 compare-from-requires : tie.Need-compare-from-requires
 compare-from-requires c κs =
     let a = c .before .before .before .before .before .before .before .before .before .before .before .args in
@@ -113,25 +62,25 @@ pub compare-next-spec : {M : Type 1} → statement M
 compare-next-spec =
     tie.close
     (tie.spec
-    key-at-requires
-    add-wide
-    shared-slice-read-wide
-    wide-requires
-    least-requires
-    add-compare-key
-    compare-key-requires
+    (λ c κs. search needs)
+    (λ c. search needs)
+    (λ c. search needs)
+    (λ c κs. search needs)
+    (λ c κs. search needs)
+    (λ c. search needs)
+    (λ c κs. search needs)
     returns
-    add-apart
-    add-apart-2
-    apart-requires
-    add-high-eight
-    add-high-eight-2
-    high-eight-requires
-    add-high-eight-3
-    add-high-eight-4
-    high-eight-requires-2
+    (λ c. search needs)
+    (λ c. search needs)
+    (λ c κs. search needs)
+    (λ c. search needs)
+    (λ c. search needs)
+    (λ c κs. search needs)
+    (λ c. search needs)
+    (λ c. search needs)
+    (λ c κs. search needs)
     returns-2
     returns-3
-    add-compare-from
+    (λ c. search needs)
     compare-from-requires
     returns-4)

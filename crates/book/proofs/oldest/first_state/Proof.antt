@@ -49,9 +49,6 @@ enum-known-number c = search needs
 returns : tie.Need-returns Inv-loop μ-loop
 returns c = first-here V1 v1-lawful _ _ (c .before .before .before .before .before .before .before .before .before .pre) _ (c .before .before .before .before .before .before .loop .i) (c .before .before .before .before .before .before .loop .inv .1) (omega arith) _ (c .before .before .before .before .key-at .ensures) _ (c .before .before .before .state-in .ensures) _ _ (c .before .number .given .1)
 
-enum-told : tie.Need-enum-told Inv-loop μ-loop
-enum-told c = search needs
-
 -- src/oldest.rt:52:9
 add-i : tie.Need-add-i Inv-loop μ-loop
 add-i c = search needs
@@ -81,7 +78,7 @@ first-state-spec =
     state-in-requires
     enum-known-number
     returns
-    enum-told
+    (λ c. search needs)
     add-i
     loop-less
     loop-again

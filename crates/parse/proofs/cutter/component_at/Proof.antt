@@ -6,17 +6,8 @@ use Rattle.parse.specs.CutLaws.{place-ends, place-shows}
 use Rattle.parse.proofs.cutter.component_at.Statement.{statement}
 use Rattle.parse.proofs.cutter.component_at.Tie as tie
 
-place-at-requires : tie.Need-place-at-requires
-place-at-requires c κs = search needs
-
 add-end : tie.Need-add-end
 add-end c = omega (arith, place-ends _ _ _ (c .before .place-at .ensures))
-
-sub-result : tie.Need-sub-result
-sub-result c = search needs
-
-part-result-start : tie.Need-part-result-start
-part-result-start c = search needs
 
 part-result-end : tie.Need-part-result-end
 part-result-end c = omega (arith, place-ends _ _ _ (c .before .place-at .ensures))
@@ -27,4 +18,4 @@ returns c = place-shows _ _ _ (c .before .before .place-at .ensures)
 pub component-at-spec : {M : Type 1} → statement M
 component-at-spec =
     tie.close
-    (tie.spec place-at-requires add-end sub-result part-result-start part-result-end returns)
+    (tie.spec (λ c κs. search needs) add-end (λ c. search needs) (λ c. search needs) part-result-end returns)

@@ -6,24 +6,6 @@ use borrow.Author.Needs.{needs}
 use Rattle.parse.proofs.cutter.place_at.Statement.{statement}
 use Rattle.parse.proofs.cutter.place_at.Tie as tie
 
-mul-start : tie.Need-mul-start
-mul-start c = search needs
-
-array-read-start : tie.Need-array-read-start
-array-read-start c = search needs
-
-add-if1 : tie.Need-add-if1
-add-if1 c = search needs
-
-add-next : tie.Need-add-next
-add-next c = search needs
-
-mul-next : tie.Need-mul-next
-mul-next c = search needs
-
-array-read-next : tie.Need-array-read-next
-array-read-next c = search needs
-
 sub-t14 : tie.Need-sub-t14
 sub-t14 c =
     let s = c .before .before in
@@ -68,12 +50,12 @@ pub place-at-spec : {M : Type 1} → statement M
 place-at-spec =
     tie.close
     (tie.spec
-    mul-start
-    array-read-start
-    add-if1
-    add-next
-    mul-next
-    array-read-next
+    (λ c. search needs)
+    (λ c. search needs)
+    (λ c. search needs)
+    (λ c. search needs)
+    (λ c. search needs)
+    (λ c. search needs)
     sub-t14
     sub-t18
     sub-t20

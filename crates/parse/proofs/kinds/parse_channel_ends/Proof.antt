@@ -12,24 +12,9 @@ use borrow.Author.Needs.{needs}
 use Rattle.parse.proofs.kinds.parse_channel_ends.Statement.{statement}
 use Rattle.parse.proofs.kinds.parse_channel_ends.Tie as tie
 
-read-ends-requires : tie.Need-read-ends-requires
-read-ends-requires c κs = search needs
-
-enum-known-places : tie.Need-enum-known-places
-enum-known-places c = search needs
-
-enum-told : tie.Need-enum-told
-enum-told c = search needs
-
 returns : tie.Need-returns
 unfolding endsIn fitsKind readKind readFirst
 returns c = simp (no-run endsAnswers 1 endsParts _ _ (sym (c .enum-told .given .1) ∙ c .before .before .read-ends .ensures), and-false)
-
-slice-aggregate-is-word : tie.Need-slice-aggregate-is-word
-slice-aggregate-is-word c = search needs
-
-is-word-requires : tie.Need-is-word-requires
-is-word-requires c κs = search needs
 
 returns-2 : tie.Need-returns-2
 unfolding endsIn fitsKind readKind readFirst
@@ -39,12 +24,6 @@ returns-2 c =
     let r = is-run endsAnswers 1 endsParts _ _ _ (sym (c .before .before .before .before .places .given .1) ∙ c .before .before .before .before .before .before .read-ends .ensures) in
     let w1 = word-if _ _ _ (c .before .is-word .ensures) true (c .if1 .taken) in
     simp (n, r .0, r .1, w1)
-
-slice-aggregate-is-word-2 : tie.Need-slice-aggregate-is-word-2
-slice-aggregate-is-word-2 c = search needs
-
-is-word-requires-2 : tie.Need-is-word-requires-2
-is-word-requires-2 c κs = search needs
 
 returns-3 : tie.Need-returns-3
 unfolding endsIn fitsKind readKind readFirst
@@ -56,12 +35,6 @@ returns-3 c =
     let w2 = word-if _ _ _ (c .before .is-word2 .ensures) true (c .if2 .taken) in
     simp (n, r .0, r .1, w1, w2)
 
-slice-aggregate-is-word-3 : tie.Need-slice-aggregate-is-word-3
-slice-aggregate-is-word-3 c = search needs
-
-is-word-requires-3 : tie.Need-is-word-requires-3
-is-word-requires-3 c κs = search needs
-
 returns-4 : tie.Need-returns-4
 unfolding endsIn fitsKind readKind readFirst
 returns-4 c =
@@ -72,12 +45,6 @@ returns-4 c =
     let w2 = word-if _ _ _ (c .before .before .before .before .is-word2 .ensures) false (c .before .before .before .if2 .left) in
     let w3 = word-if _ _ _ (c .before .is-word3 .ensures) true (c .if3 .taken) in
     simp (n, r .0, r .1, w1, w2, w3)
-
-slice-aggregate-is-word-4 : tie.Need-slice-aggregate-is-word-4
-slice-aggregate-is-word-4 c = search needs
-
-is-word-requires-4 : tie.Need-is-word-requires-4
-is-word-requires-4 c κs = search needs
 
 returns-5 : tie.Need-returns-5
 unfolding endsIn fitsKind readKind readFirst
@@ -104,20 +71,20 @@ pub parse-channel-ends-spec : {M : Type 1} → statement M
 parse-channel-ends-spec =
     tie.close
     (tie.spec
-    read-ends-requires
-    enum-known-places
-    enum-told
+    (λ c κs. search needs)
+    (λ c. search needs)
+    (λ c. search needs)
     returns
-    slice-aggregate-is-word
-    is-word-requires
+    (λ c. search needs)
+    (λ c κs. search needs)
     returns-2
-    slice-aggregate-is-word-2
-    is-word-requires-2
+    (λ c. search needs)
+    (λ c κs. search needs)
     returns-3
-    slice-aggregate-is-word-3
-    is-word-requires-3
+    (λ c. search needs)
+    (λ c κs. search needs)
     returns-4
-    slice-aggregate-is-word-4
-    is-word-requires-4
+    (λ c. search needs)
+    (λ c κs. search needs)
     returns-5
     returns-6)

@@ -14,24 +14,9 @@ use borrow.Author.Needs.{needs}
 use Rattle.parse.proofs.kinds.parse_clients.Statement.{statement}
 use Rattle.parse.proofs.kinds.parse_clients.Tie as tie
 
-read-client-requires : tie.Need-read-client-requires
-read-client-requires c κs = search needs
-
-enum-known-client : tie.Need-enum-known-client
-enum-known-client c = search needs
-
-enum-told : tie.Need-enum-told
-enum-told c = search needs
-
 returns : tie.Need-returns
 unfolding placeAfter fitsKind readKind readFirst
 returns c = simp (no-run placeAnswers 0 (placeParts (bytes "clients") client) _ _ (sym (c .enum-told .given .1) ∙ c .before .before .read-client .ensures), and-false)
-
-slice-aggregate-is-word : tie.Need-slice-aggregate-is-word
-slice-aggregate-is-word c = search needs
-
-is-word-requires : tie.Need-is-word-requires
-is-word-requires c κs = search needs
 
 returns-2 : tie.Need-returns-2
 unfolding placeAfter fitsKind readKind readFirst
@@ -41,12 +26,6 @@ returns-2 c =
     let r = is-run placeAnswers 0 (placeParts (bytes "clients") client) _ _ _ (sym (c .before .before .before .before .client .given .1) ∙ c .before .before .before .before .before .before .read-client .ensures) in
     let w1 = word-if _ _ _ (c .before .is-word .ensures) true (c .if1 .taken) in
     simp (n, r .0, r .1, w1)
-
-slice-aggregate-is-word-2 : tie.Need-slice-aggregate-is-word-2
-slice-aggregate-is-word-2 c = search needs
-
-is-word-requires-2 : tie.Need-is-word-requires-2
-is-word-requires-2 c κs = search needs
 
 returns-3 : tie.Need-returns-3
 unfolding placeAfter fitsKind readKind readFirst
@@ -69,14 +48,14 @@ pub parse-clients-spec : {M : Type 1} → statement M
 parse-clients-spec =
     tie.close
     (tie.spec
-    read-client-requires
-    enum-known-client
-    enum-told
+    (λ c κs. search needs)
+    (λ c. search needs)
+    (λ c. search needs)
     returns
-    slice-aggregate-is-word
-    is-word-requires
+    (λ c. search needs)
+    (λ c κs. search needs)
     returns-2
-    slice-aggregate-is-word-2
-    is-word-requires-2
+    (λ c. search needs)
+    (λ c κs. search needs)
     returns-3
     returns-4)

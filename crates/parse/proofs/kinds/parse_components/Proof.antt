@@ -12,23 +12,11 @@ use borrow.Author.Needs.{needs}
 use Rattle.parse.proofs.kinds.parse_components.Statement.{statement}
 use Rattle.parse.proofs.kinds.parse_components.Tie as tie
 
-parse-next-sequence-requires : tie.Need-parse-next-sequence-requires
-parse-next-sequence-requires c κs = search needs
-
 returns : tie.Need-returns
 returns c =
     let s = c .before .before .before in
     let n = cut-components (s .args .text .now) (s .args .cut) 1 (s .pre) (c .before .if1 .taken) (lit< tt) in
     read-all _ 1 n _ _ (groups .0) (c .parse-next-sequence .ensures)
-
-slice-aggregate-is-word : tie.Need-slice-aggregate-is-word
-slice-aggregate-is-word c = search needs
-
-is-word-requires : tie.Need-is-word-requires
-is-word-requires c κs = search needs
-
-parse-connections-requires : tie.Need-parse-connections-requires
-parse-connections-requires c κs = search needs
 
 returns-2 : tie.Need-returns-2
 returns-2 c =
@@ -36,32 +24,17 @@ returns-2 c =
     let n = cut-components (s .args .text .now) (s .args .cut) 2 (s .pre) (c .before .before .before .before .if2 .taken) (lit< tt) in
     read-only _ 2 n (kind9 ∷ []) (kind10 ∷ []) (groups .1) _ (c .parse-connections .ensures) (no-port _ (sym (c .before .before .is-word .ensures) ∙ c .before .if3 .taken))
 
-parse-ports-requires : tie.Need-parse-ports-requires
-parse-ports-requires c κs = search needs
-
 returns-3 : tie.Need-returns-3
 returns-3 c =
     let s = c .before .before .before .before .before .before .before in
     let n = cut-components (s .args .text .now) (s .args .cut) 2 (s .pre) (c .before .before .before .before .if2 .taken) (lit< tt) in
     read-second _ 2 n (kind9 ∷ []) (kind10 ∷ []) (groups .1) _ (no-connection _ (sym (c .before .before .is-word .ensures) ∙ c .before .if3 .left)) (c .parse-ports .ensures)
 
-parse-clients-requires : tie.Need-parse-clients-requires
-parse-clients-requires c κs = search needs
-
-enum-told : tie.Need-enum-told
-enum-told c = search needs
-
 returns-4 : tie.Need-returns-4
 returns-4 c =
     let s = c .before .before .before .before .before .before .before in
     let n = cut-components (s .args .text .now) (s .args .cut) 3 (s .pre) (c .before .before .before .if4 .taken) (lit< tt) in
     read-first _ 3 n (kind4 ∷ kind8 ∷ []) (kind18 ∷ kind19 ∷ []) (groups .2) _ _ (c .enum-told .given .1) (c .before .before .parse-clients .ensures)
-
-enum-told-2 : tie.Need-enum-told-2
-enum-told-2 c = search needs
-
-all-ascii-requires : tie.Need-all-ascii-requires
-all-ascii-requires c κs = search needs
 
 returns-5 : tie.Need-returns-5
 returns-5 c =
@@ -79,23 +52,11 @@ returns-6 c =
     let n = cut-components (s .args .text .now) (s .args .cut) 3 (s .pre) (c .before .before .before .before .before .before .if4 .taken) (lit< tt) in
     read-second _ 3 n (kind4 ∷ kind8 ∷ []) (kind18 ∷ kind19 ∷ []) (groups .2) _ (sym (c .before .before .before .enum-told2 .given .1) ∙ c .before .before .before .before .before .parse-clients .ensures) (c .parse-upgrades .ensures)
 
-parse-consensus-states-requires : tie.Need-parse-consensus-states-requires
-parse-consensus-states-requires c κs = search needs
-
 returns-7 : tie.Need-returns-7
 returns-7 c =
     let s = c .before .before .before .before .before .before in
     let n = cut-components (s .args .text .now) (s .args .cut) 4 (s .pre) (c .before .if6 .taken) (lit< tt) in
     read-all _ 4 n _ _ (groups .3) (c .parse-consensus-states .ensures)
-
-slice-aggregate-is-word-2 : tie.Need-slice-aggregate-is-word-2
-slice-aggregate-is-word-2 c = search needs
-
-is-word-requires-2 : tie.Need-is-word-requires-2
-is-word-requires-2 c κs = search needs
-
-parse-updates-requires : tie.Need-parse-updates-requires
-parse-updates-requires c κs = search needs
 
 returns-8 : tie.Need-returns-8
 returns-8 c =
@@ -103,17 +64,11 @@ returns-8 c =
     let n = cut-components (s .args .text .now) (s .args .cut) 5 (s .pre) (c .before .before .before .before .if7 .taken) (lit< tt) in
     read-only _ 5 n (kind6 ∷ kind7 ∷ []) (kind11 ∷ kind12 ∷ kind13 ∷ kind14 ∷ []) (groups .4) _ (c .parse-updates .ensures) (no-ends _ (sym (c .before .before .is-word2 .ensures) ∙ c .before .if8 .taken))
 
-parse-channel-ends-requires : tie.Need-parse-channel-ends-requires
-parse-channel-ends-requires c κs = search needs
-
 returns-9 : tie.Need-returns-9
 returns-9 c =
     let s = c .before .before .before .before .before .before .before .before .before .before in
     let n = cut-components (s .args .text .now) (s .args .cut) 5 (s .pre) (c .before .before .before .before .if7 .taken) (lit< tt) in
     read-second _ 5 n (kind6 ∷ kind7 ∷ []) (kind11 ∷ kind12 ∷ kind13 ∷ kind14 ∷ []) (groups .4) _ (no-update _ (sym (c .before .before .is-word2 .ensures) ∙ c .before .if8 .left)) (c .parse-channel-ends .ensures)
-
-parse-packets-requires : tie.Need-parse-packets-requires
-parse-packets-requires c κs = search needs
 
 returns-10 : tie.Need-returns-10
 returns-10 c =
@@ -129,30 +84,30 @@ pub parse-components-spec : {M : Type 1} → statement M
 parse-components-spec =
     tie.close
     (tie.spec
-    parse-next-sequence-requires
+    (λ c κs. search needs)
     returns
-    slice-aggregate-is-word
-    is-word-requires
-    parse-connections-requires
+    (λ c. search needs)
+    (λ c κs. search needs)
+    (λ c κs. search needs)
     returns-2
-    parse-ports-requires
+    (λ c κs. search needs)
     returns-3
-    parse-clients-requires
-    enum-told
+    (λ c κs. search needs)
+    (λ c. search needs)
     returns-4
-    enum-told-2
-    all-ascii-requires
+    (λ c. search needs)
+    (λ c κs. search needs)
     returns-5
     parse-upgrades-requires
     returns-6
-    parse-consensus-states-requires
+    (λ c κs. search needs)
     returns-7
-    slice-aggregate-is-word-2
-    is-word-requires-2
-    parse-updates-requires
+    (λ c. search needs)
+    (λ c κs. search needs)
+    (λ c κs. search needs)
     returns-8
-    parse-channel-ends-requires
+    (λ c κs. search needs)
     returns-9
-    parse-packets-requires
+    (λ c κs. search needs)
     returns-10
     returns-11)

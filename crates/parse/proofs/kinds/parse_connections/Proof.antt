@@ -14,15 +14,6 @@ use borrow.Author.Needs.{needs}
 use Rattle.parse.proofs.kinds.parse_connections.Statement.{statement}
 use Rattle.parse.proofs.kinds.parse_connections.Tie as tie
 
-read-connection-requires : tie.Need-read-connection-requires
-read-connection-requires c κs = search needs
-
-enum-known-connection : tie.Need-enum-known-connection
-enum-known-connection c = search needs
-
-enum-told : tie.Need-enum-told
-enum-told c = search needs
-
 returns : tie.Need-returns
 unfolding placeAfter fitsKind readKind readFirst
 returns c = simp (no-run placeAnswers 0 (placeParts (bytes "connections") connection) _ _ (sym (c .enum-told .given .1) ∙ c .before .before .read-connection .ensures), and-false)
@@ -37,4 +28,4 @@ returns-2 c =
 
 pub parse-connections-spec : {M : Type 1} → statement M
 parse-connections-spec =
-    tie.close (tie.spec read-connection-requires enum-known-connection enum-told returns returns-2)
+    tie.close (tie.spec (λ c κs. search needs) (λ c. search needs) (λ c. search needs) returns returns-2)

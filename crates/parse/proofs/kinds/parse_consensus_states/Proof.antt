@@ -12,15 +12,6 @@ use borrow.Author.Needs.{needs}
 use Rattle.parse.proofs.kinds.parse_consensus_states.Statement.{statement}
 use Rattle.parse.proofs.kinds.parse_consensus_states.Tie as tie
 
-read-consensus-requires : tie.Need-read-consensus-requires
-read-consensus-requires c κs = search needs
-
-enum-known-places : tie.Need-enum-known-places
-enum-known-places c = search needs
-
-enum-told : tie.Need-enum-told
-enum-told c = search needs
-
 returns : tie.Need-returns
 unfolding consensusIn fitsKind readKind readFirst
 returns c = simp (no-run consensusAnswers 0 consensusParts _ _ (sym (c .enum-told .given .1) ∙ c .before .before .read-consensus .ensures), and-false)
@@ -35,4 +26,4 @@ returns-2 c =
 
 pub parse-consensus-states-spec : {M : Type 1} → statement M
 parse-consensus-states-spec =
-    tie.close (tie.spec read-consensus-requires enum-known-places enum-told returns returns-2)
+    tie.close (tie.spec (λ c κs. search needs) (λ c. search needs) (λ c. search needs) returns returns-2)

@@ -10,12 +10,6 @@ use borrow.Author.Needs.{needs}
 use Rattle.parse.proofs.kinds.parse_next_sequence.Statement.{statement}
 use Rattle.parse.proofs.kinds.parse_next_sequence.Tie as tie
 
-slice-aggregate-is-word : tie.Need-slice-aggregate-is-word
-slice-aggregate-is-word c = search needs
-
-is-word-requires : tie.Need-is-word-requires
-is-word-requires c κs = search needs
-
 returns : tie.Need-returns
 unfolding fitsKind readKind readFirst
 returns c =
@@ -23,12 +17,6 @@ returns c =
     let n = cut-components (s .args .text .now) (s .args .cut) 1 (s .pre .0) (s .pre .1) (lit< tt) in
     let w1 = word-if _ _ _ (c .before .is-word .ensures) true (c .if1 .taken) in
     simp (n, w1)
-
-slice-aggregate-is-word-2 : tie.Need-slice-aggregate-is-word-2
-slice-aggregate-is-word-2 c = search needs
-
-is-word-requires-2 : tie.Need-is-word-requires-2
-is-word-requires-2 c κs = search needs
 
 returns-2 : tie.Need-returns-2
 unfolding fitsKind readKind readFirst
@@ -38,12 +26,6 @@ returns-2 c =
     let w1 = word-if _ _ _ (c .before .before .before .before .is-word .ensures) false (c .before .before .before .if1 .left) in
     let w2 = word-if _ _ _ (c .before .is-word2 .ensures) true (c .if2 .taken) in
     simp (n, w1, w2)
-
-slice-aggregate-is-word-3 : tie.Need-slice-aggregate-is-word-3
-slice-aggregate-is-word-3 c = search needs
-
-is-word-requires-3 : tie.Need-is-word-requires-3
-is-word-requires-3 c κs = search needs
 
 returns-3 : tie.Need-returns-3
 unfolding fitsKind readKind readFirst
@@ -67,13 +49,13 @@ pub parse-next-sequence-spec : {M : Type 1} → statement M
 parse-next-sequence-spec =
     tie.close
     (tie.spec
-    slice-aggregate-is-word
-    is-word-requires
+    (λ c. search needs)
+    (λ c κs. search needs)
     returns
-    slice-aggregate-is-word-2
-    is-word-requires-2
+    (λ c. search needs)
+    (λ c κs. search needs)
     returns-2
-    slice-aggregate-is-word-3
-    is-word-requires-3
+    (λ c. search needs)
+    (λ c κs. search needs)
     returns-3
     returns-4)

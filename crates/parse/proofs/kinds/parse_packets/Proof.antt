@@ -12,24 +12,9 @@ use borrow.Author.Needs.{needs}
 use Rattle.parse.proofs.kinds.parse_packets.Statement.{statement}
 use Rattle.parse.proofs.kinds.parse_packets.Tie as tie
 
-read-packet-requires : tie.Need-read-packet-requires
-read-packet-requires c κs = search needs
-
-enum-known-places : tie.Need-enum-known-places
-enum-known-places c = search needs
-
-enum-told : tie.Need-enum-told
-enum-told c = search needs
-
 returns : tie.Need-returns
 unfolding packetIn fitsKind readKind readFirst
 returns c = simp (no-run packetAnswers 1 packetParts _ _ (sym (c .enum-told .given .1) ∙ c .before .before .read-packet .ensures), and-false)
-
-slice-aggregate-is-word : tie.Need-slice-aggregate-is-word
-slice-aggregate-is-word c = search needs
-
-is-word-requires : tie.Need-is-word-requires
-is-word-requires c κs = search needs
 
 returns-2 : tie.Need-returns-2
 unfolding packetIn fitsKind readKind readFirst
@@ -40,12 +25,6 @@ returns-2 c =
     let w1 = word-if _ _ _ (c .before .is-word .ensures) true (c .if1 .taken) in
     simp (n, r .0, r .1, w1)
 
-slice-aggregate-is-word-2 : tie.Need-slice-aggregate-is-word-2
-slice-aggregate-is-word-2 c = search needs
-
-is-word-requires-2 : tie.Need-is-word-requires-2
-is-word-requires-2 c κs = search needs
-
 returns-3 : tie.Need-returns-3
 unfolding packetIn fitsKind readKind readFirst
 returns-3 c =
@@ -55,12 +34,6 @@ returns-3 c =
     let w1 = word-if _ _ _ (c .before .before .before .before .is-word .ensures) false (c .before .before .before .if1 .left) in
     let w2 = word-if _ _ _ (c .before .is-word2 .ensures) true (c .if2 .taken) in
     simp (n, r .0, r .1, w1, w2)
-
-slice-aggregate-is-word-3 : tie.Need-slice-aggregate-is-word-3
-slice-aggregate-is-word-3 c = search needs
-
-is-word-requires-3 : tie.Need-is-word-requires-3
-is-word-requires-3 c κs = search needs
 
 returns-4 : tie.Need-returns-4
 unfolding packetIn fitsKind readKind readFirst
@@ -85,17 +58,17 @@ pub parse-packets-spec : {M : Type 1} → statement M
 parse-packets-spec =
     tie.close
     (tie.spec
-    read-packet-requires
-    enum-known-places
-    enum-told
+    (λ c κs. search needs)
+    (λ c. search needs)
+    (λ c. search needs)
     returns
-    slice-aggregate-is-word
-    is-word-requires
+    (λ c. search needs)
+    (λ c κs. search needs)
     returns-2
-    slice-aggregate-is-word-2
-    is-word-requires-2
+    (λ c. search needs)
+    (λ c κs. search needs)
     returns-3
-    slice-aggregate-is-word-3
-    is-word-requires-3
+    (λ c. search needs)
+    (λ c κs. search needs)
     returns-4
     returns-5)

@@ -14,15 +14,6 @@ use borrow.Author.Needs.{needs}
 use Rattle.parse.proofs.kinds.parse_ports.Statement.{statement}
 use Rattle.parse.proofs.kinds.parse_ports.Tie as tie
 
-read-port-requires : tie.Need-read-port-requires
-read-port-requires c κs = search needs
-
-enum-known-port : tie.Need-enum-known-port
-enum-known-port c = search needs
-
-enum-told : tie.Need-enum-told
-enum-told c = search needs
-
 returns : tie.Need-returns
 unfolding placeAfter fitsKind readKind readFirst
 returns c = simp (no-run placeAnswers 0 (placeParts (bytes "ports") port) _ _ (sym (c .enum-told .given .1) ∙ c .before .before .read-port .ensures), and-false)
@@ -37,4 +28,4 @@ returns-2 c =
 
 pub parse-ports-spec : {M : Type 1} → statement M
 parse-ports-spec =
-    tie.close (tie.spec read-port-requires enum-known-port enum-told returns returns-2)
+    tie.close (tie.spec (λ c κs. search needs) (λ c. search needs) (λ c. search needs) returns returns-2)

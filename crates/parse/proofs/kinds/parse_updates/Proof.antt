@@ -12,24 +12,9 @@ use borrow.Author.Needs.{needs}
 use Rattle.parse.proofs.kinds.parse_updates.Statement.{statement}
 use Rattle.parse.proofs.kinds.parse_updates.Tie as tie
 
-read-consensus-requires : tie.Need-read-consensus-requires
-read-consensus-requires c κs = search needs
-
-enum-known-places : tie.Need-enum-known-places
-enum-known-places c = search needs
-
-enum-told : tie.Need-enum-told
-enum-told c = search needs
-
 returns : tie.Need-returns
 unfolding consensusIn fitsKind readKind readFirst
 returns c = simp (no-run consensusAnswers 0 consensusParts _ _ (sym (c .enum-told .given .1) ∙ c .before .before .read-consensus .ensures), and-false)
-
-slice-aggregate-is-word : tie.Need-slice-aggregate-is-word
-slice-aggregate-is-word c = search needs
-
-is-word-requires : tie.Need-is-word-requires
-is-word-requires c κs = search needs
 
 returns-2 : tie.Need-returns-2
 unfolding consensusIn fitsKind readKind readFirst
@@ -39,12 +24,6 @@ returns-2 c =
     let r = is-run consensusAnswers 0 consensusParts _ _ _ (sym (c .before .before .before .before .places .given .1) ∙ c .before .before .before .before .before .before .read-consensus .ensures) in
     let w1 = word-if _ _ _ (c .before .is-word .ensures) true (c .if1 .taken) in
     simp (n, r .0, r .1, w1)
-
-slice-aggregate-is-word-2 : tie.Need-slice-aggregate-is-word-2
-slice-aggregate-is-word-2 c = search needs
-
-is-word-requires-2 : tie.Need-is-word-requires-2
-is-word-requires-2 c κs = search needs
 
 returns-3 : tie.Need-returns-3
 unfolding consensusIn fitsKind readKind readFirst
@@ -67,14 +46,14 @@ pub parse-updates-spec : {M : Type 1} → statement M
 parse-updates-spec =
     tie.close
     (tie.spec
-    read-consensus-requires
-    enum-known-places
-    enum-told
+    (λ c κs. search needs)
+    (λ c. search needs)
+    (λ c. search needs)
     returns
-    slice-aggregate-is-word
-    is-word-requires
+    (λ c. search needs)
+    (λ c κs. search needs)
     returns-2
-    slice-aggregate-is-word-2
-    is-word-requires-2
+    (λ c. search needs)
+    (λ c κs. search needs)
     returns-3
     returns-4)

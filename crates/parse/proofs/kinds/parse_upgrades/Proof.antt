@@ -14,27 +14,9 @@ use borrow.Author.Needs.{needs}
 use Rattle.parse.proofs.kinds.parse_upgrades.Statement.{statement}
 use Rattle.parse.proofs.kinds.parse_upgrades.Tie as tie
 
-read-height-requires : tie.Need-read-height-requires
-read-height-requires c κs = search needs
-
-enum-known-height : tie.Need-enum-known-height
-enum-known-height c = search needs
-
-enum-told : tie.Need-enum-told
-enum-told c = search needs
-
 returns : tie.Need-returns
 unfolding heightAt fitsKind readKind readFirst
 returns c = simp (no-run heightAnswers 1 (count ∷ []) _ _ (sym (c .enum-told .given .1) ∙ c .before .before .read-height .ensures), and-false)
-
-place-at-requires : tie.Need-place-at-requires
-place-at-requires c κs = search needs
-
-slice-aggregate-is-word : tie.Need-slice-aggregate-is-word
-slice-aggregate-is-word c = search needs
-
-is-word-requires : tie.Need-is-word-requires
-is-word-requires c κs = search needs
 
 returns-2 : tie.Need-returns-2
 unfolding heightAt fitsKind readKind readFirst
@@ -45,12 +27,6 @@ returns-2 c =
     let u = upgrade-fits (s .args .text .now) 0 (s .pre .2) in
     let w1 = word-if _ _ _ (c .before .is-word .ensures) true (c .if1 .taken) in
     simp (n, r .0, r .1, u, c .before .before .before .place-at .ensures, w1)
-
-slice-aggregate-is-word-2 : tie.Need-slice-aggregate-is-word-2
-slice-aggregate-is-word-2 c = search needs
-
-is-word-requires-2 : tie.Need-is-word-requires-2
-is-word-requires-2 c κs = search needs
 
 returns-3 : tie.Need-returns-3
 unfolding heightAt fitsKind readKind readFirst
@@ -74,15 +50,15 @@ pub parse-upgrades-spec : {M : Type 1} → statement M
 parse-upgrades-spec =
     tie.close
     (tie.spec
-    read-height-requires
-    enum-known-height
-    enum-told
+    (λ c κs. search needs)
+    (λ c. search needs)
+    (λ c. search needs)
     returns
-    place-at-requires
-    slice-aggregate-is-word
-    is-word-requires
+    (λ c κs. search needs)
+    (λ c. search needs)
+    (λ c κs. search needs)
     returns-2
-    slice-aggregate-is-word-2
-    is-word-requires-2
+    (λ c. search needs)
+    (λ c κs. search needs)
     returns-3
     returns-4)

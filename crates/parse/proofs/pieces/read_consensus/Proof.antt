@@ -10,27 +10,9 @@ use borrow.Author.Needs.{needs}
 use Rattle.parse.proofs.pieces.read_consensus.Statement.{statement}
 use Rattle.parse.proofs.pieces.read_consensus.Tie as tie
 
-read-client-requires : tie.Need-read-client-requires
-read-client-requires c κs = search needs
-
-enum-known-client : tie.Need-enum-known-client
-enum-known-client c = search needs
-
-enum-told : tie.Need-enum-told
-enum-told c = search needs
-
 returns : tie.Need-returns
 unfolding placeAfter consensusIn
 returns c = simp (no-run placeAnswers 0 (placeParts (bytes "clients") client) _ _ (sym (c .enum-told .given .1) ∙ c .before .before .read-client .ensures))
-
-read-revision-requires : tie.Need-read-revision-requires
-read-revision-requires c κs = search needs
-
-enum-known-number : tie.Need-enum-known-number
-enum-known-number c = search needs
-
-enum-told-2 : tie.Need-enum-told-2
-enum-told-2 c = search needs
 
 returns-2 : tie.Need-returns-2
 unfolding revisionAfter consensusIn
@@ -47,12 +29,12 @@ pub read-consensus-spec : {M : Type 1} → statement M
 read-consensus-spec =
     tie.close
     (tie.spec
-    read-client-requires
-    enum-known-client
-    enum-told
+    (λ c κs. search needs)
+    (λ c. search needs)
+    (λ c. search needs)
     returns
-    read-revision-requires
-    enum-known-number
-    enum-told-2
+    (λ c κs. search needs)
+    (λ c. search needs)
+    (λ c. search needs)
     returns-2
     returns-3)

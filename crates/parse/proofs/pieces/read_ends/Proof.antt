@@ -10,27 +10,9 @@ use borrow.Author.Needs.{needs}
 use Rattle.parse.proofs.pieces.read_ends.Statement.{statement}
 use Rattle.parse.proofs.pieces.read_ends.Tie as tie
 
-read-port-requires : tie.Need-read-port-requires
-read-port-requires c κs = search needs
-
-enum-known-port : tie.Need-enum-known-port
-enum-known-port c = search needs
-
-enum-told : tie.Need-enum-told
-enum-told c = search needs
-
 returns : tie.Need-returns
 unfolding placeAfter endsIn
 returns c = simp (no-run placeAnswers 1 (placeParts (bytes "ports") port) _ _ (sym (c .enum-told .given .1) ∙ c .before .before .read-port .ensures))
-
-read-channel-requires : tie.Need-read-channel-requires
-read-channel-requires c κs = search needs
-
-enum-known-channel : tie.Need-enum-known-channel
-enum-known-channel c = search needs
-
-enum-told-2 : tie.Need-enum-told-2
-enum-told-2 c = search needs
 
 returns-2 : tie.Need-returns-2
 unfolding placeAfter endsIn
@@ -47,12 +29,12 @@ pub read-ends-spec : {M : Type 1} → statement M
 read-ends-spec =
     tie.close
     (tie.spec
-    read-port-requires
-    enum-known-port
-    enum-told
+    (λ c κs. search needs)
+    (λ c. search needs)
+    (λ c. search needs)
     returns
-    read-channel-requires
-    enum-known-channel
-    enum-told-2
+    (λ c κs. search needs)
+    (λ c. search needs)
+    (λ c. search needs)
     returns-2
     returns-3)

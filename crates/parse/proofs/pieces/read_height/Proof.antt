@@ -7,15 +7,6 @@ use borrow.Author.Needs.{needs}
 use Rattle.parse.proofs.pieces.read_height.Statement.{statement}
 use Rattle.parse.proofs.pieces.read_height.Tie as tie
 
-component-at-requires : tie.Need-component-at-requires
-component-at-requires c κs = search needs
-
-read-number-requires : tie.Need-read-number-requires
-read-number-requires c κs = search needs
-
-enum-known-n : tie.Need-enum-known-n
-enum-known-n c = search needs
-
 returns : tie.Need-returns
 unfolding heightAt
 returns c = rw (number-no _ _ _ (c .before .read-number .ensures) (c .before .before .component-at .ensures) (no-value (c .before .read-number .result) (c .match .keys2)))
@@ -28,4 +19,4 @@ returns-2 c =
 
 pub read-height-spec : {M : Type 1} → statement M
 read-height-spec =
-    tie.close (tie.spec component-at-requires read-number-requires enum-known-n returns returns-2)
+    tie.close (tie.spec (λ c κs. search needs) (λ c κs. search needs) (λ c. search needs) returns returns-2)

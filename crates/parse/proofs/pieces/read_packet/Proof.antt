@@ -8,27 +8,9 @@ use borrow.Author.Needs.{needs}
 use Rattle.parse.proofs.pieces.read_packet.Statement.{statement}
 use Rattle.parse.proofs.pieces.read_packet.Tie as tie
 
-read-ends-requires : tie.Need-read-ends-requires
-read-ends-requires c κs = search needs
-
-enum-known-ends : tie.Need-enum-known-ends
-enum-known-ends c = search needs
-
-enum-told : tie.Need-enum-told
-enum-told c = search needs
-
 returns : tie.Need-returns
 unfolding endsIn packetIn
 returns c = simp (no-run endsAnswers 1 endsParts _ _ (sym (c .enum-told .given .1) ∙ c .before .before .read-ends .ensures))
-
-read-sequence-requires : tie.Need-read-sequence-requires
-read-sequence-requires c κs = search needs
-
-enum-known-sequence : tie.Need-enum-known-sequence
-enum-known-sequence c = search needs
-
-enum-told-2 : tie.Need-enum-told-2
-enum-told-2 c = search needs
 
 returns-2 : tie.Need-returns-2
 unfolding sequenceAfter packetIn
@@ -45,12 +27,12 @@ pub read-packet-spec : {M : Type 1} → statement M
 read-packet-spec =
     tie.close
     (tie.spec
-    read-ends-requires
-    enum-known-ends
-    enum-told
+    (λ c κs. search needs)
+    (λ c. search needs)
+    (λ c. search needs)
     returns
-    read-sequence-requires
-    enum-known-sequence
-    enum-told-2
+    (λ c κs. search needs)
+    (λ c. search needs)
+    (λ c. search needs)
     returns-2
     returns-3)

@@ -8,27 +8,9 @@ use borrow.Author.Needs.{needs}
 use Rattle.parse.proofs.pieces.read_sequence.Statement.{statement}
 use Rattle.parse.proofs.pieces.read_sequence.Tie as tie
 
-slice-aggregate-is-word : tie.Need-slice-aggregate-is-word
-slice-aggregate-is-word c = search needs
-
-is-word-requires : tie.Need-is-word-requires
-is-word-requires c κs = search needs
-
 returns : tie.Need-returns
 unfolding sequenceAfter
 returns c = rw (word-unless _ _ _ (c .before .is-word .ensures) false (c .if1 .taken))
-
-add-component-at : tie.Need-add-component-at
-add-component-at c = search needs
-
-component-at-requires : tie.Need-component-at-requires
-component-at-requires c κs = search needs
-
-read-number-requires : tie.Need-read-number-requires
-read-number-requires c κs = search needs
-
-enum-known-n : tie.Need-enum-known-n
-enum-known-n c = search needs
 
 returns-2 : tie.Need-returns-2
 unfolding sequenceAfter
@@ -45,12 +27,12 @@ pub read-sequence-spec : {M : Type 1} → statement M
 read-sequence-spec =
     tie.close
     (tie.spec
-    slice-aggregate-is-word
-    is-word-requires
+    (λ c. search needs)
+    (λ c κs. search needs)
     returns
-    add-component-at
-    component-at-requires
-    read-number-requires
-    enum-known-n
+    (λ c. search needs)
+    (λ c κs. search needs)
+    (λ c κs. search needs)
+    (λ c. search needs)
     returns-2
     returns-3)

@@ -7,26 +7,11 @@ use native.Mathlib.Omega.{arith}
 use Rattle.parse.proofs.pieces.revision_in.Statement.{statement}
 use Rattle.parse.proofs.pieces.revision_in.Tie as tie
 
-first-dash-requires : tie.Need-first-dash-requires
-first-dash-requires c κs = search needs
-
 returns : tie.Need-returns
 returns c = revision-none _ _ (c .before .first-dash .ensures) (c .if1 .taken)
 
-sub-read-number : tie.Need-sub-read-number
-sub-read-number c = search needs
-
-part-read-number-start : tie.Need-part-read-number-start
-part-read-number-start c = search needs
-
 part-read-number-end : tie.Need-part-read-number-end
 part-read-number-end c = omega (arith, dash-inside _ _ (c .before .first-dash .ensures) (c .if1 .left))
-
-read-number-requires : tie.Need-read-number-requires
-read-number-requires c κs = search needs
-
-enum-known-number : tie.Need-enum-known-number
-enum-known-number c = search needs
 
 returns-2 : tie.Need-returns-2
 returns-2 c = revision-no-number _ _ (c .before .before .before .before .first-dash .ensures) (c .before .before .before .if1 .left) _ (c .before .read-number .ensures) (no-value (c .before .read-number .result) (c .match .keys2))
@@ -40,15 +25,6 @@ sub-read-number-2 c = omega (arith, dash-inside _ _ (c .before .before .before .
 part-read-number-start-2 : tie.Need-part-read-number-start-2
 part-read-number-start-2 c = omega (arith, dash-inside _ _ (c .before .before .before .before .before .before .first-dash .ensures) (c .before .before .before .before .before .if1 .left))
 
-part-read-number-end-2 : tie.Need-part-read-number-end-2
-part-read-number-end-2 c = search needs
-
-read-number-requires-2 : tie.Need-read-number-requires-2
-read-number-requires-2 c κs = search needs
-
-enum-known-height : tie.Need-enum-known-height
-enum-known-height c = search needs
-
 returns-3 : tie.Need-returns-3
 returns-3 c = revision-no-height _ _ (c .before .before .before .before .before .before .before .before .before .first-dash .ensures) (c .before .before .before .before .before .before .before .before .if1 .left) _ (c .before .before .before .before .before .before .read-number .ensures) _ (c .before .read-number2 .ensures) (no-value (c .before .read-number2 .result) (c .match2 .keys2))
 
@@ -59,19 +35,19 @@ pub revision-in-spec : {M : Type 1} → statement M
 revision-in-spec =
     tie.close
     (tie.spec
-    first-dash-requires
+    (λ c κs. search needs)
     returns
-    sub-read-number
-    part-read-number-start
+    (λ c. search needs)
+    (λ c. search needs)
     part-read-number-end
-    read-number-requires
-    enum-known-number
+    (λ c κs. search needs)
+    (λ c. search needs)
     returns-2
     add-after
     sub-read-number-2
     part-read-number-start-2
-    part-read-number-end-2
-    read-number-requires-2
-    enum-known-height
+    (λ c. search needs)
+    (λ c κs. search needs)
+    (λ c. search needs)
     returns-3
     returns-4)

@@ -5,15 +5,9 @@ use borrow.Author.Needs.{needs}
 use Rattle.path.proofs.name.upgrade_fault.Statement.{statement}
 use Rattle.path.proofs.name.upgrade_fault.Tie as tie
 
-all-ascii-requires : tie.Need-all-ascii-requires
-all-ascii-requires c κs = search needs
-
 returns : tie.Need-returns
 unfolding nameFault
 returns c = let e = sym (c .before .all-ascii .ensures) ∙ not-true _ (c .if1 .taken) in rw e
-
-no-slash-requires : tie.Need-no-slash-requires
-no-slash-requires c κs = search needs
 
 returns-2 : tie.Need-returns-2
 unfolding nameFault
@@ -25,4 +19,4 @@ returns-3 c = let e = sym (c .before .before .before .all-ascii .ensures) ∙ no
 
 pub upgrade-fault-spec : {M : Type 1} → statement M
 upgrade-fault-spec =
-    tie.close (tie.spec all-ascii-requires returns no-slash-requires returns-2 returns-3)
+    tie.close (tie.spec (λ c κs. search needs) returns (λ c κs. search needs) returns-2 returns-3)

@@ -1,9 +1,8 @@
-// The paper's numbers for the answers of this crate.
-use crate::Reading;
+// Which kinds of path are provable.
+use crate::Path;
 use text::refusal::BAD_KIND;
 ghost use mathlib.Core.Path.{_≡_};
-ghost use Rattle.path.specs.Read.{numberOf};
-ghost use Rattle.path.specs.View.{provableFlag};
+ghost use Rattle.path.specs.View.{kindOf, provable, provableFlag};
 
 // A refusal number, 0 where there is none, and a value of 0 or 1.
 #[repr(C)]
@@ -12,14 +11,22 @@ pub struct Flag {
     pub value: u8,
 }
 
-// The refusal number of a reading, 0 where the text was read.
-pub fn refusal_of(reading: Reading) -> u8
-    ensures { λ r. ⌜ r ≡ numberOf reading ⌝ }
+// All kinds but 8 and 10.
+fn provable_kind(kind: u8) -> bool
+    ensures { λ r. ⌜ r ≡ provable kind ⌝ }
 {
-    let Reading::Refused(why) = reading else {
-        return 0;
-    };
-    crate::refusal_number(why)
+    if kind == 8 {
+        return false;
+    }
+    kind != 10
+}
+
+// Whether the path is provable.
+pub fn is_provable(p: Path) -> bool
+    ensures { λ r. ⌜ r ≡ provable (kindOf p) ⌝ }
+{
+    let v = crate::view(p);
+    provable_kind(v.kind)
 }
 
 // Whether paths of this kind are provable.
@@ -38,20 +45,14 @@ pub fn kind_is_provable(kind: u8) -> Flag
             value: 0,
         };
     }
-    if kind == 8 {
+    if provable_kind(kind) {
         return Flag {
             refusal: 0,
-            value: 0,
-        };
-    }
-    if kind == 10 {
-        return Flag {
-            refusal: 0,
-            value: 0,
+            value: 1,
         };
     }
     Flag {
         refusal: 0,
-        value: 1,
+        value: 0,
     }
 }
