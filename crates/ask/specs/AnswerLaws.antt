@@ -22,7 +22,7 @@ use Rattle.path.specs.View.{kindOf, viewOf}
 use Rattle.path.specs.ReadLaws.{made-range}
 use Rattle.path.specs.BackLaws.{read-reads}
 use Rattle.path.specs.LengthLaws.{rendering-short}
-use Rattle.render.specs.KeyTextLaws.{view-parts}
+use Rattle.key.specs.KeyLaws.{view-parts}
 use Rattle.ask.specs.Answer.{mark, head, printed, lineAnswer}
 
 -- the rendering of a view over its text

@@ -53,6 +53,6 @@ pub fn answer_line(out: &mut [u8], at: usize, line: &[u8]) -> usize
     };
     let v = path::view(path);
     let rendering = write_head(out, at, v.kind, exact);
-    let end = render::key::write_rendering(out, rendering, line, v);
+    let end = key::write_rendering(out, rendering, line, v);
     text::put::write_byte(out, end, 10)
 }

@@ -1,15 +1,15 @@
 // The record book: new, write, remove, lookup. Each call checks the book once.
 pub mod check;
+pub mod field;
 pub mod find;
-pub mod key;
 pub mod oldest;
 pub mod record;
 
 use check::BookAnswer;
 use check::check_book;
+use field::key_into;
 use form::clear;
 use form::put_header;
-use key::key_into;
 use record::look_record;
 use record::put_record;
 use record::take_record;

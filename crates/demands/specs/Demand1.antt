@@ -53,7 +53,7 @@ use Rattle.hostpath.proofs.hp_book_remove.Reads as hp-book-remove
 use Rattle.hostpath.proofs.hp_book_lookup.Reads as hp-book-lookup
 use Rattle.hostpath.proofs.hp_book_oldest.Reads as hp-book-oldest
 use Rattle.render.proofs.render.Reads as render
-use Rattle.render.proofs.key.write_key.Reads as write-key
+use Rattle.key.proofs.write_key.Reads as write-key
 use Rattle.reader.proofs.write_reading.Reads as write-reading
 use Rattle.render.proofs.iteration.iteration_key.Reads as iteration-key
 use Rattle.identifiers.proofs.client_id.write_client_id.Reads as write-client-id

@@ -34,7 +34,7 @@ use Rattle.path.specs.BackLaws.{valid-rendered, rendered-back, read-again, key-
 use Rattle.path.specs.BackLaws as back
 use Rattle.path.specs.LengthLaws.{rendering-short}
 use Rattle.render.specs.Iteration.{iterationKey}
-use Rattle.render.specs.KeyLaws.{key-length}
+use Rattle.render.specs.IterationLaws.{key-length}
 use Rattle.demands.specs.Told.{Told, told, toldOf}
 use Rattle.demands.specs.ToldLaws.{bytes26, told-back, length26}
 use Rattle.demands.specs.Written.{Done, Back, NoKind, WhenRead}

@@ -117,7 +117,7 @@ pub extern "C" fn hp_key(text: &[u8], out: &mut [u8]) -> Written
     ensures { λ r. ⌜ r ≡ answer (keyOf (now (text .entry))) (length (now (out .entry))) ⌝ }
     ensures { λ _. ⌜ now (out .exit) ≡ left (keyOf (now (text .entry))) (now (out .entry)) ⌝ }
 {
-    render::key::write_key(text, out)
+    key::write_key(text, out)
 }
 
 #[no_mangle]

@@ -4,8 +4,7 @@ use denote.Ref.{now}
 use Rattle.text.specs.Outcome.{OneWith}
 use Rattle.text.specs.OutcomeLaws.{agree}
 use Rattle.render.proofs.render.Reads as render
-use Rattle.render.proofs.key.write_rendering.Reads as write-rendering
-use Rattle.render.proofs.key.write_key.Reads as write-key
+use Rattle.render.proofs.fit.fit_kind.Reads as fit-kind
 use Rattle.render.proofs.iteration.iteration_key.Reads as iteration-key
 use Rattle.render.proofs.texts.client_state_prefix.Reads as client-state-prefix
 use Rattle.render.proofs.texts.client_state_leaf.Reads as client-state-leaf
@@ -25,11 +24,8 @@ use Rattle.render.proofs.texts.receipt_prefix.Reads as receipt-prefix
 pub one-render : OneWith render.Post (λ κs s. now (s .1 .1 .1 .1 .1 .0))
 one-render κs a r₁ r₂ s₁ s₂ p q = agree p q
 
-pub one-write-rendering : OneWith write-rendering.Post (λ κs s. now (s .0))
-one-write-rendering κs a r₁ r₂ s₁ s₂ p q = agree p q
-
-pub one-write-key : OneWith write-key.Post (λ κs s. now (s .1 .0))
-one-write-key κs a r₁ r₂ s₁ s₂ p q = agree p q
+pub one-fit-kind : OneWith fit-kind.Post (λ κs s. now (s .0))
+one-fit-kind κs a r₁ r₂ s₁ s₂ p q = agree p q
 
 pub one-iteration-key : OneWith iteration-key.Post (λ κs s. now (s .1 .1 .0))
 one-iteration-key κs a r₁ r₂ s₁ s₂ p q = agree p q

@@ -49,14 +49,7 @@ pub(crate) fn fit_word(out: &mut [u8], kind: u8) -> Written
 }
 
 // Writes the text of a kind, or refuses where it is too long or `out` too short.
-pub(crate) fn fit_kind(
-    out: &mut [u8],
-    kind: u8,
-    first: &[u8],
-    second: &[u8],
-    a: u64,
-    b: u64,
-) -> Written
+pub fn fit_kind(out: &mut [u8], kind: u8, first: &[u8], second: &[u8], a: u64, b: u64) -> Written
     requires { ⌜ (1 ≤ kind) × (kind ≤ 19) ⌝ }
     ensures { λ r. ⌜ r ≡ answer (short (render (partsOf kind) (carried (now (first .entry)) (now (second .entry)) a b))) (length (now (out .entry))) ⌝ }
     ensures { λ _. ⌜ now (out .exit) ≡ left (short (render (partsOf kind) (carried (now (first .entry)) (now (second .entry)) a b))) (now (out .entry)) ⌝ }

@@ -1,7 +1,6 @@
 // Rendering: checks of the identifiers, the room, then the writers.
-mod fit;
+pub mod fit;
 pub mod iteration;
-pub mod key;
 pub mod texts;
 
 use path::name::Name;

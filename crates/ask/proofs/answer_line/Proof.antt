@@ -5,7 +5,7 @@ use lib.ListN.{length, length-append}
 use Rattle.text.specs.Number.{decimal}
 use Rattle.text.specs.Put.{put}
 use Rattle.text.specs.PutLaws.{put-two}
-use Rattle.render.specs.KeyTextLaws.{view-kind}
+use Rattle.key.specs.KeyLaws.{view-kind}
 use Rattle.ask.specs.Answer.{head}
 use Rattle.ask.specs.AnswerLaws.{viewText, answer-refused, answer-view, answer-length}
 use native.Mathlib.Omega.{arith}

@@ -12,7 +12,7 @@ use Rattle.book.proofs.lookup.Tie as tie
 use Rattle.book.proofs.lookup.Reads as reads
 use Rattle.book.proofs.lookup.Lts as lts
 use Rattle.book.proofs.check.check_book.Reads as check-book-reads
-use Rattle.book.proofs.key.key_into.Reads as key-into-reads
+use Rattle.book.proofs.field.key_into.Reads as key-into-reads
 use Rattle.book.proofs.record.look_record.Reads as look-record-reads
 
 -- src/lib.rt:28:32

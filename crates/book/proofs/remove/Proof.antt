@@ -12,7 +12,7 @@ use Rattle.book.proofs.remove.Tie as tie
 use Rattle.book.proofs.remove.Reads as reads
 use Rattle.book.proofs.remove.Lts as lts
 use Rattle.book.proofs.check.check_book.Reads as check-book-reads
-use Rattle.book.proofs.key.key_into.Reads as key-into-reads
+use Rattle.book.proofs.field.key_into.Reads as key-into-reads
 use Rattle.book.proofs.record.take_record.Reads as take-record-reads
 
 -- src/lib.rt:68:32

@@ -12,7 +12,7 @@ use Rattle.book.proofs.write.Tie as tie
 use Rattle.book.proofs.write.Reads as reads
 use Rattle.book.proofs.write.Lts as lts
 use Rattle.book.proofs.check.check_book.Reads as check-book-reads
-use Rattle.book.proofs.key.key_into.Reads as key-into-reads
+use Rattle.book.proofs.field.key_into.Reads as key-into-reads
 use Rattle.book.proofs.record.put_record.Reads as put-record-reads
 
 -- src/lib.rt:48:32

@@ -4,7 +4,6 @@ use mathlib.Core.Path.{sym, _∙_}
 use mathlib.Core.Bool.{and-false}
 use lib.Dec.{lit<}
 use Rattle.parse.specs.CutLaws.{cut-components}
-use Rattle.path.specs.Kinds.{}
 use Rattle.path.specs.Read.{fitsKind, readKind, readFirst}
 use Rattle.parse.specs.Pieces.{consensusIn, consensusParts}
 use Rattle.parse.specs.FitLaws.{no-run, is-run, consensusAnswers}

@@ -5,7 +5,6 @@ use mathlib.Core.Bool.{and-false}
 use lib.Dec.{lit<}
 use Rattle.text.specs.Bytes.{bytes}
 use Rattle.parse.specs.CutLaws.{cut-components}
-use Rattle.path.specs.Kinds.{}
 use Rattle.path.specs.declared.name.Name.the-variants.{Port as port}
 use Rattle.path.specs.Read.{fitsKind, readKind, readFirst}
 use Rattle.parse.specs.Pieces.{placeAfter, placeParts}

@@ -4,7 +4,7 @@ use Rattle.text.specs.NumberLaws.{length-big}
 use Rattle.text.specs.Put.{Wrote}
 use Rattle.text.specs.PutLaws.{both, gives-short, gives-text}
 use Rattle.render.specs.Iteration.{iterationKey}
-use Rattle.render.specs.KeyLaws.{key-length}
+use Rattle.render.specs.IterationLaws.{key-length}
 use native.Mathlib.Omega.{arith}
 use borrow.Author.Needs.{needs}
 use Rattle.render.proofs.iteration.iteration_key.Statement.{statement}

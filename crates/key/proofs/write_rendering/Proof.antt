@@ -1,6 +1,6 @@
 use borrow.Author.Needs.{needs}
-use Rattle.render.proofs.key.write_rendering.Statement.{statement}
-use Rattle.render.proofs.key.write_rendering.Tie as tie
+use Rattle.key.proofs.write_rendering.Statement.{statement}
+use Rattle.key.proofs.write_rendering.Tie as tie
 
 write-kind-requires : tie.Need-write-kind-requires
 write-kind-requires c κs =

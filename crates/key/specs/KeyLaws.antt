@@ -40,7 +40,7 @@ module _ (t : List ℕ) (r : Reading) (p : Path) (e : Bool) (is : r ≡ Read p e
   view-parts = let s = shown-read t p (read-reads t p e read) in rw (seen, s .0, s .1)
 
   -- the same with the parts of the text as they were lent, and the key
-  module _ (x y : List ℕ) (one : x ≡ shownOf t (v .first)) (two : y ≡ shownOf t (v .second)) where
+  module _ (x y : List ℕ) (first : x ≡ shownOf t (v .first)) (second : y ≡ shownOf t (v .second)) where
     pub view-key : short (render (partsOf (v .kind)) (carried x y (v .a) (v .b))) ≡ keyOf t
     unfolding keyOf short
-    view-key = rw (one, two, view-parts, le-leb (length (renderPath t p)) 4096 (rendering-short t p e read), read)
+    view-key = rw (first, second, view-parts, le-leb (length (renderPath t p)) 4096 (rendering-short t p e read), read)

@@ -1,8 +1,8 @@
 // The key of a text: the rendering of what it reads as.
-use crate::fit::fit_kind;
 use path::PathView;
 use path::Reading;
 use reader::part;
+use render::fit::fit_kind;
 use text::Written;
 use writers::kinds::write_kind;
 ghost use mathlib.Core.Path.{_≡_};

@@ -1,5 +1,5 @@
 // The key of a text.
-use render::key::write_key;
+use key::write_key;
 use text::Written;
 use text::refusal::KEY_TOO_LONG;
 use text::refusal::NO_ROOM;

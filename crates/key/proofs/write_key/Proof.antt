@@ -1,10 +1,10 @@
 use mathlib.Core.Path.{sym}
 use Rattle.text.specs.PutLaws.{gives-refusal, gives-same}
 use Rattle.path.specs.Read.{keyOf}
-use Rattle.render.specs.KeyTextLaws.{key-refused, view-kind, view-key}
+use Rattle.key.specs.KeyLaws.{key-refused, view-kind, view-key}
 use borrow.Author.Needs.{needs}
-use Rattle.render.proofs.key.write_key.Statement.{statement}
-use Rattle.render.proofs.key.write_key.Tie as tie
+use Rattle.key.proofs.write_key.Statement.{statement}
+use Rattle.key.proofs.write_key.Tie as tie
 
 returns : tie.Need-returns
 returns c =

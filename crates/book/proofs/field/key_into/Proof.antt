@@ -8,31 +8,31 @@ use Rattle.path.specs.Read.{keyOf}
 use Rattle.keys.specs.TextLaws.{answer-long, answer-other}
 use native.Mathlib.Omega.{arith}
 use borrow.Author.Needs.{needs}
-use Rattle.book.proofs.key.key_into.Statement.{statement}
-use Rattle.book.proofs.key.key_into.Tie as tie
-use Rattle.book.proofs.key.key_into.Reads as reads
-use Rattle.book.proofs.key.key_into.Lts as lts
-use Rattle.render.proofs.key.write_key.Reads as write-key-reads
+use Rattle.book.proofs.field.key_into.Statement.{statement}
+use Rattle.book.proofs.field.key_into.Tie as tie
+use Rattle.book.proofs.field.key_into.Reads as reads
+use Rattle.book.proofs.field.key_into.Lts as lts
+use Rattle.key.proofs.write_key.Reads as write-key-reads
 
--- src/key.rt:19:9
+-- src/field.rt:19:9
 write-key-requires : tie.Need-write-key-requires
 write-key-requires c κs = search needs
 
--- src/key.rt:21:9
+-- src/field.rt:21:9
 same-length : tie.Need-same-length
 same-length c = search needs
 
--- src/key.rt:21:9
+-- src/field.rt:21:9
 returns : tie.Need-returns
 returns c =
     let e = (c .before .before .before .before .write-key .ensures .0 ∙ ap (λ (n : ℕ). answer (keyOf (c .before .before .before .before .before .before .before .before .args .text .now)) n) (c .before .before .before .before .before .before .before .before .pre)) in
     (sym (answer-long _ (sym (ap (λ (v : Written). v .refusal) e) ∙ c .if1 .taken)), c .before .before .before .before .write-key .ensures .1)
 
--- src/key.rt:14:1
+-- src/field.rt:14:1
 same-length-2 : tie.Need-same-length-2
 same-length-2 c = search needs
 
--- src/key.rt:14:1
+-- src/field.rt:14:1
 returns-2 : tie.Need-returns-2
 returns-2 c =
     let e = (c .before .before .before .before .write-key .ensures .0 ∙ ap (λ (n : ℕ). answer (keyOf (c .before .before .before .before .before .before .before .before .args .text .now)) n) (c .before .before .before .before .before .before .before .before .pre)) in
