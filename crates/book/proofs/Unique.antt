@@ -1,6 +1,5 @@
 -- The contract of each public function, as the source has it, leaves one outcome: the answer, and the content of the buffer that is lent.
 -- Assumes nothing.
-use mathlib.Core.Path.{_≡_, sym, _∙_}
 use denote.Ref.{now}
 use Rattle.text.specs.Outcome.{One, OneWith}
 use Rattle.book.specs.Book.{Current}

@@ -1,9 +1,8 @@
 -- `form::clear` meets its contract.
 -- Assumes nothing.
 -- `form::clear` meets its contract. Assumes nothing.
-use mathlib.Core.Path.{_≡_, sym, ap, _∙_}
-use mathlib.Core.List.{List}
-use Prim.Native.Nat.{ℕ, _≤_, _<_, _-_, _+_}
+use mathlib.Core.Path.{_≡_, _∙_}
+use Prim.Native.Nat.{_≤_, _-_, _+_}
 use native.Mathlib.Omega.{arith}
 use lib.ListN.{length, set, length-set}
 use Rattle.text.specs.Put.{put}
@@ -12,8 +11,6 @@ use Rattle.form.specs.Form.{zeros}
 use Rattle.form.specs.FormLaws.{clear-turn}
 use Rattle.form.proofs.clear.Statement.{statement}
 use Rattle.form.proofs.clear.Tie as tie
-use Rattle.form.proofs.clear.Reads as reads
-use Rattle.form.proofs.clear.Lts as lts
 
 abbrev Inv-loop : tie.InvT-loop
 Inv-loop book₀ from n j₀ book j = (j ≤ n) × (book ≡ put book₀ from (zeros j)) × (length book ≡ length book₀)
@@ -21,27 +18,21 @@ Inv-loop book₀ from n j₀ book j = (j ≤ n) × (book ≡ put book₀ from (z
 abbrev μ-loop : tie.MeasureT-loop
 μ-loop book₀ from n j₀ book j = n - j
 
--- src/lib.rt:43:5
 loop-holds : tie.Need-loop-holds Inv-loop μ-loop
 loop-holds c = (omega arith, over-start (c .args .book .now) (c .args .from), omega arith)
 
--- src/lib.rt:44:14
 add-book : tie.Need-add-book Inv-loop μ-loop
 add-book c = omega arith
 
--- src/lib.rt:44:9
 slice-write-book : tie.Need-slice-write-book Inv-loop μ-loop
 slice-write-book c = omega arith
 
--- src/lib.rt:45:9
 add-j : tie.Need-add-j Inv-loop μ-loop
 add-j c = omega arith
 
--- src/lib.rt:43:5
 loop-less : tie.Need-loop-less Inv-loop μ-loop
 loop-less c = omega arith
 
--- src/lib.rt:43:5
 loop-again : tie.Need-loop-again Inv-loop μ-loop
 loop-again c =
     let l = c .before .loop in
@@ -49,11 +40,9 @@ loop-again c =
     let t : set (put (a .book .now) (a .from) (zeros (l .j))) (a .from + l .j) 0 ≡ put (a .book .now) (a .from) (zeros (l .j + 1)) = clear-turn (a .book .now) (a .from) (l .j) (omega arith) in
     (omega arith, rw (l .inv .1) t, length-set (l .book) (a .from + l .j) 0 ∙ l .inv .2)
 
--- src/lib.rt:38:1
 same-length : tie.Need-same-length Inv-loop μ-loop
 same-length c = omega arith
 
--- src/lib.rt:38:1
 returns : tie.Need-returns Inv-loop μ-loop
 returns c =
     let e : c .before .loop .j ≡ c .before .before .args .n = omega arith in

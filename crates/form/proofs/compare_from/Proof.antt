@@ -1,20 +1,15 @@
 -- `form::compare_from` meets its contract.
 -- Assumes nothing.
-use mathlib.Core.Path.{_≡_, refl, sym, ap, _∙_}
-use mathlib.Core.List.{List}
-use Prim.Native.Nat.{ℕ, _≤_, _<_, _-_, _+_}
+use mathlib.Core.Path.{_≡_}
+use Prim.Native.Nat.{_≤_, _-_}
 use native.Mathlib.Omega.{arith}
 use borrow.Author.Needs.{needs}
-use lib.ListN.{length, getD, take}
+use lib.ListN.{length, getD}
 use Rattle.text.specs.Order.{cmp}
 use Rattle.form.specs.V1.{stored}
-use Rattle.form.specs.Compare.{code}
 use Rattle.form.specs.CompareLaws.{agree-rest, rest, out-longer, out-lt, out-gt, out-same, out-shorter, turn}
 use Rattle.form.proofs.compare_from.Statement.{statement}
 use Rattle.form.proofs.compare_from.Tie as tie
-use Rattle.form.proofs.compare_from.Reads as reads
-use Rattle.form.proofs.compare_from.Lts as lts
-use Rattle.form.proofs.wide.Reads as wide-reads
 
 abbrev Inv-loop : tie.InvT-loop
 Inv-loop book at key start n i₀ i =
@@ -23,67 +18,51 @@ Inv-loop book at key start n i₀ i =
 abbrev μ-loop : tie.MeasureT-loop
 μ-loop book at key start n i₀ i = length key - i
 
--- src/lib.rt:77:18
 shared-slice-read-wide : tie.Need-shared-slice-read-wide Inv-loop μ-loop
 shared-slice-read-wide c = omega arith
 
--- src/lib.rt:77:9
-wide-requires : tie.Need-wide-requires Inv-loop μ-loop
-wide-requires c κs = search needs
-
--- src/lib.rt:79:5
 loop-holds : tie.Need-loop-holds Inv-loop μ-loop
 loop-holds c =
     let a = c .before .before .before .before .args in
     let g = c .before .before .before .before .pre .1 in
     (g .short, omega (arith, g .within, c .wide .ensures), c .wide .ensures .0, omega arith, agree-rest (a .key .now) (a .book .now) (a .at) (a .start) (omega arith) (omega (arith, c .wide .ensures)) g)
 
--- src/lib.rt:81:13
 returns : tie.Need-returns Inv-loop μ-loop
 returns c =
     let l = c .before .before .loop in
     let a = c .before .before .before .before .before .before .before .args in
     out-longer (a .book .now) (a .key .now) (a .at) (c .before .before .before .wide .result) (l .i) (omega arith) (l .inv .2) (l .inv .3) (l .inv .4) (omega arith) (omega arith)
 
--- src/lib.rt:83:17
 shared-slice-read-x : tie.Need-shared-slice-read-x Inv-loop μ-loop
 shared-slice-read-x c = omega arith
 
--- src/lib.rt:84:22
 add-y : tie.Need-add-y Inv-loop μ-loop
 add-y c = omega arith
 
--- src/lib.rt:84:22
 add-y-2 : tie.Need-add-y-2 Inv-loop μ-loop
 add-y-2 c = omega arith
 
--- src/lib.rt:84:17
 shared-slice-read-y : tie.Need-shared-slice-read-y Inv-loop μ-loop
 shared-slice-read-y c = omega arith
 
--- src/lib.rt:86:13
 returns-2 : tie.Need-returns-2 Inv-loop μ-loop
 returns-2 c =
     let l = c .before .before .before .before .before .loop in
     let a = c .before .before .before .before .before .before .before .before .before .before .args in
     out-lt (a .book .now) (a .key .now) (a .at) (c .before .before .before .before .before .before .wide .result) (l .i) (omega arith) (l .inv .2) (l .inv .3) (l .inv .4) (omega arith) (omega arith) (c .if2 .taken)
 
--- src/lib.rt:89:13
 returns-3 : tie.Need-returns-3 Inv-loop μ-loop
 returns-3 c =
     let l = c .before .before .before .before .before .before .loop in
     let a = c .before .before .before .before .before .before .before .before .before .before .before .args in
     out-gt (a .book .now) (a .key .now) (a .at) (c .before .before .before .before .before .before .before .wide .result) (l .i) (omega arith) (l .inv .2) (l .inv .3) (l .inv .4) (omega arith) (omega arith) (c .if3 .taken)
 
--- src/lib.rt:91:9
 add-i : tie.Need-add-i Inv-loop μ-loop
 add-i c = omega arith
 
--- src/lib.rt:79:5
 loop-less : tie.Need-loop-less Inv-loop μ-loop
 loop-less c = omega arith
 
--- src/lib.rt:79:5
 loop-again : tie.Need-loop-again Inv-loop μ-loop
 loop-again c =
     let l = c .before .before .before .before .before .before .loop in
@@ -96,14 +75,12 @@ loop-again c =
       turn (a .book .now) (a .key .now) (a .at) n (l .i) (omega arith) (l .inv .2) (l .inv .3) (l .inv .4) (omega arith) (omega arith) (omega arith),
     )
 
--- src/lib.rt:73:1
 returns-4 : tie.Need-returns-4 Inv-loop μ-loop
 returns-4 c =
     let l = c .before .before .loop in
     let a = c .before .before .before .before .before .before .before .args in
     out-same (a .book .now) (a .key .now) (a .at) (c .before .before .before .wide .result) (l .i) (omega arith) (l .inv .2) (l .inv .3) (l .inv .4) (omega arith) (omega arith)
 
--- src/lib.rt:73:1
 returns-5 : tie.Need-returns-5 Inv-loop μ-loop
 returns-5 c =
     let l = c .before .before .loop in
@@ -117,7 +94,7 @@ compare-from-spec =
     Inv-loop
     μ-loop
     shared-slice-read-wide
-    wide-requires
+    (λ c κs. search needs)
     loop-holds
     returns
     shared-slice-read-x

@@ -1,15 +1,13 @@
 -- `form::lower` meets its contract.
 -- Assumes nothing.
-use mathlib.Core.Path.{_≡_, sym, ap, _∙_}
-use Prim.Native.Nat.{ℕ, _≤_, _<_, _-_, _+_}
+use mathlib.Core.Path.{_≡_, _∙_}
+use Prim.Native.Nat.{_≤_, _-_, _+_}
 use lib.ListN.{length, getD, set, length-set}
 use Rattle.form.specs.MovesLaws.{lowered-none, lowered-turn}
 use Rattle.form.specs.Moves.{lowered}
 use native.Mathlib.Omega.{arith}
 use Rattle.form.proofs.lower.Statement.{statement}
 use Rattle.form.proofs.lower.Tie as tie
-use Rattle.form.proofs.lower.Reads as reads
-use Rattle.form.proofs.lower.Lts as lts
 
 abbrev Inv-loop : tie.InvT-loop
 Inv-loop book₀ from to by i₀ book i = (from ≤ i) × (i ≤ to) × (book ≡ lowered from i by book₀) × (length book ≡ length book₀)
@@ -17,31 +15,24 @@ Inv-loop book₀ from to by i₀ book i = (from ≤ i) × (i ≤ to) × (book �
 abbrev μ-loop : tie.MeasureT-loop
 μ-loop book₀ from to by i₀ book i = to - i
 
--- src/lib.rt:34:5
 loop-holds : tie.Need-loop-holds Inv-loop μ-loop
 loop-holds c = (omega arith, omega arith, lowered-none (c .args .from) (c .args .by) (c .args .book .now) (omega arith), omega arith)
 
--- src/lib.rt:35:24
 slice-read-book : tie.Need-slice-read-book Inv-loop μ-loop
 slice-read-book c = omega arith
 
--- src/lib.rt:35:14
 sub-book : tie.Need-sub-book Inv-loop μ-loop
 sub-book c = omega arith
 
--- src/lib.rt:35:9
 slice-write-book : tie.Need-slice-write-book Inv-loop μ-loop
 slice-write-book c = omega arith
 
--- src/lib.rt:36:9
 add-i : tie.Need-add-i Inv-loop μ-loop
 add-i c = omega arith
 
--- src/lib.rt:34:5
 loop-less : tie.Need-loop-less Inv-loop μ-loop
 loop-less c = omega arith
 
--- src/lib.rt:34:5
 loop-again : tie.Need-loop-again Inv-loop μ-loop
 loop-again c =
     let l = c .before .before .loop in
@@ -50,11 +41,9 @@ loop-again c =
     lowered-turn (a .from) (l .i) (a .by) (a .book .now) (omega arith) (omega arith) (omega arith) in
     (omega arith, omega arith, rw (l .inv .2) step, length-set (l .book) (l .i - a .by) (getD (l .book) (l .i) 0) ∙ l .inv .3)
 
--- src/lib.rt:28:1
 same-length : tie.Need-same-length Inv-loop μ-loop
 same-length c = omega arith
 
--- src/lib.rt:28:1
 returns : tie.Need-returns Inv-loop μ-loop
 returns c =
     let e : c .before .loop .i ≡ c .before .before .args .to = omega arith in

@@ -1,16 +1,13 @@
 -- `form::raise` meets its contract. The loop's invariant: what stands from i on has been moved.
 -- Assumes nothing.
-use mathlib.Core.Path.{_≡_, sym, ap, _∙_}
-use mathlib.Core.List.{List}
-use Prim.Native.Nat.{ℕ, _≤_, _<_, _-_, _+_}
+use mathlib.Core.Path.{_≡_, _∙_}
+use Prim.Native.Nat.{_≤_, _-_, _+_}
 use native.Mathlib.Omega.{arith}
 use lib.ListN.{length, getD, set, length-set}
-use Rattle.form.specs.MovesLaws.{raised-none, raised-turn, length-raised}
+use Rattle.form.specs.MovesLaws.{raised-none, raised-turn}
 use Rattle.form.specs.Moves.{raised}
 use Rattle.form.proofs.raise.Statement.{statement}
 use Rattle.form.proofs.raise.Tie as tie
-use Rattle.form.proofs.raise.Reads as reads
-use Rattle.form.proofs.raise.Lts as lts
 
 abbrev Inv-loop : tie.InvT-loop
 Inv-loop book₀ from to by i₀ book i = (from ≤ i) × (i ≤ to) × (book ≡ raised i to by book₀) × (length book ≡ length book₀)

@@ -5,58 +5,31 @@ use borrow.Author.Tests.{not-true, not-false}
 use Rattle.form.specs.V1.{V1}
 use Rattle.form.specs.V1Laws.{v1-lawful}
 use Rattle.book.specs.CheckLaws.{framed, frame-room, no-good, no-rising, no-rest, to-book}
-use native.Mathlib.Omega.{arith}
 use borrow.Author.Needs.{needs}
 use Rattle.book.proofs.check.check_book.Statement.{statement}
 use Rattle.book.proofs.check.check_book.Tie as tie
-use Rattle.book.proofs.check.check_book.Reads as reads
-use Rattle.book.proofs.check.check_book.Lts as lts
-use Rattle.book.proofs.check.blank_after.Reads as blank-after-reads
-use Rattle.book.proofs.check.frame.Reads as frame-reads
-use Rattle.book.proofs.check.rising.Reads as rising-reads
-use Rattle.book.proofs.check.slots_good.Reads as slots-good-reads
 
--- src/check.rt:118:32
-frame-requires : tie.Need-frame-requires
-frame-requires c κs = search needs
-
--- src/check.rt:118:27
-enum-known-n : tie.Need-enum-known-n
-enum-known-n c = search needs
-
--- src/check.rt:119:9
-enum-told : tie.Need-enum-told
-enum-told c = search needs
-
--- src/check.rt:119:9
 returns : tie.Need-returns
 returns c = rw (c .enum-told .given .1) at (c .before .before .frame .ensures)
 
--- src/check.rt:121:9
 slots-good-requires : tie.Need-slots-good-requires
 slots-good-requires c κs = frame-room V1 v1-lawful _ _ (framed (c .before .before .before .frame .ensures) (c .before .n .given .1))
 
--- src/check.rt:122:9
 returns-2 : tie.Need-returns-2
 returns-2 c = no-good V1 v1-lawful _ _ (framed (c .before .before .before .before .before .frame .ensures) (c .before .before .before .n .given .1)) _ (c .before .slots-good .ensures) (not-true _ (c .if1 .taken))
 
--- src/check.rt:124:9
 rising-requires : tie.Need-rising-requires
 rising-requires c κs = frame-room V1 v1-lawful _ _ (framed (c .before .before .before .before .before .frame .ensures) (c .before .before .before .n .given .1))
 
--- src/check.rt:125:9
 returns-3 : tie.Need-returns-3
 returns-3 c = no-rising V1 v1-lawful _ _ (framed (c .before .before .before .before .before .before .before .frame .ensures) (c .before .before .before .before .before .n .given .1)) _ (c .before .rising .ensures) (not-true _ (c .if2 .taken))
 
--- src/check.rt:127:9
 blank-after-requires : tie.Need-blank-after-requires
 blank-after-requires c κs = frame-room V1 v1-lawful _ _ (framed (c .before .before .before .before .before .before .before .frame .ensures) (c .before .before .before .before .before .n .given .1))
 
--- src/check.rt:128:9
 returns-4 : tie.Need-returns-4
 returns-4 c = no-rest V1 v1-lawful _ _ (framed (c .before .before .before .before .before .before .before .before .before .frame .ensures) (c .before .before .before .before .before .before .before .n .given .1)) _ (c .before .blank-after .ensures) (not-true _ (c .if3 .taken))
 
--- src/check.rt:115:1
 returns-5 : tie.Need-returns-5
 returns-5 c = to-book V1 _ _ (framed (c .before .before .before .before .before .before .before .before .before .frame .ensures) (c .before .before .before .before .before .before .before .n .given .1)) (c .before .before .before .before .before .slots-good .ensures .holds (not-false _ (c .before .before .before .before .if1 .left))) (c .before .before .before .rising .ensures .holds (not-false _ (c .before .before .if2 .left))) (sym (c .before .blank-after .ensures) ∙ not-false _ (c .if3 .left))
 
@@ -64,9 +37,9 @@ pub check-book-spec : {M : Type 1} → statement M
 check-book-spec =
     tie.close
     (tie.spec
-    frame-requires
-    enum-known-n
-    enum-told
+    (λ c κs. search needs)
+    (λ c. search needs)
+    (λ c. search needs)
     returns
     slots-good-requires
     returns-2

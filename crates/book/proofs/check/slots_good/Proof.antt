@@ -1,7 +1,7 @@
 -- `book::slots_good` meets its contract.
 -- Assumes nothing.
 use borrow.Author.Tests.{not-true, not-false}
-use Prim.Native.Nat.{ℕ, _≤_, _<_, _-_, _+_, _*_}
+use Prim.Native.Nat.{ℕ, _≤_, _<_, _-_}
 use borrow.Author.Count.{below-more}
 use Rattle.form.specs.Tells.{tells-true, tells-false}
 use Rattle.form.specs.V1.{V1}
@@ -10,9 +10,6 @@ use borrow.Author.Needs.{needs}
 use native.Mathlib.Omega.{arith}
 use Rattle.book.proofs.check.slots_good.Statement.{statement}
 use Rattle.book.proofs.check.slots_good.Tie as tie
-use Rattle.book.proofs.check.slots_good.Reads as reads
-use Rattle.book.proofs.check.slots_good.Lts as lts
-use Rattle.book.proofs.check.slot_good.Reads as slot-good-reads
 
 abbrev Inv-loop : tie.InvT-loop
 Inv-loop book n i₀ i = (i ≤ n) × ((j : ℕ) → j < i → SlotGood V1 book j)
@@ -20,31 +17,18 @@ Inv-loop book n i₀ i = (i ≤ n) × ((j : ℕ) → j < i → SlotGood V1 book 
 abbrev μ-loop : tie.MeasureT-loop
 μ-loop book n i₀ i = n - i
 
--- src/check.rt:79:5
 loop-holds : tie.Need-loop-holds Inv-loop μ-loop
 loop-holds c = (omega arith, λ j h. absurd (let z : ⊥ = omega arith in z))
 
--- src/check.rt:80:13
-slot-good-requires : tie.Need-slot-good-requires Inv-loop μ-loop
-slot-good-requires c κs = search needs
-
--- src/check.rt:81:13
 returns : tie.Need-returns Inv-loop μ-loop
 returns c = tells-false (λ g. c .before .slot-good .ensures .fails (not-true _ (c .if1 .taken)) (g (c .before .before .before .loop .i) (omega arith)))
 
--- src/check.rt:83:9
-add-i : tie.Need-add-i Inv-loop μ-loop
-add-i c = search needs
-
--- src/check.rt:79:5
 loop-less : tie.Need-loop-less Inv-loop μ-loop
 loop-less c = omega arith
 
--- src/check.rt:79:5
 loop-again : tie.Need-loop-again Inv-loop μ-loop
 loop-again c = (omega arith, below-more _ (c .before .before .before .loop .i) (c .before .before .before .loop .inv .1) (c .before .slot-good .ensures .holds (not-false _ (c .if1 .left))))
 
--- src/check.rt:74:1
 returns-2 : tie.Need-returns-2 Inv-loop μ-loop
 returns-2 c = tells-true (λ j h. c .before .loop .inv .1 j (omega arith))
 
@@ -55,9 +39,9 @@ slots-good-spec =
     Inv-loop
     μ-loop
     loop-holds
-    slot-good-requires
+    (λ c κs. search needs)
     returns
-    add-i
+    (λ c. search needs)
     loop-less
     loop-again
     returns-2)

@@ -1,6 +1,6 @@
 -- `book::place` meets its contract.
 -- Assumes nothing.
-use Prim.Native.Nat.{ℕ, _≤_, _<_, _-_, _+_, _*_}
+use Prim.Native.Nat.{_≤_, _-_}
 use Rattle.form.specs.V1.{V1}
 use Rattle.form.specs.V1Laws.{v1-lawful}
 use Rattle.book.specs.FindLaws.{Narrowed, narrow-start, narrow-up, narrow-down, narrow-end}
@@ -8,9 +8,6 @@ use borrow.Author.Needs.{needs}
 use native.Mathlib.Omega.{arith}
 use Rattle.book.proofs.find.place.Statement.{statement}
 use Rattle.book.proofs.find.place.Tie as tie
-use Rattle.book.proofs.find.place.Reads as reads
-use Rattle.book.proofs.find.place.Lts as lts
-use Rattle.form.proofs.compare_key.Reads as compare-key-reads
 
 abbrev Inv-loop : tie.InvT-loop
 Inv-loop book n key lo₀ hi₀ lo hi = (lo ≤ hi) × Narrowed V1 book key n lo hi
@@ -18,51 +15,21 @@ Inv-loop book n key lo₀ hi₀ lo hi = (lo ≤ hi) × Narrowed V1 book key n lo
 abbrev μ-loop : tie.MeasureT-loop
 μ-loop book n key lo₀ hi₀ lo hi = hi - lo
 
--- src/find.rt:22:5
 loop-holds : tie.Need-loop-holds Inv-loop μ-loop
 loop-holds c = (omega arith, narrow-start V1 v1-lawful _ _ _ (c .before .before .pre))
 
--- src/find.rt:23:25
-sub-mid : tie.Need-sub-mid Inv-loop μ-loop
-sub-mid c = search needs
-
--- src/find.rt:23:19
-add-mid : tie.Need-add-mid Inv-loop μ-loop
-add-mid c = search needs
-
--- src/find.rt:24:34
-mul-compare-key : tie.Need-mul-compare-key Inv-loop μ-loop
-mul-compare-key c = search needs
-
--- src/find.rt:24:30
-add-compare-key : tie.Need-add-compare-key Inv-loop μ-loop
-add-compare-key c = search needs
-
--- src/find.rt:24:12
-compare-key-requires : tie.Need-compare-key-requires Inv-loop μ-loop
-compare-key-requires c κs = search needs
-
--- src/find.rt:25:18
-add-lo : tie.Need-add-lo Inv-loop μ-loop
-add-lo c = search needs
-
--- src/find.rt:22:5
 loop-less : tie.Need-loop-less Inv-loop μ-loop
 loop-less c = omega arith
 
--- src/find.rt:22:5
 loop-again : tie.Need-loop-again Inv-loop μ-loop
 loop-again c = (omega arith, narrow-up V1 v1-lawful _ _ _ (c .before .before .before .before .before .before .pre) (c .before .before .before .loop .lo) (c .before .before .before .loop .hi) _ _ (c .before .before .before .loop .inv .1) (omega arith) (omega arith) (c .before .compare-key .ensures) (c .if1 .taken))
 
--- src/find.rt:22:5
 loop-less-2 : tie.Need-loop-less-2 Inv-loop μ-loop
 loop-less-2 c = omega arith
 
--- src/find.rt:22:5
 loop-again-2 : tie.Need-loop-again-2 Inv-loop μ-loop
 loop-again-2 c = (omega arith, narrow-down V1 v1-lawful _ _ _ (c .before .before .before .before .before .before .pre) (c .before .before .before .loop .lo) (c .before .before .before .loop .hi) _ _ (c .before .before .before .loop .inv .1) (omega arith) (omega arith) (c .before .compare-key .ensures) (c .if1 .left))
 
--- src/find.rt:16:1
 returns : tie.Need-returns Inv-loop μ-loop
 returns c = narrow-end V1 v1-lawful _ _ _ (c .before .before .before .before .pre) (c .before .loop .lo) (c .before .loop .hi) (c .before .loop .inv .1) (omega arith)
 
@@ -73,12 +40,12 @@ place-spec =
     Inv-loop
     μ-loop
     loop-holds
-    sub-mid
-    add-mid
-    mul-compare-key
-    add-compare-key
-    compare-key-requires
-    add-lo
+    (λ c. search needs)
+    (λ c. search needs)
+    (λ c. search needs)
+    (λ c. search needs)
+    (λ c κs. search needs)
+    (λ c. search needs)
     loop-less
     loop-again
     loop-less-2
