@@ -3,6 +3,7 @@
  * such call gets a function around it. */
 #include "hostpath.h"
 
+/* Below, made by bin/interface from crates/hostpath/src/lib.rt. */
 void inner_hp_book_oldest(struct hp_pair *answer, const uint8_t *book, size_t book_len, const uint8_t *client, size_t client_len);
 
 struct hp_pair hp_book_oldest(const uint8_t *book, size_t book_len, const uint8_t *client, size_t client_len) {
