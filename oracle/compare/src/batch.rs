@@ -27,6 +27,12 @@ impl Returned {
     }
 }
 
+impl From<u8> for Returned {
+    fn from(refusal: u8) -> Self {
+        Self::new(refusal, 0)
+    }
+}
+
 /// What a call is to return, and to leave in what is lent to it.
 pub struct Expected<'a> {
     pub returned: Returned,

@@ -4,6 +4,8 @@
 pub mod batch;
 pub mod books;
 pub mod call;
+#[rustfmt::skip]
+pub mod dispatch;
 pub mod identifiers;
 pub mod library;
 pub mod no_books;
