@@ -14,6 +14,7 @@ pub mod page;
 pub mod paths;
 pub mod renderings;
 pub mod set;
+pub mod typed;
 
 /// How much of a set to run.
 #[derive(Clone, Copy, Debug, PartialEq, Eq)]
@@ -35,5 +36,12 @@ impl Size {
 pub type Sets = &'static [(&'static str, fn(&mut set::Set, Size))];
 
 /// The families of sets.
-pub const FAMILIES: &[Sets] =
-    &[page::SETS, identifiers::SETS, paths::SETS, renderings::SETS, books::SETS, no_books::SETS];
+pub const FAMILIES: &[Sets] = &[
+    page::SETS,
+    identifiers::SETS,
+    paths::SETS,
+    typed::SETS,
+    renderings::SETS,
+    books::SETS,
+    no_books::SETS,
+];
