@@ -77,21 +77,21 @@ enum {
  * key is the rendering of a path. Any other buffer is no book, and every call but hp_book_new looks. */
 #define HP_BOOK_SIZE(slots) (HP_BOOK_HEAD + HP_BOOK_SLOT * (slots))
 
-/* Below, made by bin/interface from crates/hostpath/src/lib.rt. */
 /* Why a call was refused, and what to do about it. */
 enum hp_refusal {
     HP_DONE = 0,
+    /* Below, made by bin/interface: refusals in c. */
     /* the text, or the path that it makes, has more than 4,096 bytes: shorten it */
     HP_TOO_LONG = 1,
     /* a byte of the text is 128 or more: write the text in ASCII alone */
     HP_NOT_ASCII = 2,
-    /* the text fits none of the nineteen kinds of path: compare its words, identifiers and numbers with their table */
+    /* the text fits none of the nineteen kinds of path: hold its words and numbers against the table of kinds */
     HP_NOT_A_PATH = 3,
     /* the lent buffer is shorter than the answer: lend a longer one */
     HP_NO_ROOM = 4,
     /* a byte is none of A-Z, a-z, 0-9 and . _ + - # [ ] < >, which identifiers are made of: take it out */
     HP_BAD_CHAR = 5,
-    /* the identifier is too short or too long, or the value has not 32 bytes: give one of the right length */
+    /* the identifier is too short or too long, or the value is not of 32 bytes: give one of the right length */
     HP_BAD_LENGTH = 6,
     /* the identifier is not its name, a dash and a number without leading zeros: write it as in channel-7 */
     HP_BAD_PREFIX = 7,
@@ -109,12 +109,17 @@ enum hp_refusal {
     HP_BAD_SEGMENT = 13,
     /* the kind is not a number from 1 to 19: take it from the table of kinds */
     HP_BAD_KIND = 14
+    /* Above, made by bin/interface. */
 };
 
 /* What calls answer: a refusal, or HP_DONE, and what they give, which is 0 where they refuse. */
+/* Below, made by bin/interface: answers in c. */
 struct hp_written { uint8_t refusal; uint64_t length; };
 struct hp_flag { uint8_t refusal; uint8_t value; };
 struct hp_pair { uint8_t refusal; uint64_t number; uint64_t height; };
+/* Above, made by bin/interface. */
+
+/* Below, made by bin/interface: calls in c. */
 
 /* Identifier checks. */
 

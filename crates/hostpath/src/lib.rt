@@ -4,10 +4,10 @@
 // What a refusal, by its name in crates/text/src/refusal.rt, tells whoever asked:
 // TOO_LONG: the text, or the path that it makes, has more than 4,096 bytes: shorten it
 // NOT_ASCII: a byte of the text is 128 or more: write the text in ASCII alone
-// NOT_A_PATH: the text fits none of the nineteen kinds of path: compare its words, identifiers and numbers with their table
+// NOT_A_PATH: the text fits none of the nineteen kinds of path: hold its words and numbers against the table of kinds
 // NO_ROOM: the lent buffer is shorter than the answer: lend a longer one
 // BAD_CHAR: a byte is none of A-Z, a-z, 0-9 and . _ + - # [ ] < >, which identifiers are made of: take it out
-// BAD_LENGTH: the identifier is too short or too long, or the value has not 32 bytes: give one of the right length
+// BAD_LENGTH: the identifier is too short or too long, or the value is not of 32 bytes: give one of the right length
 // BAD_PREFIX: the identifier is not its name, a dash and a number without leading zeros: write it as in channel-7
 // BAD_NUMBER: after the dash stands no number from 0 to 18446744073709551615: write it as in channel-7
 // BAD_BOOK: the buffer holds no book: make a new one in it, or lend the bytes that a book left

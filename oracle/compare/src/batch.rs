@@ -1,6 +1,8 @@
 //! Calls that wait to be answered together, and what document 01 expects of each.
 use std::fmt::{self, Display, Formatter};
 
+use hostpath::raw::{Flag, Pair, Written};
+
 use crate::call::{Call, Function};
 
 /// Stands in lent buffers, and around them, before a call.
@@ -30,6 +32,24 @@ impl Returned {
 impl From<u8> for Returned {
     fn from(refusal: u8) -> Self {
         Self::new(refusal, 0)
+    }
+}
+
+impl From<Written> for Returned {
+    fn from(answer: Written) -> Self {
+        Self::new(answer.refusal, answer.length)
+    }
+}
+
+impl From<Flag> for Returned {
+    fn from(answer: Flag) -> Self {
+        Self::new(answer.refusal, answer.value.into())
+    }
+}
+
+impl From<Pair> for Returned {
+    fn from(answer: Pair) -> Self {
+        Self { refusal: answer.refusal, numbers: [answer.number, answer.height] }
     }
 }
 

@@ -4,9 +4,18 @@ use std::fmt::{self, Display, Formatter};
 pub use crate::dispatch::Function;
 
 impl Function {
+    pub fn has_kind(self) -> bool {
+        self.takes()[0]
+    }
+
+    /// Whether a reply shows the book.
+    pub fn has_book(self) -> bool {
+        self.takes()[1]
+    }
+
     /// Whether a call that is not refused writes a text.
     pub fn writes(self) -> bool {
-        self.has_out() && !self.has_book()
+        self.takes()[2] && !self.has_book()
     }
 }
 

@@ -1,4 +1,4 @@
-//! Every call, by its name and by what it takes.
+//! Every call: its name, what it takes, and the making of it.
 use hostpath::raw;
 
 use crate::batch::Returned;
@@ -6,8 +6,8 @@ use crate::call::Call;
 
 /// The calls, in the order of include/hostpath.h.
 #[derive(Clone, Copy, Debug, PartialEq, Eq, PartialOrd, Ord)]
-// Below, made by bin/interface from crates/hostpath/src/lib.rt.
 pub enum Function {
+    // Below, made by bin/interface: calls.
     ValidateIdentifierChars,
     ValidateIdentifierLength,
     ValidatePrefixLength,
@@ -43,6 +43,7 @@ pub enum Function {
     BookRemove,
     BookLookup,
     BookOldest,
+    // Above, made by bin/interface.
     /// No call: the text is what calls on a book are lent from now on.
     BookLend,
 }
@@ -51,6 +52,7 @@ impl Function {
     /// The call of this name in the C interface.
     pub fn named(name: &str) -> Option<Self> {
         Some(match name {
+            // Below, made by bin/interface: names of calls.
             "hp_validate_identifier_chars" => Self::ValidateIdentifierChars,
             "hp_validate_identifier_length" => Self::ValidateIdentifierLength,
             "hp_validate_prefix_length" => Self::ValidatePrefixLength,
@@ -86,41 +88,53 @@ impl Function {
             "hp_book_remove" => Self::BookRemove,
             "hp_book_lookup" => Self::BookLookup,
             "hp_book_oldest" => Self::BookOldest,
+            // Above, made by bin/interface.
             _ => return None,
         })
     }
 
-    /// Whether it takes a kind.
-    pub fn has_kind(self) -> bool {
-        matches!(self, Self::Render | Self::IsProvable)
-    }
-
-    /// Whether it is lent a book.
-    pub fn has_book(self) -> bool {
-        matches!(self, Self::BookLend | Self::BookNew | Self::BookWrite | Self::BookRemove | Self::BookLookup | Self::BookOldest)
-    }
-
-    /// Whether it is lent a buffer for its answer.
-    pub fn has_out(self) -> bool {
-        matches!(self, Self::ClientIdNew | Self::ChannelIdNew | Self::Read | Self::Key | Self::Render | Self::IterationKey | Self::ClientStatePrefix | Self::ClientStateLeaf | Self::ConsensusStateParent | Self::ConsensusStateLeaf | Self::UpdateTimeLeaf | Self::UpdateHeightLeaf | Self::ConnectionPrefix | Self::ChannelEndPrefix | Self::CommitmentsPath | Self::AcksPath | Self::ReceiptsPath | Self::CommitmentPrefix | Self::AckPrefix | Self::ReceiptPrefix | Self::BookLookup)
-    }
-}
-
-impl From<raw::Written> for Returned {
-    fn from(answer: raw::Written) -> Self {
-        Self { refusal: answer.refusal, numbers: [answer.length, 0] }
-    }
-}
-
-impl From<raw::Flag> for Returned {
-    fn from(answer: raw::Flag) -> Self {
-        Self { refusal: answer.refusal, numbers: [u64::from(answer.value), 0] }
-    }
-}
-
-impl From<raw::Pair> for Returned {
-    fn from(answer: raw::Pair) -> Self {
-        Self { refusal: answer.refusal, numbers: [answer.number, answer.height] }
+    /// Whether it takes a kind, a book, and a buffer for its answer.
+    pub fn takes(self) -> [bool; 3] {
+        match self {
+            // Below, made by bin/interface: what calls take.
+            Self::ValidateIdentifierChars => [false, false, false],
+            Self::ValidateIdentifierLength => [false, false, false],
+            Self::ValidatePrefixLength => [false, false, false],
+            Self::ValidateNamedU64Index => [false, false, false],
+            Self::ValidateClientType => [false, false, false],
+            Self::ValidateClientIdentifier => [false, false, false],
+            Self::ValidateConnectionIdentifier => [false, false, false],
+            Self::ValidatePortIdentifier => [false, false, false],
+            Self::ValidateChannelIdentifier => [false, false, false],
+            Self::ClientIdNew => [false, false, true],
+            Self::ChannelIdNew => [false, false, true],
+            Self::Read => [false, false, true],
+            Self::Key => [false, false, true],
+            Self::Render => [true, false, true],
+            Self::IsProvable => [true, false, false],
+            Self::IterationKey => [false, false, true],
+            Self::ClientStatePrefix => [false, false, true],
+            Self::ClientStateLeaf => [false, false, true],
+            Self::ConsensusStateParent => [false, false, true],
+            Self::ConsensusStateLeaf => [false, false, true],
+            Self::UpdateTimeLeaf => [false, false, true],
+            Self::UpdateHeightLeaf => [false, false, true],
+            Self::ConnectionPrefix => [false, false, true],
+            Self::ChannelEndPrefix => [false, false, true],
+            Self::CommitmentsPath => [false, false, true],
+            Self::AcksPath => [false, false, true],
+            Self::ReceiptsPath => [false, false, true],
+            Self::CommitmentPrefix => [false, false, true],
+            Self::AckPrefix => [false, false, true],
+            Self::ReceiptPrefix => [false, false, true],
+            Self::BookNew => [false, true, false],
+            Self::BookWrite => [false, true, false],
+            Self::BookRemove => [false, true, false],
+            Self::BookLookup => [false, true, true],
+            Self::BookOldest => [false, true, false],
+            // Above, made by bin/interface.
+            Self::BookLend => [false, true, false],
+        }
     }
 }
 
@@ -128,6 +142,7 @@ impl From<raw::Pair> for Returned {
 pub fn make(call: &Call, book: &mut [u8], out: &mut [u8]) -> Returned {
     let Call { function, kind, texts, numbers } = *call;
     match function {
+        // Below, made by bin/interface: each call made.
         Function::ValidateIdentifierChars => raw::validate_identifier_chars(texts[0]).into(),
         Function::ValidateIdentifierLength => raw::validate_identifier_length(texts[0], numbers[0], numbers[1]).into(),
         Function::ValidatePrefixLength => raw::validate_prefix_length(texts[0], numbers[0], numbers[1]).into(),
@@ -163,6 +178,7 @@ pub fn make(call: &Call, book: &mut [u8], out: &mut [u8]) -> Returned {
         Function::BookRemove => raw::book_remove(book, texts[0]).into(),
         Function::BookLookup => raw::book_lookup(book, texts[0], out).into(),
         Function::BookOldest => raw::book_oldest(book, texts[0]).into(),
+        // Above, made by bin/interface.
         Function::BookLend => Returned::default(),
     }
 }

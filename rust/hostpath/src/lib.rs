@@ -45,8 +45,6 @@ pub mod raw;
 mod refusal;
 mod texts;
 
-use core::fmt;
-
 pub use book::*;
 pub use identifiers::*;
 pub use path::*;
@@ -55,21 +53,6 @@ pub use texts::*;
 
 /// The bytes of the longest text of a path, and of the longest rendering.
 pub const PATH_MOST: usize = 4096;
-
-impl Refusal {
-    /// The number that the library has for it.
-    pub const fn number(self) -> u8 {
-        self as u8
-    }
-}
-
-impl fmt::Display for Refusal {
-    fn fmt(&self, out: &mut fmt::Formatter<'_>) -> fmt::Result {
-        write!(out, "refusal {}: {}", self.number(), self.sentence())
-    }
-}
-
-impl core::error::Error for Refusal {}
 
 /// A call's number as a result.
 fn done(number: u8) -> Result<(), Refusal> {

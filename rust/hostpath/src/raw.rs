@@ -3,122 +3,125 @@
 //!
 //! The numbers after a call are its refusals, in the order in which they are looked for; 0 is done.
 
-// Below, made by bin/interface from crates/hostpath/src/lib.rt.
-/// What a call answers: a refusal, and its length.
+// Below, made by bin/interface: answers.
+
+/// What a call answers.
 #[repr(C)]
 #[derive(Clone, Copy, Debug, PartialEq, Eq)]
 #[must_use]
 pub struct Written {
-    /// The number of a refusal, or 0.
+    /// A refusal's number, or 0.
     pub refusal: u8,
     /// 0 where the call is refused.
     pub length: u64,
 }
 
-/// What a call answers: a refusal, and its value.
+/// What a call answers.
 #[repr(C)]
 #[derive(Clone, Copy, Debug, PartialEq, Eq)]
 #[must_use]
 pub struct Flag {
-    /// The number of a refusal, or 0.
+    /// A refusal's number, or 0.
     pub refusal: u8,
     /// 0 where the call is refused.
     pub value: u8,
 }
 
-/// What a call answers: a refusal, and its number and height.
+/// What a call answers.
 #[repr(C)]
 #[derive(Clone, Copy, Debug, PartialEq, Eq)]
 #[must_use]
 pub struct Pair {
-    /// The number of a refusal, or 0.
+    /// A refusal's number, or 0.
     pub refusal: u8,
     /// 0 where the call is refused.
     pub number: u64,
     /// 0 where the call is refused.
     pub height: u64,
 }
+// Above, made by bin/interface.
 
 /// The calls as C has them: a text or a buffer is a pointer and a count of bytes.
 pub mod c {
     use super::*;
 
     extern "C" {
-        /// All bytes are A-Z, a-z, 0-9 or one of `. _ + - # [ ] < >`: 2, 5.
+        // Below, made by bin/interface: calls on pointers.
+        /// [`validate_identifier_chars`] on pointers.
         pub fn hp_validate_identifier_chars(id: *const u8, id_len: usize) -> u8;
-        /// The length is from min, raised to 1, to max: 2, 6.
+        /// [`validate_identifier_length`] on pointers.
         pub fn hp_validate_identifier_length(id: *const u8, id_len: usize, min: u64, max: u64) -> u8;
-        /// The length is from min - 2, raised to 1, to max - 21, both stopping at 0: 2, 6.
+        /// [`validate_prefix_length`] on pointers.
         pub fn hp_validate_prefix_length(prefix: *const u8, prefix_len: usize, min: u64, max: u64) -> u8;
-        /// The name, `-` and an index; either text may give 2: 2, 7, 8.
+        /// [`validate_named_u64_index`] on pointers.
         pub fn hp_validate_named_u64_index(id: *const u8, id_len: usize, name: *const u8, name_len: usize) -> u8;
-        /// A client type of 7 to 43 bytes: 2, 5, 6.
+        /// [`validate_client_type`] on pointers.
         pub fn hp_validate_client_type(id: *const u8, id_len: usize) -> u8;
-        /// A client identifier of 9 to 64 bytes: 2, 5, 6.
+        /// [`validate_client_identifier`] on pointers.
         pub fn hp_validate_client_identifier(id: *const u8, id_len: usize) -> u8;
-        /// A connection identifier of 10 to 64 bytes, `connection-` and an index: 2, 5, 6, 7, 8.
+        /// [`validate_connection_identifier`] on pointers.
         pub fn hp_validate_connection_identifier(id: *const u8, id_len: usize) -> u8;
-        /// A port identifier of 2 to 128 bytes: 2, 5, 6.
+        /// [`validate_port_identifier`] on pointers.
         pub fn hp_validate_port_identifier(id: *const u8, id_len: usize) -> u8;
-        /// A channel identifier of 8 to 64 bytes, `channel-` and an index: 2, 5, 6, 7, 8.
+        /// [`validate_channel_identifier`] on pointers.
         pub fn hp_validate_channel_identifier(id: *const u8, id_len: usize) -> u8;
-        /// The client type without the bytes 9 to 13 and 32 at its ends, `-` and the counter: 2, 5, 6, 4.
+        /// [`client_id_new`] on pointers.
         pub fn hp_client_id_new(client_type: *const u8, client_type_len: usize, counter: u64, out: *mut u8, out_len: usize) -> Written;
-        /// `channel-` and the counter: 4.
+        /// [`channel_id_new`] on pointers.
         pub fn hp_channel_id_new(counter: u64, out: *mut u8, out_len: usize) -> Written;
-        /// The reading in 26 bytes, high bytes first: kind; 1 exact or 0 loose; start and length of the first identifier
-        /// and of the second, 2 bytes each; two numbers of 8 bytes. What the kind lacks is 0: 1, 2, 3, 4.
+        /// [`read`] on pointers.
         pub fn hp_read(text: *const u8, text_len: usize, out: *mut u8, out_len: usize) -> u8;
-        /// The rendering of the text: 1, 2, 3, 4.
+        /// [`key`] on pointers.
         pub fn hp_key(text: *const u8, text_len: usize, out: *mut u8, out_len: usize) -> Written;
-        /// The path of a kind; what the kind lacks has no influence: 14, first, second (an upgrade path: 2, 13), 1, 4.
+        /// [`render`] on pointers.
         pub fn hp_render(kind: u8, first: *const u8, first_len: usize, second: *const u8, second_len: usize, a: u64, b: u64, out: *mut u8, out_len: usize) -> Written;
-        /// 1 where paths of the kind are provable: 14.
+        /// [`is_provable`] on pointers.
         pub fn hp_is_provable(kind: u8) -> Flag;
-        /// `iterateConsensusStates`, number and height, 38 bytes: 4.
+        /// [`iteration_key`] on pointers.
         pub fn hp_iteration_key(number: u64, height: u64, out: *mut u8, out_len: usize) -> Written;
-        /// `clients`: 4.
+        /// [`client_state_prefix`] on pointers.
         pub fn hp_client_state_prefix(out: *mut u8, out_len: usize) -> Written;
-        /// `clientState`: 4.
+        /// [`client_state_leaf`] on pointers.
         pub fn hp_client_state_leaf(out: *mut u8, out_len: usize) -> Written;
-        /// `clients/C/consensusStates`: the client's 2, 5, 6; then 4.
+        /// [`consensus_state_parent`] on pointers.
         pub fn hp_consensus_state_parent(client: *const u8, client_len: usize, out: *mut u8, out_len: usize) -> Written;
-        /// `consensusStates/R-h`: 4.
+        /// [`consensus_state_leaf`] on pointers.
         pub fn hp_consensus_state_leaf(number: u64, height: u64, out: *mut u8, out_len: usize) -> Written;
-        /// `consensusStates/R-h/processedTime`: 4.
+        /// [`update_time_leaf`] on pointers.
         pub fn hp_update_time_leaf(number: u64, height: u64, out: *mut u8, out_len: usize) -> Written;
-        /// `consensusStates/R-h/processedHeight`: 4.
+        /// [`update_height_leaf`] on pointers.
         pub fn hp_update_height_leaf(number: u64, height: u64, out: *mut u8, out_len: usize) -> Written;
-        /// `connections`: 4.
+        /// [`connection_prefix`] on pointers.
         pub fn hp_connection_prefix(out: *mut u8, out_len: usize) -> Written;
-        /// `channelEnds`: 4.
+        /// [`channel_end_prefix`] on pointers.
         pub fn hp_channel_end_prefix(out: *mut u8, out_len: usize) -> Written;
-        /// `commitments/ports/P/channels/H/sequences`: the port's 2, 5, 6; the channel's 2, 5, 6, 7, 8; then 4.
+        /// [`commitments_path`] on pointers.
         pub fn hp_commitments_path(port: *const u8, port_len: usize, channel: *const u8, channel_len: usize, out: *mut u8, out_len: usize) -> Written;
-        /// `acks/ports/P/channels/H/sequences`: the port's 2, 5, 6; the channel's 2, 5, 6, 7, 8; then 4.
+        /// [`acks_path`] on pointers.
         pub fn hp_acks_path(port: *const u8, port_len: usize, channel: *const u8, channel_len: usize, out: *mut u8, out_len: usize) -> Written;
-        /// `receipts/ports/P/channels/H/sequences`: the port's 2, 5, 6; the channel's 2, 5, 6, 7, 8; then 4.
+        /// [`receipts_path`] on pointers.
         pub fn hp_receipts_path(port: *const u8, port_len: usize, channel: *const u8, channel_len: usize, out: *mut u8, out_len: usize) -> Written;
-        /// `commitments`: 4.
+        /// [`commitment_prefix`] on pointers.
         pub fn hp_commitment_prefix(out: *mut u8, out_len: usize) -> Written;
-        /// `acks`: 4.
+        /// [`ack_prefix`] on pointers.
         pub fn hp_ack_prefix(out: *mut u8, out_len: usize) -> Written;
-        /// `receipts`: 4.
+        /// [`receipt_prefix`] on pointers.
         pub fn hp_receipt_prefix(out: *mut u8, out_len: usize) -> Written;
-        /// Makes the buffer, whatever it holds, a book without records; its size alone is looked at: 9.
+        /// [`book_new`] on pointers.
         pub fn hp_book_new(book: *mut u8, book_len: usize) -> u8;
-        /// The rendering of the text holds the value from now on, anew or in place of what it held: 9, 1, 2, 3, 10, 6, 11.
+        /// [`book_write`] on pointers.
         pub fn hp_book_write(book: *mut u8, book_len: usize, text: *const u8, text_len: usize, value: *const u8, value_len: usize) -> u8;
-        /// The rendering of the text holds nothing from now on: 9, 1, 2, 3, 10, 12.
+        /// [`book_remove`] on pointers.
         pub fn hp_book_remove(book: *mut u8, book_len: usize, text: *const u8, text_len: usize) -> u8;
-        /// What the rendering of the text holds, in 32 bytes; wants that room even where it holds nothing:
-        /// 9, 1, 2, 3, 10, 4, 12.
+        /// [`book_lookup`] on pointers.
         pub fn hp_book_lookup(book: *const u8, book_len: usize, text: *const u8, text_len: usize, out: *mut u8, out_len: usize) -> u8;
-        /// Revision number and height of the client's first record `clients/C/consensusStates/R-h` in byte order of key, in
-        /// which 10 stands before 9: 9, the client's 2, 5, 6; then 12.
+        /// [`book_oldest`] on pointers.
         pub fn hp_book_oldest(book: *const u8, book_len: usize, client: *const u8, client_len: usize) -> Pair;
+        // Above, made by bin/interface.
     }
 }
+
+// Below, made by bin/interface: calls on slices.
 
 /// All bytes are A-Z, a-z, 0-9 or one of `. _ + - # [ ] < >`: 2, 5.
 pub fn validate_identifier_chars(id: &[u8]) -> u8 {
@@ -332,3 +335,4 @@ pub fn book_oldest(book: &[u8], client: &[u8]) -> Pair {
     // SAFETY: each pointer and count are those of one live slice.
     unsafe { c::hp_book_oldest(book.as_ptr(), book.len(), client.as_ptr(), client.len()) }
 }
+// Above, made by bin/interface.

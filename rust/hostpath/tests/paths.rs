@@ -80,7 +80,7 @@ fn texts() {
 fn refusals() {
     let all: Vec<Refusal> = (1..=255).filter_map(Refusal::of).collect();
     assert!(all.iter().all(|refusal| Refusal::of(refusal.number()) == Some(*refusal)));
-    assert_eq!(all.len(), 14);
+    assert_eq!((all[0], Refusal::of(0)), (Refusal::TooLong, None));
     assert_eq!(
         Refusal::Absent.to_string(),
         "refusal 12: the book holds no such record: ask for the key of the text to see which record \
