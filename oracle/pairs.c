@@ -4,6 +4,7 @@
 #include "hostpath.h"
 
 /* Below, made by bin/interface: wide calls. */
+
 void inner_hp_book_oldest(struct hp_pair *answer, const uint8_t *book, size_t book_len, const uint8_t *client, size_t client_len);
 
 struct hp_pair hp_book_oldest(const uint8_t *book, size_t book_len, const uint8_t *client, size_t client_len) {

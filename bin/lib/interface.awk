@@ -203,7 +203,7 @@ function c_arguments(n,    i, all) {
 # A C function that hands on to inner_.., which answers through a pointer.
 function around(n,    i, passed) {
     for (i = 1; i <= count[n]; i++) passed = passed ", " name[n, i] (type[n, i] ~ /^u/ ? "" : ", " name[n, i] "_len")
-    say("void inner_hp_" call[n] "(" c_type(answer[n]) " *answer, " c_arguments(n) ");\n")
+    say("\nvoid inner_hp_" call[n] "(" c_type(answer[n]) " *answer, " c_arguments(n) ");\n")
     say(c_prototype(n) " {\n    " c_type(answer[n]) " answer;")
     say("    inner_hp_" call[n] "(&answer" passed ");\n    return answer;\n}")
 }

@@ -13,7 +13,7 @@ pub fn validate_identifier_length(id: &[u8], min: u64, max: u64) -> Result<(), R
     done(raw::validate_identifier_length(id, min, max))
 }
 
-/// With `-` and any counter after it the prefix has a length from `min` to `max`. 2, 6.
+/// The prefix is not empty, and with `-` and any counter after it has from `min` to `max` bytes. 2, 6.
 pub fn validate_prefix_length(prefix: &[u8], min: u64, max: u64) -> Result<(), Refusal> {
     done(raw::validate_prefix_length(prefix, min, max))
 }
