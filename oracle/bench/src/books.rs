@@ -108,7 +108,7 @@ impl Desk {
     }
 }
 
-/// The largest refusal of all keys' readings.
+/// Reads every key, up to the first that is refused.
 fn read_all(keys: &[Vec<u8>]) -> u8 {
     let mut out = [0; READING];
     let read = |key: &Vec<u8>| {
@@ -116,7 +116,7 @@ fn read_all(keys: &[Vec<u8>]) -> u8 {
         keep(&out);
         refusal
     };
-    keys.iter().map(read).max().unwrap_or(0)
+    keys.iter().map(read).find(|refusal| *refusal != 0).unwrap_or(0)
 }
 
 /// One operation so many times, for a count of its instructions.
