@@ -35,7 +35,7 @@ impl Shown {
     }
 }
 
-/// Some fields of the original have no name; those of the crate have none to be held to there.
+/// Names of fields are compared where the original has them.
 fn ask(set: &mut Set, text: &[u8]) {
     set.count();
     let ours = hostpath::Path::read(text);
@@ -53,7 +53,7 @@ fn ask(set: &mut Set, text: &[u8]) {
     }
 }
 
-/// Every two of the good parts of each kind in turn, and paths by chance.
+/// Good parts of each kind in changing company, and paths by chance.
 fn typed(set: &mut Set, size: Size) {
     for shape in KINDS {
         for turn in 0..20 {

@@ -4,11 +4,14 @@ use core::fmt;
 use crate::{ascii, done, raw, written, Refusal, PATH_MOST};
 use crate::{ChannelId, ClientId, ConnectionId, PortId, Sequence, UpgradePath};
 
-/// A reading's bytes.
+/// The bytes of a reading by [`raw::read`].
 pub const READING: usize = 26;
 
 /// A path: cases and fields have the names that ibc-rs has for them, and stand in the order of their
 /// kinds, from 1 to 19. Its identifiers are borrowed from the text that was read.
+///
+/// In the texts below C is a client, K a connection, P a port, H a channel, S a sequence, R-h a revision
+/// number and height, U an upgrade path and n a height.
 #[derive(Clone, Copy, Debug, PartialEq, Eq, PartialOrd, Ord, Hash)]
 #[allow(missing_docs)] // a field's name says all: docs/MIGRATING.md has them beside those of ibc-rs
 pub enum Path<'a> {
@@ -203,7 +206,7 @@ impl<'a> Path<'a> {
     }
 }
 
-/// The rendering.
+/// The rendering, and an error where [`Path::render`] with room enough is refused.
 impl fmt::Display for Path<'_> {
     fn fmt(&self, out: &mut fmt::Formatter<'_>) -> fmt::Result {
         let mut room = [0; PATH_MOST];
