@@ -8,7 +8,7 @@
  * its length, numbers and value are 0.
  *
  * The numbers after a call are its refusals, in the order in which they are looked for; 0 is done.
- * The library is proved in Rattle; rust/hostpath has the same calls for Rust.
+ * The library is proved in Rattle; rust/hostpath has the same calls for Rust, and examples/path.c uses them.
  */
 #ifndef HOSTPATH_H
 #define HOSTPATH_H
@@ -20,31 +20,110 @@
 extern "C" {
 #endif
 
-enum hp_refusal {
-    HP_DONE = 0,
-    HP_TOO_LONG = 1,      /* a text to be read, or a rendering, of more than 4,096 bytes */
-    HP_NOT_ASCII = 2,     /* a byte of 128 or more */
-    HP_NOT_A_PATH = 3,    /* no kind fits */
-    HP_NO_ROOM = 4,       /* out is too short */
-    HP_BAD_CHAR = 5,      /* a byte that no identifier has */
-    HP_BAD_LENGTH = 6,    /* an identifier too short or too long, or a value that is not 32 bytes */
-    HP_BAD_PREFIX = 7,    /* not the name and `-`, or a leading zero after them */
-    HP_BAD_NUMBER = 8,    /* no number after them */
-    HP_BAD_BOOK = 9,      /* a buffer that is no book */
-    HP_KEY_TOO_LONG = 10, /* a rendering of more than 255 bytes */
-    HP_FULL = 11,         /* no free slot for a new key */
-    HP_ABSENT = 12,       /* no such record */
-    HP_BAD_SEGMENT = 13,  /* `/` in an upgrade path */
-    HP_BAD_KIND = 14      /* a kind that is not from 1 to 19 */
+/* The kinds of path: C is a client, K a connection, P a port, H a channel, S a sequence, R-h a
+ * revision number and height, U an upgrade path, n a height. */
+enum hp_kind {
+    HP_NEXT_CLIENT_SEQUENCE = 1,     /* nextClientSequence */
+    HP_NEXT_CONNECTION_SEQUENCE = 2, /* nextConnectionSequence */
+    HP_NEXT_CHANNEL_SEQUENCE = 3,    /* nextChannelSequence */
+    HP_CLIENT_STATE = 4,             /* clients/C/clientState */
+    HP_CLIENT_CONSENSUS_STATE = 5,   /* clients/C/consensusStates/R-h */
+    HP_CLIENT_UPDATE_TIME = 6,       /* clients/C/consensusStates/R-h/processedTime */
+    HP_CLIENT_UPDATE_HEIGHT = 7,     /* clients/C/consensusStates/R-h/processedHeight */
+    HP_CLIENT_CONNECTION = 8,        /* clients/C/connections */
+    HP_CONNECTION = 9,               /* connections/K */
+    HP_PORTS = 10,                   /* ports/P */
+    HP_CHANNEL_END = 11,             /* channelEnds/ports/P/channels/H */
+    HP_SEQ_SEND = 12,                /* nextSequenceSend/ports/P/channels/H */
+    HP_SEQ_RECV = 13,                /* nextSequenceRecv/ports/P/channels/H */
+    HP_SEQ_ACK = 14,                 /* nextSequenceAck/ports/P/channels/H */
+    HP_COMMITMENT = 15,              /* commitments/ports/P/channels/H/sequences/S */
+    HP_ACK = 16,                     /* acks/ports/P/channels/H/sequences/S */
+    HP_RECEIPT = 17,                 /* receipts/ports/P/channels/H/sequences/S */
+    HP_UPGRADE_CLIENT_STATE = 18,    /* U/n/upgradedClient */
+    HP_UPGRADE_CONSENSUS_STATE = 19  /* U/n/upgradedConsState */
 };
 
+/* What `first`, `second`, `a` and `b` of hp_render are, and in this order the two identifiers and the
+ * two numbers of a reading. What a kind lacks is empty or 0 in a reading, and may be anything in hp_render.
+ *
+ *    kind        first            second       a                   b
+ *    1 to 3
+ *    4, 8        client C
+ *    5, 6, 7     client C                      revision number R   revision height h
+ *    9           connection K
+ *    10          port P
+ *    11 to 14    port P           channel H
+ *    15, 16, 17  port P           channel H    sequence S
+ *    18, 19      upgrade path U                height n
+ */
+
+/* Sizes in bytes, and of a book in slots. */
+enum {
+    HP_READING = 26,       /* a reading */
+    HP_ITERATION_KEY = 38, /* an iteration key */
+    HP_PATH_MOST = 4096,   /* the longest text of a path, and the longest rendering */
+    HP_BOOK_HEAD = 8,      /* what stands before a book's slots */
+    HP_BOOK_SLOT = 288,    /* a slot: HP_BOOK_KEY, HP_BOOK_VALUE and the key's length */
+    HP_BOOK_KEY = 255,     /* the longest key */
+    HP_BOOK_VALUE = 32,    /* a value */
+    HP_BOOK_MOST = 200     /* the slots of the largest book; the smallest has one */
+};
+
+/* A book of so many slots is a buffer of this size.
+ * Header: `HPB`, version 1 and the count of records in 2 bytes each, high byte first, and a zero byte.
+ * Slot: the key's length, 1 byte; the key, HP_BOOK_KEY bytes, zero filled; the value, HP_BOOK_VALUE
+ * bytes. Used slots come first, in strictly rising byte order of key, and the others are all zero. A
+ * key is the rendering of a path. Any other buffer is no book, and every call but hp_book_new looks. */
+#define HP_BOOK_SIZE(slots) (HP_BOOK_HEAD + HP_BOOK_SLOT * (slots))
+
+/* Why a call was refused, and what to do about it. */
+enum hp_refusal {
+    HP_DONE = 0,
+    /* Below, made by bin/interface: refusals in c. */
+    /* the text, or the path that it makes, has more than 4,096 bytes: shorten it */
+    HP_TOO_LONG = 1,
+    /* a byte of the text is 128 or more: write the text in ASCII alone */
+    HP_NOT_ASCII = 2,
+    /* the text fits none of the nineteen kinds of path: hold its words and numbers against the table of kinds */
+    HP_NOT_A_PATH = 3,
+    /* the lent buffer is shorter than the answer: lend a longer one */
+    HP_NO_ROOM = 4,
+    /* a byte is none of A-Z, a-z, 0-9 and . _ + - # [ ] < >, which identifiers are made of: take it out */
+    HP_BAD_CHAR = 5,
+    /* the identifier is too short or too long, or the value is not of 32 bytes: give one of the right length */
+    HP_BAD_LENGTH = 6,
+    /* the identifier is not its name, a dash and a number without leading zeros: write it as in channel-7 */
+    HP_BAD_PREFIX = 7,
+    /* after the dash stands no number from 0 to 18446744073709551615: write it as in channel-7 */
+    HP_BAD_NUMBER = 8,
+    /* the buffer holds no book: make a new one in it, or lend the bytes that a book left */
+    HP_BAD_BOOK = 9,
+    /* the path's key has more than the 255 bytes that a book keeps: shorten its upgrade path */
+    HP_KEY_TOO_LONG = 10,
+    /* every slot of the book holds another key: remove a record, or take a book of more slots */
+    HP_FULL = 11,
+    /* the book holds no such record: ask for the key of the text to see which record was looked for */
+    HP_ABSENT = 12,
+    /* the upgrade path has a slash: give it as one piece, such as upgradedIBCState */
+    HP_BAD_SEGMENT = 13,
+    /* the kind is not a number from 1 to 19: take it from the table of kinds */
+    HP_BAD_KIND = 14
+    /* Above, made by bin/interface. */
+};
+
+/* What calls answer: a refusal, or HP_DONE, and what they give, which is 0 where they refuse. */
+/* Below, made by bin/interface: answers in c. */
 struct hp_written { uint8_t refusal; uint64_t length; };
-struct hp_pair { uint8_t refusal; uint64_t number; uint64_t height; };
 struct hp_flag { uint8_t refusal; uint8_t value; };
+struct hp_pair { uint8_t refusal; uint64_t number; uint64_t height; };
+/* Above, made by bin/interface. */
+
+/* Below, made by bin/interface: calls in c. */
 
 /* Identifier checks. */
 
-/* All bytes are A-Z, a-z, 0-9 or one of . _ + - # [ ] < >: 2, 5. */
+/* All bytes are A-Z, a-z, 0-9 or one of `. _ + - # [ ] < >`: 2, 5. */
 uint8_t hp_validate_identifier_chars(const uint8_t *id, size_t id_len);
 /* The length is from min, raised to 1, to max: 2, 6. */
 uint8_t hp_validate_identifier_length(const uint8_t *id, size_t id_len, uint64_t min, uint64_t max);
@@ -72,8 +151,8 @@ struct hp_written hp_channel_id_new(uint64_t counter, uint8_t *out, size_t out_l
 
 /* Paths. */
 
-/* The reading in 26 bytes, high bytes first: kind; 1 exact or 0 loose; start and length of the first
- * identifier and of the second, 2 bytes each; two numbers of 8 bytes. What the kind lacks is 0: 1, 2, 3, 4. */
+/* The reading in 26 bytes, high bytes first: kind; 1 exact or 0 loose; start and length of the first identifier
+ * and of the second, 2 bytes each; two numbers of 8 bytes. What the kind lacks is 0: 1, 2, 3, 4. */
 uint8_t hp_read(const uint8_t *text, size_t text_len, uint8_t *out, size_t out_len);
 /* The rendering of the text: 1, 2, 3, 4. */
 struct hp_written hp_key(const uint8_t *text, size_t text_len, uint8_t *out, size_t out_len);
@@ -117,30 +196,19 @@ struct hp_written hp_receipt_prefix(uint8_t *out, size_t out_len);
 
 /* Books. */
 
-/* A book of C slots, C from 1 to HP_BOOK_MOST, is a buffer of HP_BOOK_HEAD + HP_BOOK_SLOT * C bytes.
- * Header: `HPB`, version 1 and the count of records in 2 bytes each, high byte first, and a zero byte.
- * Slot: the key's length, 1 byte; the key, HP_BOOK_KEY bytes, zero filled; the value, HP_BOOK_VALUE
- * bytes. Used slots come first, in strictly rising byte order of key, and the others are all zero. A
- * key is the rendering of a path. Any other buffer is no book, and every call but the first looks. */
-enum {
-    HP_BOOK_HEAD = 8,
-    HP_BOOK_SLOT = 288,
-    HP_BOOK_MOST = 200,
-    HP_BOOK_KEY = 255,
-    HP_BOOK_VALUE = 32
-};
-
 /* Makes the buffer, whatever it holds, a book without records; its size alone is looked at: 9. */
 uint8_t hp_book_new(uint8_t *book, size_t book_len);
 /* The rendering of the text holds the value from now on, anew or in place of what it held: 9, 1, 2, 3, 10, 6, 11. */
 uint8_t hp_book_write(uint8_t *book, size_t book_len, const uint8_t *text, size_t text_len, const uint8_t *value, size_t value_len);
 /* The rendering of the text holds nothing from now on: 9, 1, 2, 3, 10, 12. */
 uint8_t hp_book_remove(uint8_t *book, size_t book_len, const uint8_t *text, size_t text_len);
-/* What the rendering of the text holds, in 32 bytes; wants that room even where it holds nothing: 9, 1, 2, 3, 10, 4, 12. */
+/* What the rendering of the text holds, in 32 bytes; wants that room even where it holds nothing:
+ * 9, 1, 2, 3, 10, 4, 12. */
 uint8_t hp_book_lookup(const uint8_t *book, size_t book_len, const uint8_t *text, size_t text_len, uint8_t *out, size_t out_len);
-/* Revision number and height of the client's first record `clients/C/consensusStates/R-h` in byte order of
- * key, in which 10 stands before 9: 9, the client's 2, 5, 6; then 12. */
+/* Revision number and height of the client's first record `clients/C/consensusStates/R-h` in byte order of key, in
+ * which 10 stands before 9: 9, the client's 2, 5, 6; then 12. */
 struct hp_pair hp_book_oldest(const uint8_t *book, size_t book_len, const uint8_t *client, size_t client_len);
+/* Above, made by bin/interface. */
 
 #ifdef __cplusplus
 }

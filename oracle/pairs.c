@@ -3,6 +3,8 @@
  * such call gets a function around it. */
 #include "hostpath.h"
 
+/* Below, made by bin/interface: wide calls. */
+
 void inner_hp_book_oldest(struct hp_pair *answer, const uint8_t *book, size_t book_len, const uint8_t *client, size_t client_len);
 
 struct hp_pair hp_book_oldest(const uint8_t *book, size_t book_len, const uint8_t *client, size_t client_len) {
@@ -10,3 +12,4 @@ struct hp_pair hp_book_oldest(const uint8_t *book, size_t book_len, const uint8_
     inner_hp_book_oldest(&answer, book, book_len, client, client_len);
     return answer;
 }
+/* Above, made by bin/interface. */

@@ -1,21 +1,56 @@
 #!/bin/sh
-# Holds the three places that name the C interface to each other: what crates/hostpath exports, what include/hostpath.h
-# declares, and what rust/hostpath declares. Last line: 'N passed, M failed'.
+# Holds what declares and calls the C interface to its source, crates/hostpath/src/lib.rt: bin/interface makes what is
+# committed, and it refuses copies in which an argument, a type, a field or a sentence is another. Last line: 'N passed, M failed'.
 . "$(dirname "$0")/lib/start.sh"
 
-sed -n 's/^pub extern "C" fn \(hp_[a-z0-9_]*\)(.*/\1/p' crates/hostpath/src/lib.rt | sort >"$work/exported"
-grep -o '^[a-z][a-z0-9_ ]* hp_[a-z0-9_]*(' include/hostpath.h | grep -o 'hp_[a-z0-9_]*(' | tr -d '(' | sort >"$work/hostpath.h"
-grep -ho 'fn hp_[a-z0-9_]*(' rust/hostpath/src/*.rs | sed 's/fn \(.*\)(/\1/' | sort -u >"$work/hostpath"
+if bin/interface --check; then
+    passed=$((passed + 1))
+else
+    echo 'interface: run bin/interface'
+    failed=$((failed + 1))
+fi
 
-for place in hostpath.h hostpath; do
-    comm -12 "$work/exported" "$work/$place" >"$work/both"
-    passed=$((passed + $(wc -l <"$work/both")))
-    for name in $(comm -3 "$work/exported" "$work/$place"); do
-        echo "interface: $name is not both exported and declared by $place"
+mkdir -p "$work/oracle/compare" "$work/rust/hostpath"
+cp -R bin crates include "$work"
+cp oracle/pairs.c "$work/oracle"
+cp -R oracle/compare/src "$work/oracle/compare"
+cp -R rust/hostpath/src "$work/rust/hostpath"
+
+# In a copy one place of a file is changed, as sed says: that is refused with words that have this in them.
+refuses() {
+    file=$1 change=$2 words=$3
+    sed "$change" "$file" >"$work/$file"
+    if cmp -s "$file" "$work/$file"; then
+        echo "interface: nothing to change in $file by $change"
         failed=$((failed + 1))
-    done
+    elif "$work/bin/interface" --check >"$work/said" 2>&1 || ! grep -qF "$words" "$work/said"; then
+        echo "interface: $file changed by $change, and it is not said"
+        failed=$((failed + 1))
+    else
+        passed=$((passed + 1))
+    fi
+    cp "$file" "$work/$file"
+}
+
+# the order of two arguments, in each place that has them
+refuses include/hostpath.h '/ hp_render(/s/uint64_t a, uint64_t b/uint64_t b, uint64_t a/' include/hostpath.h
+refuses rust/hostpath/src/raw.rs '/ hp_render(/s/a: u64, b: u64/b: u64, a: u64/' rust/hostpath/src/raw.rs
+refuses rust/hostpath/src/raw.rs '/c::hp_render(/s/, a, b,/, b, a,/' rust/hostpath/src/raw.rs
+refuses oracle/compare/src/dispatch.rs 's/render(kind, texts\[0\], texts\[1\]/render(kind, texts[1], texts[0]/' oracle/compare/src/dispatch.rs
+for file in include/hostpath.h rust/hostpath/src/raw.rs; do
+    refuses crates/hostpath/src/lib.rt '/fn hp_acks_path(/s/port: &\[u8\], channel: &\[u8\]/channel: \&[u8], port: \&[u8]/' "$file"
 done
-[ -s "$work/exported" ] || { echo 'interface: nothing is exported'; failed=$((failed + 1)); }
+# a type, a buffer that is no longer lent to be written, the order of an answer's fields
+refuses include/hostpath.h '/ hp_is_provable(/s/uint8_t kind/uint64_t kind/' include/hostpath.h
+refuses rust/hostpath/src/raw.rs '/ hp_book_write(/s/\*mut u8/*const u8/' rust/hostpath/src/raw.rs
+refuses include/hostpath.h '/^struct hp_pair {/s/number\(.*\)height/height\1number/' include/hostpath.h
+# a number and a sentence of a refusal
+refuses crates/text/src/refusal.rt 's/ABSENT: u8 = 12/ABSENT: u8 = 15/' rust/hostpath/src/refusal.rs
+refuses crates/hostpath/src/lib.rt '/^\/\/ FULL: /d' 'no sentence says what FULL is'
+refuses crates/hostpath/src/lib.rt 's/^\/\/ The C interface: /\/\/ EMPTY: /' 'a sentence is of no refusal'
+# a call without a word, and one that takes what no C call can be given
+refuses crates/hostpath/src/lib.rt '/^\/\/ The rendering of the text: /d' 'hp_key has no comment above it'
+refuses crates/hostpath/src/lib.rt '/fn hp_is_provable(/s/u8)/bool)/' 'hp_is_provable takes a bool'
 
 echo "$passed passed, $failed failed"
 [ "$failed" -eq 0 ]

@@ -1,4 +1,21 @@
 // The C interface: what a program that is not Rattle's calls. Each function only hands its arguments on.
+// `bin/interface` makes of this file what declares and calls the interface elsewhere. The comment above a function says what
+// it gives and its refusals in the order in which they are looked for; a comment that stands alone heads what follows.
+// What a refusal, by its name in crates/text/src/refusal.rt, tells whoever asked:
+// TOO_LONG: the text, or the path that it makes, has more than 4,096 bytes: shorten it
+// NOT_ASCII: a byte of the text is 128 or more: write the text in ASCII alone
+// NOT_A_PATH: the text fits none of the nineteen kinds of path: hold its words and numbers against the table of kinds
+// NO_ROOM: the lent buffer is shorter than the answer: lend a longer one
+// BAD_CHAR: a byte is none of A-Z, a-z, 0-9 and . _ + - # [ ] < >, which identifiers are made of: take it out
+// BAD_LENGTH: the identifier is too short or too long, or the value is not of 32 bytes: give one of the right length
+// BAD_PREFIX: the identifier is not its name, a dash and a number without leading zeros: write it as in channel-7
+// BAD_NUMBER: after the dash stands no number from 0 to 18446744073709551615: write it as in channel-7
+// BAD_BOOK: the buffer holds no book: make a new one in it, or lend the bytes that a book left
+// KEY_TOO_LONG: the path's key has more than the 255 bytes that a book keeps: shorten its upgrade path
+// FULL: every slot of the book holds another key: remove a record, or take a book of more slots
+// ABSENT: the book holds no such record: ask for the key of the text to see which record was looked for
+// BAD_SEGMENT: the upgrade path has a slash: give it as one piece, such as upgradedIBCState
+// BAD_KIND: the kind is not a number from 1 to 19: take it from the table of kinds
 use book::oldest::Pair;
 use identifiers::channel_id::write_channel_id;
 use identifiers::client_id::write_client_id;
@@ -23,6 +40,9 @@ ghost use Rattle.book.specs.Book.{Current};
 ghost use Rattle.book.specs.Outcome.{Wrote, Removed, Looked, Made};
 ghost use Rattle.book.specs.Oldest.{Oldest};
 
+// Identifier checks.
+
+// All bytes are A-Z, a-z, 0-9 or one of `. _ + - # [ ] < >`: 2, 5.
 #[no_mangle]
 pub extern "C" fn hp_validate_identifier_chars(id: &[u8]) -> u8
     ensures { λ r. ⌜ r ≡ charsOf (now (id .entry)) ⌝ }
@@ -30,6 +50,7 @@ pub extern "C" fn hp_validate_identifier_chars(id: &[u8]) -> u8
     validate::validate_identifier_chars(id)
 }
 
+// The length is from min, raised to 1, to max: 2, 6.
 #[no_mangle]
 pub extern "C" fn hp_validate_identifier_length(id: &[u8], min: u64, max: u64) -> u8
     ensures { λ r. ⌜ r ≡ lengthOf (now (id .entry)) min max ⌝ }
@@ -37,6 +58,7 @@ pub extern "C" fn hp_validate_identifier_length(id: &[u8], min: u64, max: u64) -
     validate::validate_identifier_length(id, min, max)
 }
 
+// The length is from min - 2, raised to 1, to max - 21, both stopping at 0: 2, 6.
 #[no_mangle]
 pub extern "C" fn hp_validate_prefix_length(prefix: &[u8], min: u64, max: u64) -> u8
     ensures { λ r. ⌜ r ≡ prefixLengthOf (now (prefix .entry)) min max ⌝ }
@@ -44,6 +66,7 @@ pub extern "C" fn hp_validate_prefix_length(prefix: &[u8], min: u64, max: u64) -
     validate::validate_prefix_length(prefix, min, max)
 }
 
+// The name, `-` and an index; either text may give 2: 2, 7, 8.
 #[no_mangle]
 pub extern "C" fn hp_validate_named_u64_index(id: &[u8], name: &[u8]) -> u8
     ensures { λ r. ⌜ r ≡ namedIndexOf (now (id .entry)) (now (name .entry)) ⌝ }
@@ -51,6 +74,7 @@ pub extern "C" fn hp_validate_named_u64_index(id: &[u8], name: &[u8]) -> u8
     validate::validate_named_u64_index(id, name)
 }
 
+// A client type of 7 to 43 bytes: 2, 5, 6.
 #[no_mangle]
 pub extern "C" fn hp_validate_client_type(id: &[u8]) -> u8
     ensures { λ r. ⌜ r ≡ checkOf clientType (now (id .entry)) ⌝ }
@@ -58,6 +82,7 @@ pub extern "C" fn hp_validate_client_type(id: &[u8]) -> u8
     validate::validate_client_type(id)
 }
 
+// A client identifier of 9 to 64 bytes: 2, 5, 6.
 #[no_mangle]
 pub extern "C" fn hp_validate_client_identifier(id: &[u8]) -> u8
     ensures { λ r. ⌜ r ≡ checkOf client (now (id .entry)) ⌝ }
@@ -65,6 +90,7 @@ pub extern "C" fn hp_validate_client_identifier(id: &[u8]) -> u8
     validate::validate_client_identifier(id)
 }
 
+// A connection identifier of 10 to 64 bytes, `connection-` and an index: 2, 5, 6, 7, 8.
 #[no_mangle]
 pub extern "C" fn hp_validate_connection_identifier(id: &[u8]) -> u8
     ensures { λ r. ⌜ r ≡ checkOf connection (now (id .entry)) ⌝ }
@@ -72,6 +98,7 @@ pub extern "C" fn hp_validate_connection_identifier(id: &[u8]) -> u8
     validate::validate_connection_identifier(id)
 }
 
+// A port identifier of 2 to 128 bytes: 2, 5, 6.
 #[no_mangle]
 pub extern "C" fn hp_validate_port_identifier(id: &[u8]) -> u8
     ensures { λ r. ⌜ r ≡ checkOf port (now (id .entry)) ⌝ }
@@ -79,6 +106,7 @@ pub extern "C" fn hp_validate_port_identifier(id: &[u8]) -> u8
     validate::validate_port_identifier(id)
 }
 
+// A channel identifier of 8 to 64 bytes, `channel-` and an index: 2, 5, 6, 7, 8.
 #[no_mangle]
 pub extern "C" fn hp_validate_channel_identifier(id: &[u8]) -> u8
     ensures { λ r. ⌜ r ≡ checkOf channel (now (id .entry)) ⌝ }
@@ -86,6 +114,9 @@ pub extern "C" fn hp_validate_channel_identifier(id: &[u8]) -> u8
     validate::validate_channel_identifier(id)
 }
 
+// Identifiers from a counter.
+
+// The client type without the bytes 9 to 13 and 32 at its ends, `-` and the counter: 2, 5, 6, 4.
 #[no_mangle]
 pub extern "C" fn hp_client_id_new(client_type: &[u8], counter: u64, out: &mut [u8]) -> Written
     ensures { λ r. ⌜ r ≡ answer (newClient (now («client_type» .entry)) counter) (length (now (out .entry))) ⌝ }
@@ -94,6 +125,7 @@ pub extern "C" fn hp_client_id_new(client_type: &[u8], counter: u64, out: &mut [
     write_client_id(client_type, counter, out)
 }
 
+// `channel-` and the counter: 4.
 #[no_mangle]
 pub extern "C" fn hp_channel_id_new(counter: u64, out: &mut [u8]) -> Written
     ensures { λ r. ⌜ r ≡ answer (newChannel counter) (length (now (out .entry))) ⌝ }
@@ -102,7 +134,10 @@ pub extern "C" fn hp_channel_id_new(counter: u64, out: &mut [u8]) -> Written
     write_channel_id(counter, out)
 }
 
-// The reading of 26 bytes; the answer is the refusal number alone.
+// Paths.
+
+// The reading in 26 bytes, high bytes first: kind; 1 exact or 0 loose; start and length of the first identifier
+// and of the second, 2 bytes each; two numbers of 8 bytes. What the kind lacks is 0: 1, 2, 3, 4.
 #[no_mangle]
 pub extern "C" fn hp_read(text: &[u8], out: &mut [u8]) -> u8
     ensures { λ r. ⌜ r ≡ answer (readingBytes (now (text .entry))) (length (now (out .entry))) .refusal ⌝ }
@@ -112,6 +147,7 @@ pub extern "C" fn hp_read(text: &[u8], out: &mut [u8]) -> u8
     read.refusal
 }
 
+// The rendering of the text: 1, 2, 3, 4.
 #[no_mangle]
 pub extern "C" fn hp_key(text: &[u8], out: &mut [u8]) -> Written
     ensures { λ r. ⌜ r ≡ answer (keyOf (now (text .entry))) (length (now (out .entry))) ⌝ }
@@ -120,6 +156,7 @@ pub extern "C" fn hp_key(text: &[u8], out: &mut [u8]) -> Written
     key::write_key(text, out)
 }
 
+// The path of a kind; what the kind lacks has no influence: 14, first, second (an upgrade path: 2, 13), 1, 4.
 #[no_mangle]
 pub extern "C" fn hp_render(
     kind: u8,
@@ -135,6 +172,7 @@ pub extern "C" fn hp_render(
     render::render(kind, first, second, a, b, out)
 }
 
+// 1 where paths of the kind are provable: 14.
 #[no_mangle]
 pub extern "C" fn hp_is_provable(kind: u8) -> Flag
     ensures { λ r. ⌜ r ≡ provableFlag kind ⌝ }
@@ -142,6 +180,7 @@ pub extern "C" fn hp_is_provable(kind: u8) -> Flag
     path::provable::kind_is_provable(kind)
 }
 
+// `iterateConsensusStates`, number and height, 38 bytes: 4.
 #[no_mangle]
 pub extern "C" fn hp_iteration_key(number: u64, height: u64, out: &mut [u8]) -> Written
     ensures { λ r. ⌜ r ≡ answer (text (iterationKey number height)) (length (now (out .entry))) ⌝ }
@@ -150,6 +189,9 @@ pub extern "C" fn hp_iteration_key(number: u64, height: u64, out: &mut [u8]) -> 
     render::iteration::iteration_key(RevisionNumber(number), RevisionHeight(height), out)
 }
 
+// Texts above and below a path.
+
+// `clients`: 4.
 #[no_mangle]
 pub extern "C" fn hp_client_state_prefix(out: &mut [u8]) -> Written
     ensures { λ r. ⌜ r ≡ answer (text (bytes "clients")) (length (now (out .entry))) ⌝ }
@@ -158,6 +200,7 @@ pub extern "C" fn hp_client_state_prefix(out: &mut [u8]) -> Written
     render::texts::client_state_prefix(out)
 }
 
+// `clientState`: 4.
 #[no_mangle]
 pub extern "C" fn hp_client_state_leaf(out: &mut [u8]) -> Written
     ensures { λ r. ⌜ r ≡ answer (text (bytes "clientState")) (length (now (out .entry))) ⌝ }
@@ -166,6 +209,7 @@ pub extern "C" fn hp_client_state_leaf(out: &mut [u8]) -> Written
     render::texts::client_state_leaf(out)
 }
 
+// `clients/C/consensusStates`: the client's 2, 5, 6; then 4.
 #[no_mangle]
 pub extern "C" fn hp_consensus_state_parent(client: &[u8], out: &mut [u8]) -> Written
     ensures { λ r. ⌜ r ≡ answer (textOf consensusParent (carried (now (client .entry)) [] 0 0)) (length (now (out .entry))) ⌝ }
@@ -174,6 +218,7 @@ pub extern "C" fn hp_consensus_state_parent(client: &[u8], out: &mut [u8]) -> Wr
     render::texts::consensus_state_parent(client, out)
 }
 
+// `consensusStates/R-h`: 4.
 #[no_mangle]
 pub extern "C" fn hp_consensus_state_leaf(number: u64, height: u64, out: &mut [u8]) -> Written
     ensures { λ r. ⌜ r ≡ answer (textOf (consensusLeaf []) (carried [] [] number height)) (length (now (out .entry))) ⌝ }
@@ -182,6 +227,7 @@ pub extern "C" fn hp_consensus_state_leaf(number: u64, height: u64, out: &mut [u
     render::texts::consensus_state_leaf(RevisionNumber(number), RevisionHeight(height), out)
 }
 
+// `consensusStates/R-h/processedTime`: 4.
 #[no_mangle]
 pub extern "C" fn hp_update_time_leaf(number: u64, height: u64, out: &mut [u8]) -> Written
     ensures { λ r. ⌜ r ≡ answer (textOf (consensusLeaf (word (bytes "processedTime") ∷ [])) (carried [] [] number height)) (length (now (out .entry))) ⌝ }
@@ -190,6 +236,7 @@ pub extern "C" fn hp_update_time_leaf(number: u64, height: u64, out: &mut [u8]) 
     render::texts::update_time_leaf(RevisionNumber(number), RevisionHeight(height), out)
 }
 
+// `consensusStates/R-h/processedHeight`: 4.
 #[no_mangle]
 pub extern "C" fn hp_update_height_leaf(number: u64, height: u64, out: &mut [u8]) -> Written
     ensures { λ r. ⌜ r ≡ answer (textOf (consensusLeaf (word (bytes "processedHeight") ∷ [])) (carried [] [] number height)) (length (now (out .entry))) ⌝ }
@@ -198,6 +245,7 @@ pub extern "C" fn hp_update_height_leaf(number: u64, height: u64, out: &mut [u8]
     render::texts::update_height_leaf(RevisionNumber(number), RevisionHeight(height), out)
 }
 
+// `connections`: 4.
 #[no_mangle]
 pub extern "C" fn hp_connection_prefix(out: &mut [u8]) -> Written
     ensures { λ r. ⌜ r ≡ answer (text (bytes "connections")) (length (now (out .entry))) ⌝ }
@@ -206,6 +254,7 @@ pub extern "C" fn hp_connection_prefix(out: &mut [u8]) -> Written
     render::texts::connection_prefix(out)
 }
 
+// `channelEnds`: 4.
 #[no_mangle]
 pub extern "C" fn hp_channel_end_prefix(out: &mut [u8]) -> Written
     ensures { λ r. ⌜ r ≡ answer (text (bytes "channelEnds")) (length (now (out .entry))) ⌝ }
@@ -214,6 +263,7 @@ pub extern "C" fn hp_channel_end_prefix(out: &mut [u8]) -> Written
     render::texts::channel_end_prefix(out)
 }
 
+// `commitments/ports/P/channels/H/sequences`: the port's 2, 5, 6; the channel's 2, 5, 6, 7, 8; then 4.
 #[no_mangle]
 pub extern "C" fn hp_commitments_path(port: &[u8], channel: &[u8], out: &mut [u8]) -> Written
     ensures { λ r. ⌜ r ≡ answer (textOf (packetsPath (bytes "commitments")) (carried (now (port .entry)) (now (channel .entry)) 0 0)) (length (now (out .entry))) ⌝ }
@@ -222,6 +272,7 @@ pub extern "C" fn hp_commitments_path(port: &[u8], channel: &[u8], out: &mut [u8
     render::texts::commitments_path(port, channel, out)
 }
 
+// `acks/ports/P/channels/H/sequences`: the port's 2, 5, 6; the channel's 2, 5, 6, 7, 8; then 4.
 #[no_mangle]
 pub extern "C" fn hp_acks_path(port: &[u8], channel: &[u8], out: &mut [u8]) -> Written
     ensures { λ r. ⌜ r ≡ answer (textOf (packetsPath (bytes "acks")) (carried (now (port .entry)) (now (channel .entry)) 0 0)) (length (now (out .entry))) ⌝ }
@@ -230,6 +281,7 @@ pub extern "C" fn hp_acks_path(port: &[u8], channel: &[u8], out: &mut [u8]) -> W
     render::texts::acks_path(port, channel, out)
 }
 
+// `receipts/ports/P/channels/H/sequences`: the port's 2, 5, 6; the channel's 2, 5, 6, 7, 8; then 4.
 #[no_mangle]
 pub extern "C" fn hp_receipts_path(port: &[u8], channel: &[u8], out: &mut [u8]) -> Written
     ensures { λ r. ⌜ r ≡ answer (textOf (packetsPath (bytes "receipts")) (carried (now (port .entry)) (now (channel .entry)) 0 0)) (length (now (out .entry))) ⌝ }
@@ -238,6 +290,7 @@ pub extern "C" fn hp_receipts_path(port: &[u8], channel: &[u8], out: &mut [u8]) 
     render::texts::receipts_path(port, channel, out)
 }
 
+// `commitments`: 4.
 #[no_mangle]
 pub extern "C" fn hp_commitment_prefix(out: &mut [u8]) -> Written
     ensures { λ r. ⌜ r ≡ answer (text (bytes "commitments")) (length (now (out .entry))) ⌝ }
@@ -246,6 +299,7 @@ pub extern "C" fn hp_commitment_prefix(out: &mut [u8]) -> Written
     render::texts::commitment_prefix(out)
 }
 
+// `acks`: 4.
 #[no_mangle]
 pub extern "C" fn hp_ack_prefix(out: &mut [u8]) -> Written
     ensures { λ r. ⌜ r ≡ answer (text (bytes "acks")) (length (now (out .entry))) ⌝ }
@@ -254,6 +308,7 @@ pub extern "C" fn hp_ack_prefix(out: &mut [u8]) -> Written
     render::texts::ack_prefix(out)
 }
 
+// `receipts`: 4.
 #[no_mangle]
 pub extern "C" fn hp_receipt_prefix(out: &mut [u8]) -> Written
     ensures { λ r. ⌜ r ≡ answer (text (bytes "receipts")) (length (now (out .entry))) ⌝ }
@@ -262,6 +317,9 @@ pub extern "C" fn hp_receipt_prefix(out: &mut [u8]) -> Written
     render::texts::receipt_prefix(out)
 }
 
+// Books.
+
+// Makes the buffer, whatever it holds, a book without records; its size alone is looked at: 9.
 #[no_mangle]
 pub extern "C" fn hp_book_new(book: &mut [u8]) -> u8
     ensures { λ r. ⌜ Made Current tt (now (book .entry)) r (now (book .exit)) ⌝ }
@@ -269,6 +327,7 @@ pub extern "C" fn hp_book_new(book: &mut [u8]) -> u8
     book::new_book(book)
 }
 
+// The rendering of the text holds the value from now on, anew or in place of what it held: 9, 1, 2, 3, 10, 6, 11.
 #[no_mangle]
 pub extern "C" fn hp_book_write(book: &mut [u8], text: &[u8], value: &[u8]) -> u8
     ensures { λ r. ⌜ Wrote Current (now (book .entry)) (now (text .entry)) (now (value .entry)) r (now (book .exit)) ⌝ }
@@ -276,6 +335,7 @@ pub extern "C" fn hp_book_write(book: &mut [u8], text: &[u8], value: &[u8]) -> u
     book::write(book, text, value)
 }
 
+// The rendering of the text holds nothing from now on: 9, 1, 2, 3, 10, 12.
 #[no_mangle]
 pub extern "C" fn hp_book_remove(book: &mut [u8], text: &[u8]) -> u8
     ensures { λ r. ⌜ Removed Current (now (book .entry)) (now (text .entry)) r (now (book .exit)) ⌝ }
@@ -283,6 +343,8 @@ pub extern "C" fn hp_book_remove(book: &mut [u8], text: &[u8]) -> u8
     book::remove(book, text)
 }
 
+// What the rendering of the text holds, in 32 bytes; wants that room even where it holds nothing:
+// 9, 1, 2, 3, 10, 4, 12.
 #[no_mangle]
 pub extern "C" fn hp_book_lookup(book: &[u8], text: &[u8], out: &mut [u8]) -> u8
     ensures { λ r. ⌜ Looked Current (now (book .entry)) (now (text .entry)) (now (out .entry)) r (now (out .exit)) ⌝ }
@@ -290,6 +352,8 @@ pub extern "C" fn hp_book_lookup(book: &[u8], text: &[u8], out: &mut [u8]) -> u8
     book::lookup(book, text, out)
 }
 
+// Revision number and height of the client's first record `clients/C/consensusStates/R-h` in byte order of key, in
+// which 10 stands before 9: 9, the client's 2, 5, 6; then 12.
 #[no_mangle]
 pub extern "C" fn hp_book_oldest(book: &[u8], client: &[u8]) -> Pair
     ensures { λ r. ⌜ Oldest Current (now (book .entry)) (now (client .entry)) r ⌝ }

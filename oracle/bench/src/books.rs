@@ -2,7 +2,7 @@
 use std::cell::RefCell;
 use std::hint::black_box;
 
-use hostpath::{book_size, Refusal, BOOK_VALUE, READING};
+use hostpath::{book_size, raw, Book, Refusal, BOOK_VALUE, READING};
 use model::path::{render, KINDS};
 
 use crate::family::{keep, Family};
@@ -74,9 +74,9 @@ impl Desk {
     fn new(records: usize) -> Self {
         let keys: Vec<Vec<u8>> = (0..records).map(key).collect();
         let mut full = vec![0; book_size(records)];
-        hostpath::book_new(&mut full).expect("a book's size");
+        let mut book = Book::new(&mut full).expect("a book's size");
         for key in &keys {
-            hostpath::book_write(&mut full, key, &VALUE).expect("it has room");
+            book.write(key, &VALUE).expect("it has room");
         }
         assert_eq!(full[6], records as u8, "the keys differ");
         Self { keys, book: full.clone(), full, turn: 0 }
@@ -87,38 +87,36 @@ impl Desk {
         self.turn += 1;
         let key = black_box(self.keys[self.turn % self.keys.len()].as_slice());
         let book = self.book.as_mut_slice();
-        let done = match operation {
+        let refusal = match operation {
             Readings => read_all(&self.keys),
-            Check => {
-                let answer = hostpath::book_oldest(book, b"").told();
-                (answer == Err(Refusal::BAD_LENGTH)).then_some(()).ok_or(Refusal::BAD_BOOK)
-            }
-            Lookup => hostpath::book_lookup(book, key, &mut black_box([0; BOOK_VALUE])),
-            Replace => hostpath::book_write(book, key, &VALUE),
+            Check => u8::from(raw::book_oldest(book, b"").refusal != Refusal::BadLength.number()),
+            Lookup => raw::book_lookup(book, key, &mut black_box([0; BOOK_VALUE])),
+            Replace => raw::book_write(book, key, &VALUE),
             Fresh => {
                 book.copy_from_slice(black_box(&self.full));
-                Ok(())
+                0
             }
             Removal => {
                 book.copy_from_slice(black_box(&self.full));
-                hostpath::book_remove(book, key)
+                raw::book_remove(book, key)
             }
-            Renewal => hostpath::book_remove(book, key)
-                .and_then(|()| hostpath::book_write(book, key, &VALUE)),
-            Oldest => hostpath::book_oldest(book, b"07-tendermint-0").told().map(keep),
+            Renewal => raw::book_remove(book, key) | raw::book_write(book, key, &VALUE),
+            Oldest => black_box(raw::book_oldest(book, b"07-tendermint-0")).refusal,
         };
-        done.unwrap_or_else(|refusal| panic!("{operation:?}: {refusal}"));
+        assert_eq!(refusal, 0, "{operation:?}");
         keep(&self.book);
     }
 }
 
-fn read_all(keys: &[Vec<u8>]) -> Result<(), Refusal> {
+/// Reads every key, up to the first that is refused.
+fn read_all(keys: &[Vec<u8>]) -> u8 {
     let mut out = [0; READING];
-    keys.iter().try_for_each(|key| {
-        let answer = hostpath::read(black_box(key), &mut out);
+    let read = |key: &Vec<u8>| {
+        let refusal = raw::read(black_box(key), &mut out);
         keep(&out);
-        answer
-    })
+        refusal
+    };
+    keys.iter().map(read).find(|refusal| *refusal != 0).unwrap_or(0)
 }
 
 /// One operation so many times, for a count of its instructions.

@@ -1,7 +1,7 @@
 //! The identifier checks, on accepted and on refused texts, and the identifiers made from a counter.
 use std::hint::black_box;
 
-use hostpath::Refusal;
+use hostpath::raw;
 use ibc_core_host_types::error::IdentifierError;
 use ibc_core_host_types::identifiers::{ChannelId, ClientId};
 use ibc_core_host_types::validate;
@@ -10,7 +10,7 @@ use model::pool::filled;
 use crate::family::{keep, Family};
 
 type Original = fn(&str) -> Result<(), IdentifierError>;
-type Library = fn(&[u8]) -> Result<(), Refusal>;
+type Library = fn(&[u8]) -> u8;
 
 /// A check's name, its two sides, texts that it accepts and texts that it refuses.
 type Row = (&'static str, Original, Library, Vec<String>, Vec<String>);
@@ -31,63 +31,63 @@ fn rows() -> Vec<Row> {
         (
             "validate_identifier_chars",
             validate::validate_identifier_chars,
-            hostpath::validate_identifier_chars,
+            raw::validate_identifier_chars,
             [clients.as_slice(), &connections, &ports].concat(),
             texts(&["07 tendermint", "clients/07-tendermint-4", "transfer/"]),
         ),
         (
             "validate_identifier_length",
             |id| validate::validate_identifier_length(id, 9, 64),
-            |id| hostpath::validate_identifier_length(id, 9, 64),
+            |id| raw::validate_identifier_length(id, 9, 64),
             clients.clone(),
             ["".into(), "transfer".into(), filled("wasm.", 'x', 128)].into(),
         ),
         (
             "validate_prefix_length",
             |id| validate::validate_prefix_length(id, 9, 64),
-            |id| hostpath::validate_prefix_length(id, 9, 64),
+            |id| raw::validate_prefix_length(id, 9, 64),
             types.clone(),
             ["".into(), "short".into(), filled("wasm.", 'x', 128)].into(),
         ),
         (
             "validate_named_u64_index",
             |id| validate::validate_named_u64_index(id, "connection"),
-            |id| hostpath::validate_named_u64_index(id, b"connection"),
+            |id| raw::validate_named_u64_index(id, b"connection"),
             connections.clone(),
             bad_index.clone(),
         ),
         (
             "validate_client_type",
             validate::validate_client_type,
-            hostpath::validate_client_type,
+            raw::validate_client_type,
             types,
             bad.clone(),
         ),
         (
             "validate_client_identifier",
             validate::validate_client_identifier,
-            hostpath::validate_client_identifier,
+            raw::validate_client_identifier,
             clients,
             bad.clone(),
         ),
         (
             "validate_connection_identifier",
             validate::validate_connection_identifier,
-            hostpath::validate_connection_identifier,
+            raw::validate_connection_identifier,
             connections,
             bad_index.clone(),
         ),
         (
             "validate_port_identifier",
             validate::validate_port_identifier,
-            hostpath::validate_port_identifier,
+            raw::validate_port_identifier,
             ports,
             bad,
         ),
         (
             "validate_channel_identifier",
             validate::validate_channel_identifier,
-            hostpath::validate_channel_identifier,
+            raw::validate_channel_identifier,
             channels,
             bad_index,
         ),
@@ -104,7 +104,7 @@ fn check(
 ) -> Family {
     for text in &texts {
         assert_eq!(original(text).is_ok(), accepted, "{name}: {text}");
-        assert_eq!(library(text.as_bytes()).is_ok(), accepted, "{name}: {text}");
+        assert_eq!(library(text.as_bytes()) == 0, accepted, "{name}: {text}");
     }
     let same = texts.clone();
     Family::new(
@@ -127,8 +127,7 @@ fn client_id_new() -> Family {
         || {
             let mut out = [0; 64];
             for (name, counter) in &TYPES {
-                let written =
-                    hostpath::client_id_new(black_box(name).as_bytes(), *counter, &mut out);
+                let written = raw::client_id_new(black_box(name).as_bytes(), *counter, &mut out);
                 keep((written, &out));
             }
         },
@@ -143,7 +142,7 @@ fn channel_id_new() -> Family {
         || {
             let mut out = [0; 64];
             for counter in COUNTERS {
-                let written = hostpath::channel_id_new(black_box(counter), &mut out);
+                let written = raw::channel_id_new(black_box(counter), &mut out);
                 keep((written, &out));
             }
         },

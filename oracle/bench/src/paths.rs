@@ -2,7 +2,7 @@
 use std::cell::RefCell;
 use std::hint::black_box;
 
-use hostpath::READING;
+use hostpath::{raw, READING};
 use ibc_core_host_types::path::Path;
 use ibc_core_host_types::terms;
 use model::path::{self, Part, KINDS, MOST};
@@ -38,7 +38,7 @@ fn reading(name: String, texts: Vec<String>) -> Family {
         move || {
             let mut out = [0; READING];
             for text in &same {
-                let answer = hostpath::read(black_box(text.as_bytes()), &mut out);
+                let answer = raw::read(black_box(text.as_bytes()), &mut out);
                 keep((answer, &out));
             }
         },
@@ -64,7 +64,7 @@ fn key(texts: Vec<String>) -> Family {
         move || {
             let mut out = out.borrow_mut();
             for text in &same {
-                let written = hostpath::key(black_box(text.as_bytes()), &mut out[..]);
+                let written = raw::key(black_box(text.as_bytes()), &mut out[..]);
                 keep((written, &out));
             }
         },
@@ -86,7 +86,7 @@ fn rendering(name: String, texts: &[String]) -> Family {
             let mut out = out.borrow_mut();
             for (kind, first, second, [a, b]) in &parts {
                 let (first, second) = black_box((first.as_bytes(), second.as_bytes()));
-                let written = hostpath::render(*kind, first, second, *a, *b, &mut out[..]);
+                let written = raw::render(*kind, first, second, *a, *b, &mut out[..]);
                 keep((written, &out));
             }
         },

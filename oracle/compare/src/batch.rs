@@ -1,6 +1,8 @@
 //! Calls that wait to be answered together, and what document 01 expects of each.
 use std::fmt::{self, Display, Formatter};
 
+use hostpath::raw::{Flag, Pair, Written};
+
 use crate::call::{Call, Function};
 
 /// Stands in lent buffers, and around them, before a call.
@@ -24,6 +26,30 @@ impl Returned {
 
     pub fn bytes(self) -> impl Iterator<Item = u8> {
         [self.refusal].into_iter().chain(self.numbers.into_iter().flat_map(u64::to_le_bytes))
+    }
+}
+
+impl From<u8> for Returned {
+    fn from(refusal: u8) -> Self {
+        Self::new(refusal, 0)
+    }
+}
+
+impl From<Written> for Returned {
+    fn from(answer: Written) -> Self {
+        Self::new(answer.refusal, answer.length)
+    }
+}
+
+impl From<Flag> for Returned {
+    fn from(answer: Flag) -> Self {
+        Self::new(answer.refusal, answer.value.into())
+    }
+}
+
+impl From<Pair> for Returned {
+    fn from(answer: Pair) -> Self {
+        Self { refusal: answer.refusal, numbers: [answer.number, answer.height] }
     }
 }
 

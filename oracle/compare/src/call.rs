@@ -1,75 +1,21 @@
 //! A call over the C interface as data.
-use std::fmt::{self, Debug, Display, Formatter};
+use std::fmt::{self, Display, Formatter};
 
-/// Declares the calls and a list of them all.
-macro_rules! functions {
-    ($($(#[$said:meta])* $name:ident,)*) => {
-        /// The calls, in the order of include/hostpath.h.
-        #[derive(Clone, Copy, Debug, PartialEq, Eq, PartialOrd, Ord)]
-        #[repr(u8)]
-        pub enum Function {
-            $($(#[$said])* $name,)*
-        }
-
-        const ALL: &[Function] = &[$(Function::$name,)*];
-    };
-}
-
-functions! {
-    ValidateIdentifierChars,
-    ValidateIdentifierLength,
-    ValidatePrefixLength,
-    ValidateNamedU64Index,
-    ValidateClientType,
-    ValidateClientIdentifier,
-    ValidateConnectionIdentifier,
-    ValidatePortIdentifier,
-    ValidateChannelIdentifier,
-    ClientIdNew,
-    ChannelIdNew,
-    Read,
-    Key,
-    Render,
-    IsProvable,
-    IterationKey,
-    ClientStatePrefix,
-    ClientStateLeaf,
-    ConsensusStateParent,
-    ConsensusStateLeaf,
-    UpdateTimeLeaf,
-    UpdateHeightLeaf,
-    ConnectionPrefix,
-    ChannelEndPrefix,
-    CommitmentsPath,
-    AcksPath,
-    ReceiptsPath,
-    CommitmentPrefix,
-    AckPrefix,
-    ReceiptPrefix,
-    /// No call: the text is what the calls below are lent as a book from now on.
-    BookLend,
-    BookNew,
-    BookWrite,
-    BookRemove,
-    BookLookup,
-    BookOldest,
-}
+pub use crate::dispatch::Function;
 
 impl Function {
-    /// The call of this name in the C interface.
-    pub fn named(name: &str) -> Option<Self> {
-        let name = name.strip_prefix("hp_")?.replace('_', "");
-        ALL.iter().copied().find(|function| format!("{function:?}").to_lowercase() == name)
-    }
-
-    /// Whether a call that is not refused writes a text.
-    pub fn writes(self) -> bool {
-        self >= Self::ClientIdNew && self != Self::IsProvable && !self.has_book()
+    pub fn has_kind(self) -> bool {
+        self.takes()[0]
     }
 
     /// Whether a reply shows the book.
     pub fn has_book(self) -> bool {
-        self >= Self::BookLend
+        self.takes()[1]
+    }
+
+    /// Whether a call that is not refused writes a text.
+    pub fn writes(self) -> bool {
+        self.takes()[2] && !self.has_book()
     }
 }
 

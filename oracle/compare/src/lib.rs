@@ -4,6 +4,8 @@
 pub mod batch;
 pub mod books;
 pub mod call;
+#[rustfmt::skip]
+pub mod dispatch;
 pub mod identifiers;
 pub mod library;
 pub mod no_books;
@@ -12,6 +14,7 @@ pub mod page;
 pub mod paths;
 pub mod renderings;
 pub mod set;
+pub mod typed;
 
 /// How much of a set to run.
 #[derive(Clone, Copy, Debug, PartialEq, Eq)]
@@ -33,5 +36,12 @@ impl Size {
 pub type Sets = &'static [(&'static str, fn(&mut set::Set, Size))];
 
 /// The families of sets.
-pub const FAMILIES: &[Sets] =
-    &[page::SETS, identifiers::SETS, paths::SETS, renderings::SETS, books::SETS, no_books::SETS];
+pub const FAMILIES: &[Sets] = &[
+    page::SETS,
+    identifiers::SETS,
+    paths::SETS,
+    typed::SETS,
+    renderings::SETS,
+    books::SETS,
+    no_books::SETS,
+];

@@ -84,8 +84,7 @@ impl Asked {
                 word => numbers.push(word.parse::<u64>().ok()?),
             }
         }
-        let has_kind = matches!(function, Function::Render | Function::IsProvable);
-        let kind = if has_kind { taken(&mut numbers)?.try_into().ok()? } else { 0 };
+        let kind = if function.has_kind() { taken(&mut numbers)?.try_into().ok()? } else { 0 };
         let book = if function.has_book() { taken(&mut texts)? } else { vec![] };
         let (texts, numbers) = (two(texts)?, two(numbers)?);
         Some(Self { function, kind, texts, numbers, book, room })

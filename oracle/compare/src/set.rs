@@ -52,7 +52,7 @@ pub struct Set<'a> {
     shown: Vec<String>,
     listed: [u64; REASONS.len()],
     /// How often each refusal, or 0, is the answer of a call on a book.
-    answers: [u64; 15],
+    answers: [u64; 256],
 }
 
 impl<'a> Set<'a> {
@@ -66,7 +66,7 @@ impl<'a> Set<'a> {
             last: 0,
             shown: vec![],
             listed: Default::default(),
-            answers: Default::default(),
+            answers: [0; 256],
         }
     }
 

@@ -1,118 +1,201 @@
-//! The identifier checks, and the identifiers made from a counter.
-use crate::answer::{done, Refusal, Written};
+//! The identifier checks, and identifiers that have passed them.
+use core::fmt;
 
-mod raw {
-    use crate::answer::Written;
+use crate::{ascii, done, raw, written, Refusal};
 
-    extern "C" {
-        // hp_validate_identifier_chars(id: &[u8]) -> u8
-        pub fn hp_validate_identifier_chars(id: *const u8, id_len: usize) -> u8;
-        // hp_validate_identifier_length(id: &[u8], min: u64, max: u64) -> u8
-        pub fn hp_validate_identifier_length(
-            id: *const u8,
-            id_len: usize,
-            min: u64,
-            max: u64,
-        ) -> u8;
-        // hp_validate_prefix_length(prefix: &[u8], min: u64, max: u64) -> u8
-        pub fn hp_validate_prefix_length(
-            prefix: *const u8,
-            prefix_len: usize,
-            min: u64,
-            max: u64,
-        ) -> u8;
-        // hp_validate_named_u64_index(id: &[u8], name: &[u8]) -> u8
-        pub fn hp_validate_named_u64_index(
-            id: *const u8,
-            id_len: usize,
-            name: *const u8,
-            name_len: usize,
-        ) -> u8;
-        // hp_validate_client_type(id: &[u8]) -> u8
-        pub fn hp_validate_client_type(id: *const u8, id_len: usize) -> u8;
-        // hp_validate_client_identifier(id: &[u8]) -> u8
-        pub fn hp_validate_client_identifier(id: *const u8, id_len: usize) -> u8;
-        // hp_validate_connection_identifier(id: &[u8]) -> u8
-        pub fn hp_validate_connection_identifier(id: *const u8, id_len: usize) -> u8;
-        // hp_validate_port_identifier(id: &[u8]) -> u8
-        pub fn hp_validate_port_identifier(id: *const u8, id_len: usize) -> u8;
-        // hp_validate_channel_identifier(id: &[u8]) -> u8
-        pub fn hp_validate_channel_identifier(id: *const u8, id_len: usize) -> u8;
-        // hp_client_id_new(client_type: &[u8], counter: u64, out: &mut [u8]) -> Written
-        pub fn hp_client_id_new(
-            client_type: *const u8,
-            client_type_len: usize,
-            counter: u64,
-            out: *mut u8,
-            out_len: usize,
-        ) -> Written;
-        // hp_channel_id_new(counter: u64, out: &mut [u8]) -> Written
-        pub fn hp_channel_id_new(counter: u64, out: *mut u8, out_len: usize) -> Written;
-    }
-}
-
-/// Are all bytes identifier bytes? 2, 5.
+/// All bytes are identifier bytes: A-Z, a-z, 0-9 and `. _ + - # [ ] < >`. 2, 5.
 pub fn validate_identifier_chars(id: &[u8]) -> Result<(), Refusal> {
-    // SAFETY: as of every call here, each pointer and count are those of one live slice.
-    done(unsafe { raw::hp_validate_identifier_chars(id.as_ptr(), id.len()) })
+    done(raw::validate_identifier_chars(id))
 }
 
-/// Is the length from `min`, raised to 1, to `max`? 2, 6.
+/// The length is from `min`, raised to 1, to `max`. 2, 6.
 pub fn validate_identifier_length(id: &[u8], min: u64, max: u64) -> Result<(), Refusal> {
-    done(unsafe { raw::hp_validate_identifier_length(id.as_ptr(), id.len(), min, max) })
+    done(raw::validate_identifier_length(id, min, max))
 }
 
-/// Does the prefix leave room for `-` and a counter between these lengths? 2, 6.
+/// The prefix is not empty, and with `-` and any counter after it has from `min` to `max` bytes. 2, 6.
 pub fn validate_prefix_length(prefix: &[u8], min: u64, max: u64) -> Result<(), Refusal> {
-    done(unsafe { raw::hp_validate_prefix_length(prefix.as_ptr(), prefix.len(), min, max) })
+    done(raw::validate_prefix_length(prefix, min, max))
 }
 
-/// Is it the name, `-` and an index? 2, 7, 8.
+/// It is the name, `-` and an index: a number text that does not begin with 0 unless it is 0. 2, 7, 8.
 pub fn validate_named_u64_index(id: &[u8], name: &[u8]) -> Result<(), Refusal> {
-    done(unsafe {
-        raw::hp_validate_named_u64_index(id.as_ptr(), id.len(), name.as_ptr(), name.len())
-    })
+    done(raw::validate_named_u64_index(id, name))
 }
 
-/// Is it a client type? 2, 5, 6.
+/// It is a client type: 7 to 43 identifier bytes. 2, 5, 6.
 pub fn validate_client_type(id: &[u8]) -> Result<(), Refusal> {
-    done(unsafe { raw::hp_validate_client_type(id.as_ptr(), id.len()) })
+    done(raw::validate_client_type(id))
 }
 
-/// Is it a client identifier? 2, 5, 6.
+/// It is a client identifier: 9 to 64 identifier bytes. 2, 5, 6.
+///
+/// ```
+/// use hostpath::{validate_client_identifier, Refusal};
+///
+/// assert_eq!(validate_client_identifier(b"07-tendermint-4"), Ok(()));
+/// let refusal = validate_client_identifier(b"clientid").unwrap_err();
+/// assert_eq!((refusal, refusal.number()), (Refusal::BadLength, 6));
+/// ```
 pub fn validate_client_identifier(id: &[u8]) -> Result<(), Refusal> {
-    done(unsafe { raw::hp_validate_client_identifier(id.as_ptr(), id.len()) })
+    done(raw::validate_client_identifier(id))
 }
 
-/// Is it a connection identifier? 2, 5, 6, 7, 8.
+/// It is a connection identifier: `connection-` and an index, 10 to 64 bytes. 2, 5, 6, 7, 8.
 pub fn validate_connection_identifier(id: &[u8]) -> Result<(), Refusal> {
-    done(unsafe { raw::hp_validate_connection_identifier(id.as_ptr(), id.len()) })
+    done(raw::validate_connection_identifier(id))
 }
 
-/// Is it a port identifier? 2, 5, 6.
+/// It is a port identifier: 2 to 128 identifier bytes. 2, 5, 6.
 pub fn validate_port_identifier(id: &[u8]) -> Result<(), Refusal> {
-    done(unsafe { raw::hp_validate_port_identifier(id.as_ptr(), id.len()) })
+    done(raw::validate_port_identifier(id))
 }
 
-/// Is it a channel identifier? 2, 5, 6, 7, 8.
+/// It is a channel identifier: `channel-` and an index, 8 to 64 bytes. 2, 5, 6, 7, 8.
 pub fn validate_channel_identifier(id: &[u8]) -> Result<(), Refusal> {
-    done(unsafe { raw::hp_validate_channel_identifier(id.as_ptr(), id.len()) })
+    done(raw::validate_channel_identifier(id))
 }
 
-/// Writes the trimmed client type, `-` and the counter. 2, 5, 6, 4.
-pub fn client_id_new(client_type: &[u8], counter: u64, out: &mut [u8]) -> Written {
-    unsafe {
-        raw::hp_client_id_new(
-            client_type.as_ptr(),
-            client_type.len(),
-            counter,
-            out.as_mut_ptr(),
-            out.len(),
-        )
+/// An upgrade path that renders with any height. All that may be missing there is room.
+fn validate_upgrade_path(text: &[u8]) -> Result<(), Refusal> {
+    match done(raw::render(19, text, b"", u64::MAX, 0, &mut []).refusal) {
+        Err(Refusal::NoRoom) => Ok(()),
+        answer => answer,
     }
 }
 
-/// Writes `channel-` and the counter. 4.
-pub fn channel_id_new(counter: u64, out: &mut [u8]) -> Written {
-    unsafe { raw::hp_channel_id_new(counter, out.as_mut_ptr(), out.len()) }
+/// Declares a part of a path that has passed a check.
+macro_rules! checked {
+    ($(#[$said:meta])* $name:ident, $check:path) => {
+        $(#[$said])*
+        #[derive(Clone, Copy, Debug, PartialEq, Eq, PartialOrd, Ord, Hash)]
+        pub struct $name<'a>(pub(crate) &'a str);
+
+        impl<'a> $name<'a> {
+            /// Its text, as it was written.
+            pub const fn as_str(self) -> &'a str {
+                self.0
+            }
+
+            /// Its bytes.
+            pub const fn as_bytes(self) -> &'a [u8] {
+                self.0.as_bytes()
+            }
+        }
+
+        impl<'a> TryFrom<&'a [u8]> for $name<'a> {
+            type Error = Refusal;
+
+            fn try_from(text: &'a [u8]) -> Result<Self, Refusal> {
+                $check(text)?;
+                ascii(text).map(Self)
+            }
+        }
+
+        impl<'a> TryFrom<&'a str> for $name<'a> {
+            type Error = Refusal;
+
+            fn try_from(text: &'a str) -> Result<Self, Refusal> {
+                text.as_bytes().try_into()
+            }
+        }
+
+        impl fmt::Display for $name<'_> {
+            fn fmt(&self, out: &mut fmt::Formatter<'_>) -> fmt::Result {
+                self.0.fmt(out)
+            }
+        }
+
+        impl AsRef<str> for $name<'_> {
+            fn as_ref(&self) -> &str {
+                self.0
+            }
+        }
+
+        impl PartialEq<str> for $name<'_> {
+            fn eq(&self, other: &str) -> bool {
+                self.0 == other
+            }
+        }
+    };
+}
+
+checked! {
+    /// A client identifier. 2, 5, 6.
+    ClientId, validate_client_identifier
+}
+
+checked! {
+    /// A connection identifier. 2, 5, 6, 7, 8.
+    ConnectionId, validate_connection_identifier
+}
+
+checked! {
+    /// A port identifier. 2, 5, 6.
+    PortId, validate_port_identifier
+}
+
+checked! {
+    /// A channel identifier. `channel-+01` and `channel-1` are two. 2, 5, 6, 7, 8.
+    ///
+    /// ```
+    /// use hostpath::{ChannelId, Refusal};
+    ///
+    /// assert_ne!(ChannelId::try_from("channel-+01")?, ChannelId::try_from("channel-1")?);
+    /// assert_eq!(ChannelId::try_from("channel-01"), Err(Refusal::BadPrefix));
+    /// # Ok::<(), Refusal>(())
+    /// ```
+    ChannelId, validate_channel_identifier
+}
+
+checked! {
+    /// The upgrade path of an upgraded state: ASCII without `/`, and with any height a path of at most
+    /// 4,096 bytes. 2, 13, 1.
+    UpgradePath, validate_upgrade_path
+}
+
+impl<'a> ClientId<'a> {
+    /// Writes the client type without white space at its ends, `-` and the counter; 64 bytes have room
+    /// for each. 2, 5, 6, 4.
+    ///
+    /// ```
+    /// use hostpath::{ClientId, Refusal};
+    ///
+    /// let mut room = [0; 64];
+    /// assert_eq!(ClientId::new(b"07-tendermint", 4, &mut room)?.as_str(), "07-tendermint-4");
+    /// # Ok::<(), Refusal>(())
+    /// ```
+    pub fn new(client_type: &[u8], counter: u64, out: &'a mut [u8]) -> Result<Self, Refusal> {
+        written(raw::client_id_new(client_type, counter, out), out).map(Self)
+    }
+}
+
+impl<'a> ChannelId<'a> {
+    /// Writes `channel-` and the counter; 28 bytes have room for each. 4.
+    pub fn new(counter: u64, out: &'a mut [u8]) -> Result<Self, Refusal> {
+        written(raw::channel_id_new(counter, out), out).map(Self)
+    }
+}
+
+/// A packet's sequence, which is no height.
+#[derive(Clone, Copy, Debug, PartialEq, Eq, PartialOrd, Ord, Hash)]
+pub struct Sequence(u64);
+
+impl Sequence {
+    /// Its number.
+    pub const fn value(self) -> u64 {
+        self.0
+    }
+}
+
+impl From<u64> for Sequence {
+    fn from(number: u64) -> Self {
+        Self(number)
+    }
+}
+
+impl fmt::Display for Sequence {
+    fn fmt(&self, out: &mut fmt::Formatter<'_>) -> fmt::Result {
+        self.0.fmt(out)
+    }
 }

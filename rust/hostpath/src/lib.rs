@@ -1,20 +1,75 @@
-//! IBC host paths and identifiers, and books of records under such paths, by a proved library: safe
-//! calls over its C interface.
+//! IBC host paths and identifiers, and books of records under such paths, by a proved library: for
+//! whoever used path.rs, validate.rs and the identifiers of ibc-rs. docs/MIGRATING.md of the
+//! repository says what takes the place of each of their items.
 //!
-//! Every call takes any bytes and any numbers, and comes back with an answer or a numbered
-//! [`Refusal`]. A refusal changes no byte of a lent buffer; a success writes from its byte 0 and
-//! leaves the bytes after what was written. Nothing is allocated.
+//! An identifier keeps every zero that it was written with, and a height does not. So a text may be a
+//! loose spelling of a path whose key in the store is another text:
 //!
-//! Nothing checks a declaration here against the library's source, so each stands under the
-//! signature that it is for; include/hostpath.h says the same in C.
+//! ```
+//! use hostpath::{book_size, Book, Path, Refusal};
+//!
+//! let text = b"clients/07-tendermint-4/consensusStates/007-2";
+//! let reading = Path::read(text)?;
+//! assert!(!reading.exact, "the store has no key that is spelt so");
+//! assert_eq!(reading.path.to_string(), "clients/07-tendermint-4/consensusStates/7-2");
+//!
+//! let Path::ClientConsensusState { client_id, revision_number, revision_height } = reading.path
+//! else {
+//!     panic!("it is a consensus state")
+//! };
+//! assert_eq!(client_id.as_str(), "07-tendermint-4"); // borrowed from the text, zeros and all
+//! assert_eq!((revision_number, revision_height), (7, 2));
+//!
+//! let mut buffer = [0; book_size(200)];
+//! let mut book = Book::new(&mut buffer)?;
+//! book.write(text, &[1; 32])?;
+//! assert_eq!(book.lookup(b"clients/07-tendermint-4/consensusStates/7-2"), Ok([1; 32]));
+//! let other = book.lookup(b"clients/007-tendermint-4/consensusStates/7-2");
+//! assert_eq!(other, Err(Refusal::Absent)); // another client
+//! # Ok::<(), Refusal>(())
+//! ```
+//!
+//! Every call takes any bytes and any numbers, and answers a `Result`: what was asked for, or the
+//! [`Refusal`]. The numbers at the end of a call's description are its refusals, in the order in which
+//! they are looked for. A refusal changes no byte of a lent buffer; a success writes from its byte 0
+//! and leaves the bytes after what was written. Nothing is allocated, so what is written is lent room.
 #![no_std]
+#![deny(missing_docs)]
 
-mod answer;
 mod book;
 mod identifiers;
-mod paths;
+mod path;
+#[rustfmt::skip]
+pub mod raw;
+#[rustfmt::skip]
+mod refusal;
+mod texts;
 
-pub use answer::{Flag, Pair, Refusal, Written};
 pub use book::*;
 pub use identifiers::*;
-pub use paths::*;
+pub use path::*;
+pub use refusal::Refusal;
+pub use texts::*;
+
+/// The bytes of the longest text of a path, and of the longest rendering.
+pub const PATH_MOST: usize = 4096;
+
+/// A call's number as a result.
+fn done(number: u8) -> Result<(), Refusal> {
+    match Refusal::of(number) {
+        Some(refusal) => Err(refusal),
+        None if number == 0 => Ok(()),
+        None => unreachable!("refusal {number}: this crate and the library are of two versions"),
+    }
+}
+
+/// What a call wrote into a buffer.
+fn written(answer: raw::Written, out: &[u8]) -> Result<&str, Refusal> {
+    done(answer.refusal)?;
+    ascii(&out[..answer.length as usize])
+}
+
+/// A text that the library has found to be ASCII.
+fn ascii(text: &[u8]) -> Result<&str, Refusal> {
+    core::str::from_utf8(text).map_err(|_| Refusal::NotAscii)
+}

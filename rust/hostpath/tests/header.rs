@@ -1,23 +1,63 @@
-//! include/hostpath.h and the declarations here name the same calls.
-use std::collections::BTreeSet;
+//! What include/hostpath.h writes by hand stands here too: the kinds and the sizes. bin/interface makes
+//! the rest of both.
+use hostpath::Path;
 
 const HEADER: &str = include_str!("../../../include/hostpath.h");
-const DECLARED: [&str; 3] = [
-    include_str!("../src/book.rs"),
-    include_str!("../src/identifiers.rs"),
-    include_str!("../src/paths.rs"),
-];
 
-/// The words that stand before a bracket and begin with `hp_`.
-fn calls(source: &str) -> BTreeSet<&str> {
-    source
-        .split('(')
-        .filter_map(|before| before.rsplit(|c: char| !c.is_alphanumeric() && c != '_').next())
-        .filter(|name| name.starts_with("hp_"))
-        .collect()
+/// The number that the header has for a name.
+fn number(name: &str) -> Option<usize> {
+    let (_, after) = HEADER.split_once(&format!("HP_{name} = "))?;
+    after.split(|c: char| !c.is_ascii_digit()).next()?.parse().ok()
 }
 
 #[test]
-fn same_names() {
-    assert_eq!(calls(HEADER), DECLARED.into_iter().flat_map(calls).collect());
+fn sizes() {
+    for (name, size) in [
+        ("READING", hostpath::READING),
+        ("ITERATION_KEY", hostpath::ITERATION_KEY),
+        ("PATH_MOST", hostpath::PATH_MOST),
+        ("BOOK_HEAD", hostpath::BOOK_HEAD),
+        ("BOOK_SLOT", hostpath::BOOK_SLOT),
+        ("BOOK_KEY", hostpath::BOOK_KEY),
+        ("BOOK_VALUE", hostpath::BOOK_VALUE),
+        ("BOOK_MOST", hostpath::BOOK_MOST),
+    ] {
+        assert_eq!(number(name), Some(size), "{name}");
+    }
+}
+
+/// A case's name in letters of one size.
+fn plain(name: &str) -> String {
+    name.replace('_', "").to_lowercase()
+}
+
+/// Each kind's comment is its path, with letters for what it carries.
+#[test]
+fn kinds() {
+    let parts = [
+        ("C", "07-tendermint-4"),
+        ("R-h", "7-2"),
+        ("K", "connection-3"),
+        ("P", "transfer"),
+        ("H", "channel-0"),
+        ("S", "5"),
+        ("U", "upgradedIBCState"),
+        ("n", "9"),
+    ];
+    let filled =
+        |word| parts.iter().find(|(letter, _)| *letter == word).map_or(word, |part| part.1);
+    let list = HEADER.split("enum hp_kind {").nth(1).unwrap().split("};").next().unwrap();
+    for (kind, line) in (1..).zip(list.trim().lines()) {
+        let (name, said) = line.trim().split_once(" = ").unwrap();
+        let shape = said.split("/* ").nth(1).unwrap().trim_end_matches(" */");
+        let text = shape.split('/').map(filled).collect::<Vec<_>>().join("/");
+        let reading = Path::read(text.as_bytes()).unwrap();
+        let (path, case) = (reading.path, format!("{:?}", reading.path));
+        assert_eq!((path.kind(), reading.exact), (kind, true), "{line}");
+        assert_eq!(number(&name["HP_".len()..]), Some(kind.into()), "{line}");
+        assert_eq!(plain(name), plain(&format!("HP{}", case.split(' ').next().unwrap())));
+        assert_eq!(path.to_string(), text);
+        assert_eq!(path.is_provable(), Ok(![8, 10].contains(&kind)), "{line}");
+    }
+    assert_eq!(list.matches(" = ").count(), 19);
 }

@@ -1,42 +1,9 @@
-//! Null pointers with count 0, which no slice of Rust has: calls as C declares them.
+//! Null pointers with count 0, which no slice of Rust has: the calls as C has them.
 use core::ptr::{null, null_mut};
 
-use hostpath::{book_size, Pair, Written, BOOK_VALUE};
-
-extern "C" {
-    fn hp_validate_identifier_chars(id: *const u8, n: usize) -> u8;
-    fn hp_validate_port_identifier(id: *const u8, n: usize) -> u8;
-    fn hp_validate_named_u64_index(id: *const u8, n: usize, name: *const u8, m: usize) -> u8;
-    fn hp_client_id_new(kind: *const u8, n: usize, counter: u64, out: *mut u8, k: usize)
-        -> Written;
-    fn hp_channel_id_new(counter: u64, out: *mut u8, k: usize) -> Written;
-    fn hp_read(text: *const u8, n: usize, out: *mut u8, k: usize) -> u8;
-    fn hp_key(text: *const u8, n: usize, out: *mut u8, k: usize) -> Written;
-    fn hp_render(
-        kind: u8,
-        first: *const u8,
-        n: usize,
-        second: *const u8,
-        m: usize,
-        a: u64,
-        b: u64,
-        out: *mut u8,
-        k: usize,
-    ) -> Written;
-    fn hp_book_new(book: *mut u8, n: usize) -> u8;
-    fn hp_book_write(b: *mut u8, n: usize, text: *const u8, m: usize, v: *const u8, k: usize)
-        -> u8;
-    fn hp_book_remove(book: *mut u8, n: usize, text: *const u8, m: usize) -> u8;
-    fn hp_book_lookup(
-        b: *const u8,
-        n: usize,
-        text: *const u8,
-        m: usize,
-        out: *mut u8,
-        k: usize,
-    ) -> u8;
-    fn hp_book_oldest(book: *const u8, n: usize, client: *const u8, m: usize) -> Pair;
-}
+use hostpath::raw::c::*;
+use hostpath::raw::{Pair, Written};
+use hostpath::{book_size, Book, BOOK_VALUE};
 
 const PORT: &[u8] = b"ports/transfer";
 
@@ -94,7 +61,7 @@ fn books() {
 #[test]
 fn texts_values_and_rooms() {
     let mut buffer = [0; book_size(1)];
-    hostpath::book_new(&mut buffer).unwrap();
+    Book::new(&mut buffer).unwrap();
     let made = buffer;
     let (port, size) = (PORT.as_ptr(), PORT.len());
     let (book, n) = (buffer.as_mut_ptr(), buffer.len());

@@ -1,0 +1,95 @@
+/* A customer asked for clients/07-tendermint-4/consensusStates/007-2. The store has no such key: the text is a loose
+ * spelling of another one. This program reads the text, asks for its key, and keeps a record under it. */
+#include <inttypes.h>
+#include <stdio.h>
+#include <string.h>
+
+#include "hostpath.h"
+
+static const char text[] = "clients/07-tendermint-4/consensusStates/007-2";
+
+/* A C string as the library takes texts: a pointer and a count. */
+#define TEXT(string) (const uint8_t *)(string), strlen(string)
+
+/* A number of a reading, high byte first. */
+static uint64_t number(const uint8_t *bytes, int count) {
+    uint64_t value = 0;
+    while (count-- > 0) {
+        value = value << 8 | *bytes++;
+    }
+    return value;
+}
+
+static int refused(const char *call, uint8_t refusal) {
+    printf("%-9s refused with %d\n", call, refusal);
+    return 1;
+}
+
+/* What the text is, and the key that the store has for it. */
+static int read_it(void) {
+    uint8_t reading[HP_READING];
+    uint8_t key[HP_PATH_MOST];
+    uint8_t refusal = hp_read(TEXT(text), reading, sizeof reading);
+    if (refusal != HP_DONE || reading[0] != HP_CLIENT_CONSENSUS_STATE) {
+        return refused("read", refusal);
+    }
+    const char *client = text + number(reading + 2, 2);
+    int length = (int)number(reading + 4, 2);
+    uint64_t revision = number(reading + 10, 8);
+    uint64_t height = number(reading + 18, 8);
+    printf("text      %s\n", text);
+    printf("read      kind %d, %s, client %.*s, revision number %" PRIu64 ", height %" PRIu64 "\n", reading[0],
+           reading[1] ? "exact" : "loose", length, client, revision, height);
+
+    struct hp_written written = hp_key(TEXT(text), key, sizeof key);
+    if (written.refusal != HP_DONE) {
+        return refused("key", written.refusal);
+    }
+    printf("key       %.*s\n", (int)written.length, (const char *)key);
+
+    written = hp_render(HP_CLIENT_UPDATE_TIME, (const uint8_t *)client, (size_t)length, NULL, 0, revision, height, key,
+                        sizeof key);
+    if (written.refusal != HP_DONE) {
+        return refused("render", written.refusal);
+    }
+    printf("beside it %.*s\n", (int)written.length, (const char *)key);
+    return 0;
+}
+
+static void look_up(const uint8_t *book, size_t size, const char *path) {
+    uint8_t value[HP_BOOK_VALUE];
+    uint8_t refusal = hp_book_lookup(book, size, TEXT(path), value, sizeof value);
+    if (refusal == HP_DONE) {
+        printf("lookup    %s: \"%.*s\"\n", path, HP_BOOK_VALUE, (const char *)value);
+    } else {
+        printf("lookup    %s: refused with %d%s\n", path, refusal, refusal == HP_ABSENT ? ", no such record" : "");
+    }
+}
+
+/* Texts of one path share a record; another client, zeros and all, has its own. */
+static int keep_it(void) {
+    static uint8_t book[HP_BOOK_SIZE(2)];
+    const uint8_t value[HP_BOOK_VALUE + 1] = "thirty-two bytes under this key.";
+    uint8_t refusal = hp_book_new(book, sizeof book);
+    if (refusal == HP_DONE) {
+        refusal = hp_book_write(book, sizeof book, TEXT(text), value, HP_BOOK_VALUE);
+    }
+    if (refusal != HP_DONE) {
+        return refused("write", refusal);
+    }
+    printf("written   %s\n", text);
+    look_up(book, sizeof book, text);
+    look_up(book, sizeof book, "clients/07-tendermint-4/consensusStates/7-2");
+    look_up(book, sizeof book, "clients/007-tendermint-4/consensusStates/7-2");
+
+    struct hp_pair oldest = hp_book_oldest(book, sizeof book, TEXT("07-tendermint-4"));
+    if (oldest.refusal != HP_DONE) {
+        return refused("oldest", oldest.refusal);
+    }
+    printf("oldest    revision number %" PRIu64 ", height %" PRIu64 "\n", oldest.number, oldest.height);
+    return 0;
+}
+
+int main(void) {
+    return read_it() || keep_it();
+}

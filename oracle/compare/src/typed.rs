@@ -1,0 +1,72 @@
+//! The typed paths of rust/hostpath beside the original's: the same case, the same fields, the same text.
+use std::fmt::{Debug, Display};
+
+use model::path::KINDS;
+use model::pool::{self, Pools};
+use model::random::Random;
+
+use crate::original;
+use crate::set::{Set, Theirs};
+use crate::{Sets, Size};
+
+pub const SETS: Sets = &[("typed paths of the Rust crate", typed)];
+
+/// A path as `Debug` and `Display` show it: its case, the names of its fields, their values, its text.
+#[derive(Debug, PartialEq)]
+struct Shown {
+    case: String,
+    names: Vec<String>,
+    values: Vec<String>,
+    text: String,
+}
+
+impl Shown {
+    fn of(path: &(impl Debug + Display)) -> Self {
+        let debug = format!("{path:?}");
+        let words: Vec<String> =
+            debug.split(['(', ')', '{', '}', ',', ' ']).map(Into::into).collect();
+        let chosen = |choose: fn(&&String) -> bool| words.iter().filter(choose).cloned().collect();
+        Self {
+            case: words[0].clone(),
+            names: chosen(|word| word.ends_with(':')),
+            values: chosen(|word| word.starts_with(|c: char| c == '"' || c.is_ascii_digit())),
+            text: path.to_string(),
+        }
+    }
+}
+
+/// Names of fields are compared where the original has them.
+fn ask(set: &mut Set, text: &[u8]) {
+    set.count();
+    let ours = hostpath::Path::read(text);
+    let Theirs::Says(theirs) = original::reads(text, |path, _| Shown::of(path)) else { return };
+    let theirs = theirs.map(|shown| (shown.text.as_bytes() == text, shown));
+    let ours = ours.map_err(hostpath::Refusal::number).map(|reading| {
+        let mut shown = Shown::of(&reading.path);
+        if theirs.as_ref().is_ok_and(|(_, theirs)| theirs.names.is_empty()) {
+            shown.names.clear();
+        }
+        (reading.exact, shown)
+    });
+    if ours != theirs {
+        set.differ(|| format!("\"{}\": Rust {theirs:?}, here {ours:?}", text.escape_ascii()));
+    }
+}
+
+/// Good parts of each kind in changing company, and paths by chance.
+fn typed(set: &mut Set, size: Size) {
+    for shape in KINDS {
+        for turn in 0..20 {
+            let part = |(place, part)| {
+                let good = pool::good(part);
+                good[(turn + place * (turn / 4)) % good.len()]
+            };
+            let text = shape.iter().enumerate().map(part).collect::<Vec<_>>().join("/");
+            ask(set, text.as_bytes());
+        }
+    }
+    let (mut random, pools) = (Random(11), Pools::default());
+    for _ in 0..size.pick(100_000, 3_000_000) {
+        ask(set, &pools.path(&mut random));
+    }
+}

@@ -1,0 +1,229 @@
+//! Paths read and rendered.
+use core::fmt;
+
+use crate::{ascii, done, raw, written, Refusal, PATH_MOST};
+use crate::{ChannelId, ClientId, ConnectionId, PortId, Sequence, UpgradePath};
+
+/// The bytes of a reading by [`raw::read`].
+pub const READING: usize = 26;
+
+/// A path: cases and fields have the names that ibc-rs has for them, and stand in the order of their
+/// kinds, from 1 to 19. Its identifiers are borrowed from the text that was read.
+///
+/// In the texts below C is a client, K a connection, P a port, H a channel, S a sequence, R-h a revision
+/// number and height, U an upgrade path and n a height.
+#[derive(Clone, Copy, Debug, PartialEq, Eq, PartialOrd, Ord, Hash)]
+#[allow(missing_docs)] // a field's name says all: docs/MIGRATING.md has them beside those of ibc-rs
+pub enum Path<'a> {
+    /// `nextClientSequence`
+    NextClientSequence,
+    /// `nextConnectionSequence`
+    NextConnectionSequence,
+    /// `nextChannelSequence`
+    NextChannelSequence,
+    /// `clients/C/clientState`
+    ClientState { client_id: ClientId<'a> },
+    /// `clients/C/consensusStates/R-h`
+    ClientConsensusState { client_id: ClientId<'a>, revision_number: u64, revision_height: u64 },
+    /// `clients/C/consensusStates/R-h/processedTime`
+    ClientUpdateTime { client_id: ClientId<'a>, revision_number: u64, revision_height: u64 },
+    /// `clients/C/consensusStates/R-h/processedHeight`
+    ClientUpdateHeight { client_id: ClientId<'a>, revision_number: u64, revision_height: u64 },
+    /// `clients/C/connections`
+    ClientConnection { client_id: ClientId<'a> },
+    /// `connections/K`
+    Connection { connection_id: ConnectionId<'a> },
+    /// `ports/P`
+    Ports { port_id: PortId<'a> },
+    /// `channelEnds/ports/P/channels/H`
+    ChannelEnd { port_id: PortId<'a>, channel_id: ChannelId<'a> },
+    /// `nextSequenceSend/ports/P/channels/H`
+    SeqSend { port_id: PortId<'a>, channel_id: ChannelId<'a> },
+    /// `nextSequenceRecv/ports/P/channels/H`
+    SeqRecv { port_id: PortId<'a>, channel_id: ChannelId<'a> },
+    /// `nextSequenceAck/ports/P/channels/H`
+    SeqAck { port_id: PortId<'a>, channel_id: ChannelId<'a> },
+    /// `commitments/ports/P/channels/H/sequences/S`
+    Commitment { port_id: PortId<'a>, channel_id: ChannelId<'a>, sequence: Sequence },
+    /// `acks/ports/P/channels/H/sequences/S`
+    Ack { port_id: PortId<'a>, channel_id: ChannelId<'a>, sequence: Sequence },
+    /// `receipts/ports/P/channels/H/sequences/S`
+    Receipt { port_id: PortId<'a>, channel_id: ChannelId<'a>, sequence: Sequence },
+    /// `U/n/upgradedClient`
+    UpgradeClientState { upgrade_path: UpgradePath<'a>, height: u64 },
+    /// `U/n/upgradedConsState`
+    UpgradeConsensusState { upgrade_path: UpgradePath<'a>, height: u64 },
+}
+
+/// What a text is.
+#[derive(Clone, Copy, Debug, PartialEq, Eq, PartialOrd, Ord, Hash)]
+pub struct Reading<'a> {
+    /// The path, whose rendering is the key that a store has for it.
+    pub path: Path<'a>,
+    /// Whether the text is that key. Where it is not, the text is a loose spelling of it.
+    pub exact: bool,
+}
+
+fn number(bytes: &[u8]) -> u64 {
+    bytes.iter().fold(0, |number, byte| number << 8 | u64::from(*byte))
+}
+
+/// The path of a kind, whose identifiers and numbers stand as the header's table has them.
+fn typed<'a>(kind: u8, [first, second]: [&'a str; 2], [a, b]: [u64; 2]) -> Option<Path<'a>> {
+    let (client_id, connection_id) = (ClientId(first), ConnectionId(first));
+    let (port_id, channel_id, upgrade_path) =
+        (PortId(first), ChannelId(second), UpgradePath(first));
+    let (revision_number, revision_height, sequence, height) = (a, b, Sequence::from(a), a);
+    Some(match kind {
+        1 => Path::NextClientSequence,
+        2 => Path::NextConnectionSequence,
+        3 => Path::NextChannelSequence,
+        4 => Path::ClientState { client_id },
+        5 => Path::ClientConsensusState { client_id, revision_number, revision_height },
+        6 => Path::ClientUpdateTime { client_id, revision_number, revision_height },
+        7 => Path::ClientUpdateHeight { client_id, revision_number, revision_height },
+        8 => Path::ClientConnection { client_id },
+        9 => Path::Connection { connection_id },
+        10 => Path::Ports { port_id },
+        11 => Path::ChannelEnd { port_id, channel_id },
+        12 => Path::SeqSend { port_id, channel_id },
+        13 => Path::SeqRecv { port_id, channel_id },
+        14 => Path::SeqAck { port_id, channel_id },
+        15 => Path::Commitment { port_id, channel_id, sequence },
+        16 => Path::Ack { port_id, channel_id, sequence },
+        17 => Path::Receipt { port_id, channel_id, sequence },
+        18 => Path::UpgradeClientState { upgrade_path, height },
+        19 => Path::UpgradeConsensusState { upgrade_path, height },
+        _ => return None,
+    })
+}
+
+impl<'a> Path<'a> {
+    /// Reads a text. 1, 2, 3.
+    ///
+    /// ```
+    /// use hostpath::{Path, Refusal};
+    ///
+    /// let reading = Path::read(b"commitments/ports/transfer/channels/channel-0/sequences/5")?;
+    /// assert!(reading.exact);
+    /// assert!(matches!(reading.path, Path::Commitment { sequence, .. } if sequence.value() == 5));
+    ///
+    /// let refusal = Path::read(b"clients").unwrap_err();
+    /// assert_eq!((refusal, refusal.number()), (Refusal::NotAPath, 3));
+    /// # Ok::<(), Refusal>(())
+    /// ```
+    pub fn read(text: &'a [u8]) -> Result<Reading<'a>, Refusal> {
+        let mut bytes = [0; READING];
+        done(raw::read(text, &mut bytes))?;
+        let part = |at: usize| {
+            let start = number(&bytes[at..at + 2]) as usize;
+            ascii(&text[start..start + number(&bytes[at + 2..at + 4]) as usize])
+        };
+        let numbers = [number(&bytes[10..18]), number(&bytes[18..])];
+        let path = typed(bytes[0], [part(2)?, part(6)?], numbers).ok_or(Refusal::BadKind)?;
+        Ok(Reading { path, exact: bytes[1] == 1 })
+    }
+
+    /// Writes the rendering: the path's key in a store. 4; and 1 of an upgrade path that was read with
+    /// a shorter height.
+    ///
+    /// ```
+    /// use hostpath::{ClientId, Path, Refusal};
+    ///
+    /// let client_id = ClientId::try_from("07-tendermint-4")?;
+    /// let path = Path::ClientConsensusState { client_id, revision_number: 7, revision_height: 2 };
+    /// let mut room = [0; 64];
+    /// assert_eq!(path.render(&mut room)?, "clients/07-tendermint-4/consensusStates/7-2");
+    /// assert_eq!(path.to_string(), "clients/07-tendermint-4/consensusStates/7-2");
+    /// # Ok::<(), Refusal>(())
+    /// ```
+    pub fn render<'o>(&self, out: &'o mut [u8]) -> Result<&'o str, Refusal> {
+        let ([first, second], [a, b]) = self.carried();
+        written(raw::render(self.kind(), first.as_bytes(), second.as_bytes(), a, b, out), out)
+    }
+
+    /// Whether a store can prove that it holds the path: of all but clients' connections and ports.
+    pub fn is_provable(&self) -> Result<bool, Refusal> {
+        let answer = raw::is_provable(self.kind());
+        done(answer.refusal).map(|()| answer.value == 1)
+    }
+
+    /// The number of its kind, from 1 to 19.
+    pub const fn kind(&self) -> u8 {
+        match self {
+            Self::NextClientSequence => 1,
+            Self::NextConnectionSequence => 2,
+            Self::NextChannelSequence => 3,
+            Self::ClientState { .. } => 4,
+            Self::ClientConsensusState { .. } => 5,
+            Self::ClientUpdateTime { .. } => 6,
+            Self::ClientUpdateHeight { .. } => 7,
+            Self::ClientConnection { .. } => 8,
+            Self::Connection { .. } => 9,
+            Self::Ports { .. } => 10,
+            Self::ChannelEnd { .. } => 11,
+            Self::SeqSend { .. } => 12,
+            Self::SeqRecv { .. } => 13,
+            Self::SeqAck { .. } => 14,
+            Self::Commitment { .. } => 15,
+            Self::Ack { .. } => 16,
+            Self::Receipt { .. } => 17,
+            Self::UpgradeClientState { .. } => 18,
+            Self::UpgradeConsensusState { .. } => 19,
+        }
+    }
+
+    /// Its identifiers and numbers, as the header's table has them; what its kind lacks is empty or 0.
+    fn carried(&self) -> ([&'a str; 2], [u64; 2]) {
+        match *self {
+            Self::NextClientSequence | Self::NextConnectionSequence | Self::NextChannelSequence => {
+                (["", ""], [0, 0])
+            }
+            Self::ClientState { client_id } | Self::ClientConnection { client_id } => {
+                ([client_id.0, ""], [0, 0])
+            }
+            Self::ClientConsensusState { client_id, revision_number, revision_height }
+            | Self::ClientUpdateTime { client_id, revision_number, revision_height }
+            | Self::ClientUpdateHeight { client_id, revision_number, revision_height } => {
+                ([client_id.0, ""], [revision_number, revision_height])
+            }
+            Self::Connection { connection_id } => ([connection_id.0, ""], [0, 0]),
+            Self::Ports { port_id } => ([port_id.0, ""], [0, 0]),
+            Self::ChannelEnd { port_id, channel_id }
+            | Self::SeqSend { port_id, channel_id }
+            | Self::SeqRecv { port_id, channel_id }
+            | Self::SeqAck { port_id, channel_id } => ([port_id.0, channel_id.0], [0, 0]),
+            Self::Commitment { port_id, channel_id, sequence }
+            | Self::Ack { port_id, channel_id, sequence }
+            | Self::Receipt { port_id, channel_id, sequence } => {
+                ([port_id.0, channel_id.0], [sequence.value(), 0])
+            }
+            Self::UpgradeClientState { upgrade_path, height }
+            | Self::UpgradeConsensusState { upgrade_path, height } => {
+                ([upgrade_path.0, ""], [height, 0])
+            }
+        }
+    }
+}
+
+/// The rendering, and an error where [`Path::render`] with room enough is refused.
+impl fmt::Display for Path<'_> {
+    fn fmt(&self, out: &mut fmt::Formatter<'_>) -> fmt::Result {
+        let mut room = [0; PATH_MOST];
+        out.pad(self.render(&mut room).map_err(|_| fmt::Error)?)
+    }
+}
+
+/// Writes the key of a text: the rendering of the path that it is read as. 1, 2, 3, 4.
+///
+/// ```
+/// use hostpath::{key, Refusal};
+///
+/// let mut room = [0; 64];
+/// let key = key(b"clients/07-tendermint-4/consensusStates/007-+2", &mut room)?;
+/// assert_eq!(key, "clients/07-tendermint-4/consensusStates/7-2");
+/// # Ok::<(), Refusal>(())
+/// ```
+pub fn key<'o>(text: &[u8], out: &'o mut [u8]) -> Result<&'o str, Refusal> {
+    written(raw::key(text, out), out)
+}

@@ -1,0 +1,338 @@
+//! The calls as the library has them, refusals as numbers: [`c`] on pointers, and below it the same on slices. The crate's
+//! other items are made of these, and are what to use.
+//!
+//! The numbers after a call are its refusals, in the order in which they are looked for; 0 is done.
+
+// Below, made by bin/interface: answers.
+
+/// What a call answers.
+#[repr(C)]
+#[derive(Clone, Copy, Debug, PartialEq, Eq)]
+#[must_use]
+pub struct Written {
+    /// A refusal's number, or 0.
+    pub refusal: u8,
+    /// 0 where the call is refused.
+    pub length: u64,
+}
+
+/// What a call answers.
+#[repr(C)]
+#[derive(Clone, Copy, Debug, PartialEq, Eq)]
+#[must_use]
+pub struct Flag {
+    /// A refusal's number, or 0.
+    pub refusal: u8,
+    /// 0 where the call is refused.
+    pub value: u8,
+}
+
+/// What a call answers.
+#[repr(C)]
+#[derive(Clone, Copy, Debug, PartialEq, Eq)]
+#[must_use]
+pub struct Pair {
+    /// A refusal's number, or 0.
+    pub refusal: u8,
+    /// 0 where the call is refused.
+    pub number: u64,
+    /// 0 where the call is refused.
+    pub height: u64,
+}
+// Above, made by bin/interface.
+
+/// The calls as C has them: a text or a buffer is a pointer and a count of bytes.
+pub mod c {
+    use super::*;
+
+    extern "C" {
+        // Below, made by bin/interface: calls on pointers.
+        /// [`validate_identifier_chars`] on pointers.
+        pub fn hp_validate_identifier_chars(id: *const u8, id_len: usize) -> u8;
+        /// [`validate_identifier_length`] on pointers.
+        pub fn hp_validate_identifier_length(id: *const u8, id_len: usize, min: u64, max: u64) -> u8;
+        /// [`validate_prefix_length`] on pointers.
+        pub fn hp_validate_prefix_length(prefix: *const u8, prefix_len: usize, min: u64, max: u64) -> u8;
+        /// [`validate_named_u64_index`] on pointers.
+        pub fn hp_validate_named_u64_index(id: *const u8, id_len: usize, name: *const u8, name_len: usize) -> u8;
+        /// [`validate_client_type`] on pointers.
+        pub fn hp_validate_client_type(id: *const u8, id_len: usize) -> u8;
+        /// [`validate_client_identifier`] on pointers.
+        pub fn hp_validate_client_identifier(id: *const u8, id_len: usize) -> u8;
+        /// [`validate_connection_identifier`] on pointers.
+        pub fn hp_validate_connection_identifier(id: *const u8, id_len: usize) -> u8;
+        /// [`validate_port_identifier`] on pointers.
+        pub fn hp_validate_port_identifier(id: *const u8, id_len: usize) -> u8;
+        /// [`validate_channel_identifier`] on pointers.
+        pub fn hp_validate_channel_identifier(id: *const u8, id_len: usize) -> u8;
+        /// [`client_id_new`] on pointers.
+        pub fn hp_client_id_new(client_type: *const u8, client_type_len: usize, counter: u64, out: *mut u8, out_len: usize) -> Written;
+        /// [`channel_id_new`] on pointers.
+        pub fn hp_channel_id_new(counter: u64, out: *mut u8, out_len: usize) -> Written;
+        /// [`read`] on pointers.
+        pub fn hp_read(text: *const u8, text_len: usize, out: *mut u8, out_len: usize) -> u8;
+        /// [`key`] on pointers.
+        pub fn hp_key(text: *const u8, text_len: usize, out: *mut u8, out_len: usize) -> Written;
+        /// [`render`] on pointers.
+        pub fn hp_render(kind: u8, first: *const u8, first_len: usize, second: *const u8, second_len: usize, a: u64, b: u64, out: *mut u8, out_len: usize) -> Written;
+        /// [`is_provable`] on pointers.
+        pub fn hp_is_provable(kind: u8) -> Flag;
+        /// [`iteration_key`] on pointers.
+        pub fn hp_iteration_key(number: u64, height: u64, out: *mut u8, out_len: usize) -> Written;
+        /// [`client_state_prefix`] on pointers.
+        pub fn hp_client_state_prefix(out: *mut u8, out_len: usize) -> Written;
+        /// [`client_state_leaf`] on pointers.
+        pub fn hp_client_state_leaf(out: *mut u8, out_len: usize) -> Written;
+        /// [`consensus_state_parent`] on pointers.
+        pub fn hp_consensus_state_parent(client: *const u8, client_len: usize, out: *mut u8, out_len: usize) -> Written;
+        /// [`consensus_state_leaf`] on pointers.
+        pub fn hp_consensus_state_leaf(number: u64, height: u64, out: *mut u8, out_len: usize) -> Written;
+        /// [`update_time_leaf`] on pointers.
+        pub fn hp_update_time_leaf(number: u64, height: u64, out: *mut u8, out_len: usize) -> Written;
+        /// [`update_height_leaf`] on pointers.
+        pub fn hp_update_height_leaf(number: u64, height: u64, out: *mut u8, out_len: usize) -> Written;
+        /// [`connection_prefix`] on pointers.
+        pub fn hp_connection_prefix(out: *mut u8, out_len: usize) -> Written;
+        /// [`channel_end_prefix`] on pointers.
+        pub fn hp_channel_end_prefix(out: *mut u8, out_len: usize) -> Written;
+        /// [`commitments_path`] on pointers.
+        pub fn hp_commitments_path(port: *const u8, port_len: usize, channel: *const u8, channel_len: usize, out: *mut u8, out_len: usize) -> Written;
+        /// [`acks_path`] on pointers.
+        pub fn hp_acks_path(port: *const u8, port_len: usize, channel: *const u8, channel_len: usize, out: *mut u8, out_len: usize) -> Written;
+        /// [`receipts_path`] on pointers.
+        pub fn hp_receipts_path(port: *const u8, port_len: usize, channel: *const u8, channel_len: usize, out: *mut u8, out_len: usize) -> Written;
+        /// [`commitment_prefix`] on pointers.
+        pub fn hp_commitment_prefix(out: *mut u8, out_len: usize) -> Written;
+        /// [`ack_prefix`] on pointers.
+        pub fn hp_ack_prefix(out: *mut u8, out_len: usize) -> Written;
+        /// [`receipt_prefix`] on pointers.
+        pub fn hp_receipt_prefix(out: *mut u8, out_len: usize) -> Written;
+        /// [`book_new`] on pointers.
+        pub fn hp_book_new(book: *mut u8, book_len: usize) -> u8;
+        /// [`book_write`] on pointers.
+        pub fn hp_book_write(book: *mut u8, book_len: usize, text: *const u8, text_len: usize, value: *const u8, value_len: usize) -> u8;
+        /// [`book_remove`] on pointers.
+        pub fn hp_book_remove(book: *mut u8, book_len: usize, text: *const u8, text_len: usize) -> u8;
+        /// [`book_lookup`] on pointers.
+        pub fn hp_book_lookup(book: *const u8, book_len: usize, text: *const u8, text_len: usize, out: *mut u8, out_len: usize) -> u8;
+        /// [`book_oldest`] on pointers.
+        pub fn hp_book_oldest(book: *const u8, book_len: usize, client: *const u8, client_len: usize) -> Pair;
+        // Above, made by bin/interface.
+    }
+}
+
+// Below, made by bin/interface: calls on slices.
+
+/// All bytes are A-Z, a-z, 0-9 or one of `. _ + - # [ ] < >`: 2, 5.
+pub fn validate_identifier_chars(id: &[u8]) -> u8 {
+    // SAFETY: each pointer and count are those of one live slice.
+    unsafe { c::hp_validate_identifier_chars(id.as_ptr(), id.len()) }
+}
+
+/// The length is from min, raised to 1, to max: 2, 6.
+pub fn validate_identifier_length(id: &[u8], min: u64, max: u64) -> u8 {
+    // SAFETY: each pointer and count are those of one live slice.
+    unsafe { c::hp_validate_identifier_length(id.as_ptr(), id.len(), min, max) }
+}
+
+/// The length is from min - 2, raised to 1, to max - 21, both stopping at 0: 2, 6.
+pub fn validate_prefix_length(prefix: &[u8], min: u64, max: u64) -> u8 {
+    // SAFETY: each pointer and count are those of one live slice.
+    unsafe { c::hp_validate_prefix_length(prefix.as_ptr(), prefix.len(), min, max) }
+}
+
+/// The name, `-` and an index; either text may give 2: 2, 7, 8.
+pub fn validate_named_u64_index(id: &[u8], name: &[u8]) -> u8 {
+    // SAFETY: each pointer and count are those of one live slice.
+    unsafe { c::hp_validate_named_u64_index(id.as_ptr(), id.len(), name.as_ptr(), name.len()) }
+}
+
+/// A client type of 7 to 43 bytes: 2, 5, 6.
+pub fn validate_client_type(id: &[u8]) -> u8 {
+    // SAFETY: each pointer and count are those of one live slice.
+    unsafe { c::hp_validate_client_type(id.as_ptr(), id.len()) }
+}
+
+/// A client identifier of 9 to 64 bytes: 2, 5, 6.
+pub fn validate_client_identifier(id: &[u8]) -> u8 {
+    // SAFETY: each pointer and count are those of one live slice.
+    unsafe { c::hp_validate_client_identifier(id.as_ptr(), id.len()) }
+}
+
+/// A connection identifier of 10 to 64 bytes, `connection-` and an index: 2, 5, 6, 7, 8.
+pub fn validate_connection_identifier(id: &[u8]) -> u8 {
+    // SAFETY: each pointer and count are those of one live slice.
+    unsafe { c::hp_validate_connection_identifier(id.as_ptr(), id.len()) }
+}
+
+/// A port identifier of 2 to 128 bytes: 2, 5, 6.
+pub fn validate_port_identifier(id: &[u8]) -> u8 {
+    // SAFETY: each pointer and count are those of one live slice.
+    unsafe { c::hp_validate_port_identifier(id.as_ptr(), id.len()) }
+}
+
+/// A channel identifier of 8 to 64 bytes, `channel-` and an index: 2, 5, 6, 7, 8.
+pub fn validate_channel_identifier(id: &[u8]) -> u8 {
+    // SAFETY: each pointer and count are those of one live slice.
+    unsafe { c::hp_validate_channel_identifier(id.as_ptr(), id.len()) }
+}
+
+/// The client type without the bytes 9 to 13 and 32 at its ends, `-` and the counter: 2, 5, 6, 4.
+pub fn client_id_new(client_type: &[u8], counter: u64, out: &mut [u8]) -> Written {
+    // SAFETY: each pointer and count are those of one live slice.
+    unsafe { c::hp_client_id_new(client_type.as_ptr(), client_type.len(), counter, out.as_mut_ptr(), out.len()) }
+}
+
+/// `channel-` and the counter: 4.
+pub fn channel_id_new(counter: u64, out: &mut [u8]) -> Written {
+    // SAFETY: each pointer and count are those of one live slice.
+    unsafe { c::hp_channel_id_new(counter, out.as_mut_ptr(), out.len()) }
+}
+
+/// The reading in 26 bytes, high bytes first: kind; 1 exact or 0 loose; start and length of the first identifier
+/// and of the second, 2 bytes each; two numbers of 8 bytes. What the kind lacks is 0: 1, 2, 3, 4.
+pub fn read(text: &[u8], out: &mut [u8]) -> u8 {
+    // SAFETY: each pointer and count are those of one live slice.
+    unsafe { c::hp_read(text.as_ptr(), text.len(), out.as_mut_ptr(), out.len()) }
+}
+
+/// The rendering of the text: 1, 2, 3, 4.
+pub fn key(text: &[u8], out: &mut [u8]) -> Written {
+    // SAFETY: each pointer and count are those of one live slice.
+    unsafe { c::hp_key(text.as_ptr(), text.len(), out.as_mut_ptr(), out.len()) }
+}
+
+/// The path of a kind; what the kind lacks has no influence: 14, first, second (an upgrade path: 2, 13), 1, 4.
+pub fn render(kind: u8, first: &[u8], second: &[u8], a: u64, b: u64, out: &mut [u8]) -> Written {
+    // SAFETY: each pointer and count are those of one live slice.
+    unsafe { c::hp_render(kind, first.as_ptr(), first.len(), second.as_ptr(), second.len(), a, b, out.as_mut_ptr(), out.len()) }
+}
+
+/// 1 where paths of the kind are provable: 14.
+pub fn is_provable(kind: u8) -> Flag {
+    // SAFETY: each pointer and count are those of one live slice.
+    unsafe { c::hp_is_provable(kind) }
+}
+
+/// `iterateConsensusStates`, number and height, 38 bytes: 4.
+pub fn iteration_key(number: u64, height: u64, out: &mut [u8]) -> Written {
+    // SAFETY: each pointer and count are those of one live slice.
+    unsafe { c::hp_iteration_key(number, height, out.as_mut_ptr(), out.len()) }
+}
+
+/// `clients`: 4.
+pub fn client_state_prefix(out: &mut [u8]) -> Written {
+    // SAFETY: each pointer and count are those of one live slice.
+    unsafe { c::hp_client_state_prefix(out.as_mut_ptr(), out.len()) }
+}
+
+/// `clientState`: 4.
+pub fn client_state_leaf(out: &mut [u8]) -> Written {
+    // SAFETY: each pointer and count are those of one live slice.
+    unsafe { c::hp_client_state_leaf(out.as_mut_ptr(), out.len()) }
+}
+
+/// `clients/C/consensusStates`: the client's 2, 5, 6; then 4.
+pub fn consensus_state_parent(client: &[u8], out: &mut [u8]) -> Written {
+    // SAFETY: each pointer and count are those of one live slice.
+    unsafe { c::hp_consensus_state_parent(client.as_ptr(), client.len(), out.as_mut_ptr(), out.len()) }
+}
+
+/// `consensusStates/R-h`: 4.
+pub fn consensus_state_leaf(number: u64, height: u64, out: &mut [u8]) -> Written {
+    // SAFETY: each pointer and count are those of one live slice.
+    unsafe { c::hp_consensus_state_leaf(number, height, out.as_mut_ptr(), out.len()) }
+}
+
+/// `consensusStates/R-h/processedTime`: 4.
+pub fn update_time_leaf(number: u64, height: u64, out: &mut [u8]) -> Written {
+    // SAFETY: each pointer and count are those of one live slice.
+    unsafe { c::hp_update_time_leaf(number, height, out.as_mut_ptr(), out.len()) }
+}
+
+/// `consensusStates/R-h/processedHeight`: 4.
+pub fn update_height_leaf(number: u64, height: u64, out: &mut [u8]) -> Written {
+    // SAFETY: each pointer and count are those of one live slice.
+    unsafe { c::hp_update_height_leaf(number, height, out.as_mut_ptr(), out.len()) }
+}
+
+/// `connections`: 4.
+pub fn connection_prefix(out: &mut [u8]) -> Written {
+    // SAFETY: each pointer and count are those of one live slice.
+    unsafe { c::hp_connection_prefix(out.as_mut_ptr(), out.len()) }
+}
+
+/// `channelEnds`: 4.
+pub fn channel_end_prefix(out: &mut [u8]) -> Written {
+    // SAFETY: each pointer and count are those of one live slice.
+    unsafe { c::hp_channel_end_prefix(out.as_mut_ptr(), out.len()) }
+}
+
+/// `commitments/ports/P/channels/H/sequences`: the port's 2, 5, 6; the channel's 2, 5, 6, 7, 8; then 4.
+pub fn commitments_path(port: &[u8], channel: &[u8], out: &mut [u8]) -> Written {
+    // SAFETY: each pointer and count are those of one live slice.
+    unsafe { c::hp_commitments_path(port.as_ptr(), port.len(), channel.as_ptr(), channel.len(), out.as_mut_ptr(), out.len()) }
+}
+
+/// `acks/ports/P/channels/H/sequences`: the port's 2, 5, 6; the channel's 2, 5, 6, 7, 8; then 4.
+pub fn acks_path(port: &[u8], channel: &[u8], out: &mut [u8]) -> Written {
+    // SAFETY: each pointer and count are those of one live slice.
+    unsafe { c::hp_acks_path(port.as_ptr(), port.len(), channel.as_ptr(), channel.len(), out.as_mut_ptr(), out.len()) }
+}
+
+/// `receipts/ports/P/channels/H/sequences`: the port's 2, 5, 6; the channel's 2, 5, 6, 7, 8; then 4.
+pub fn receipts_path(port: &[u8], channel: &[u8], out: &mut [u8]) -> Written {
+    // SAFETY: each pointer and count are those of one live slice.
+    unsafe { c::hp_receipts_path(port.as_ptr(), port.len(), channel.as_ptr(), channel.len(), out.as_mut_ptr(), out.len()) }
+}
+
+/// `commitments`: 4.
+pub fn commitment_prefix(out: &mut [u8]) -> Written {
+    // SAFETY: each pointer and count are those of one live slice.
+    unsafe { c::hp_commitment_prefix(out.as_mut_ptr(), out.len()) }
+}
+
+/// `acks`: 4.
+pub fn ack_prefix(out: &mut [u8]) -> Written {
+    // SAFETY: each pointer and count are those of one live slice.
+    unsafe { c::hp_ack_prefix(out.as_mut_ptr(), out.len()) }
+}
+
+/// `receipts`: 4.
+pub fn receipt_prefix(out: &mut [u8]) -> Written {
+    // SAFETY: each pointer and count are those of one live slice.
+    unsafe { c::hp_receipt_prefix(out.as_mut_ptr(), out.len()) }
+}
+
+/// Makes the buffer, whatever it holds, a book without records; its size alone is looked at: 9.
+pub fn book_new(book: &mut [u8]) -> u8 {
+    // SAFETY: each pointer and count are those of one live slice.
+    unsafe { c::hp_book_new(book.as_mut_ptr(), book.len()) }
+}
+
+/// The rendering of the text holds the value from now on, anew or in place of what it held: 9, 1, 2, 3, 10, 6, 11.
+pub fn book_write(book: &mut [u8], text: &[u8], value: &[u8]) -> u8 {
+    // SAFETY: each pointer and count are those of one live slice.
+    unsafe { c::hp_book_write(book.as_mut_ptr(), book.len(), text.as_ptr(), text.len(), value.as_ptr(), value.len()) }
+}
+
+/// The rendering of the text holds nothing from now on: 9, 1, 2, 3, 10, 12.
+pub fn book_remove(book: &mut [u8], text: &[u8]) -> u8 {
+    // SAFETY: each pointer and count are those of one live slice.
+    unsafe { c::hp_book_remove(book.as_mut_ptr(), book.len(), text.as_ptr(), text.len()) }
+}
+
+/// What the rendering of the text holds, in 32 bytes; wants that room even where it holds nothing:
+/// 9, 1, 2, 3, 10, 4, 12.
+pub fn book_lookup(book: &[u8], text: &[u8], out: &mut [u8]) -> u8 {
+    // SAFETY: each pointer and count are those of one live slice.
+    unsafe { c::hp_book_lookup(book.as_ptr(), book.len(), text.as_ptr(), text.len(), out.as_mut_ptr(), out.len()) }
+}
+
+/// Revision number and height of the client's first record `clients/C/consensusStates/R-h` in byte order of key, in
+/// which 10 stands before 9: 9, the client's 2, 5, 6; then 12.
+pub fn book_oldest(book: &[u8], client: &[u8]) -> Pair {
+    // SAFETY: each pointer and count are those of one live slice.
+    unsafe { c::hp_book_oldest(book.as_ptr(), book.len(), client.as_ptr(), client.len()) }
+}
+// Above, made by bin/interface.

@@ -1,0 +1,99 @@
+//! The refusals.
+use core::fmt;
+
+/// Why a call was refused, by the number that the library has for it. Its `Display` is a sentence that says what to do.
+#[derive(Clone, Copy, Debug, PartialEq, Eq, PartialOrd, Ord, Hash)]
+#[non_exhaustive]
+#[repr(u8)]
+pub enum Refusal {
+    // Below, made by bin/interface: refusals.
+    /// 1: the text, or the path that it makes, has more than 4,096 bytes: shorten it.
+    TooLong = 1,
+    /// 2: a byte of the text is 128 or more: write the text in ASCII alone.
+    NotAscii = 2,
+    /// 3: the text fits none of the nineteen kinds of path: hold its words and numbers against the table of kinds.
+    NotAPath = 3,
+    /// 4: the lent buffer is shorter than the answer: lend a longer one.
+    NoRoom = 4,
+    /// 5: a byte is none of A-Z, a-z, 0-9 and . _ + - # [ ] < >, which identifiers are made of: take it out.
+    BadChar = 5,
+    /// 6: the identifier is too short or too long, or the value is not of 32 bytes: give one of the right length.
+    BadLength = 6,
+    /// 7: the identifier is not its name, a dash and a number without leading zeros: write it as in channel-7.
+    BadPrefix = 7,
+    /// 8: after the dash stands no number from 0 to 18446744073709551615: write it as in channel-7.
+    BadNumber = 8,
+    /// 9: the buffer holds no book: make a new one in it, or lend the bytes that a book left.
+    BadBook = 9,
+    /// 10: the path's key has more than the 255 bytes that a book keeps: shorten its upgrade path.
+    KeyTooLong = 10,
+    /// 11: every slot of the book holds another key: remove a record, or take a book of more slots.
+    Full = 11,
+    /// 12: the book holds no such record: ask for the key of the text to see which record was looked for.
+    Absent = 12,
+    /// 13: the upgrade path has a slash: give it as one piece, such as upgradedIBCState.
+    BadSegment = 13,
+    /// 14: the kind is not a number from 1 to 19: take it from the table of kinds.
+    BadKind = 14,
+    // Above, made by bin/interface.
+}
+
+impl Refusal {
+    /// The refusal of a number, which 0 has none of.
+    pub const fn of(number: u8) -> Option<Self> {
+        Some(match number {
+            // Below, made by bin/interface: numbers of refusals.
+            1 => Self::TooLong,
+            2 => Self::NotAscii,
+            3 => Self::NotAPath,
+            4 => Self::NoRoom,
+            5 => Self::BadChar,
+            6 => Self::BadLength,
+            7 => Self::BadPrefix,
+            8 => Self::BadNumber,
+            9 => Self::BadBook,
+            10 => Self::KeyTooLong,
+            11 => Self::Full,
+            12 => Self::Absent,
+            13 => Self::BadSegment,
+            14 => Self::BadKind,
+            // Above, made by bin/interface.
+            _ => return None,
+        })
+    }
+
+    /// The number that the library has for it.
+    pub const fn number(self) -> u8 {
+        self as u8
+    }
+
+    /// What is wrong, and what to do about it.
+    pub const fn sentence(self) -> &'static str {
+        match self {
+            // Below, made by bin/interface: sentences of refusals.
+            Self::TooLong => "the text, or the path that it makes, has more than 4,096 bytes: shorten it",
+            Self::NotAscii => "a byte of the text is 128 or more: write the text in ASCII alone",
+            Self::NotAPath => "the text fits none of the nineteen kinds of path: hold its words and numbers against the table of kinds",
+            Self::NoRoom => "the lent buffer is shorter than the answer: lend a longer one",
+            Self::BadChar => "a byte is none of A-Z, a-z, 0-9 and . _ + - # [ ] < >, which identifiers are made of: take it out",
+            Self::BadLength => "the identifier is too short or too long, or the value is not of 32 bytes: give one of the right length",
+            Self::BadPrefix => "the identifier is not its name, a dash and a number without leading zeros: write it as in channel-7",
+            Self::BadNumber => "after the dash stands no number from 0 to 18446744073709551615: write it as in channel-7",
+            Self::BadBook => "the buffer holds no book: make a new one in it, or lend the bytes that a book left",
+            Self::KeyTooLong => "the path's key has more than the 255 bytes that a book keeps: shorten its upgrade path",
+            Self::Full => "every slot of the book holds another key: remove a record, or take a book of more slots",
+            Self::Absent => "the book holds no such record: ask for the key of the text to see which record was looked for",
+            Self::BadSegment => "the upgrade path has a slash: give it as one piece, such as upgradedIBCState",
+            Self::BadKind => "the kind is not a number from 1 to 19: take it from the table of kinds",
+            // Above, made by bin/interface.
+        }
+    }
+}
+
+impl fmt::Display for Refusal {
+    fn fmt(&self, out: &mut fmt::Formatter<'_>) -> fmt::Result {
+        write!(out, "refusal {}: {}", self.number(), self.sentence())
+    }
+}
+
+impl core::error::Error for Refusal {}

@@ -1,0 +1,135 @@
+//! Texts above and below a path, and iteration keys.
+use crate::{done, raw, written, ChannelId, ClientId, PortId, Refusal};
+
+/// An iteration key's bytes.
+pub const ITERATION_KEY: usize = 38;
+
+/// `iterateConsensusStates`, a revision number and a revision height: keys compare as the pairs of
+/// numbers compare.
+///
+/// ```
+/// use hostpath::{IterationKey, Refusal};
+///
+/// assert!(IterationKey::new(7, 2)? < IterationKey::new(10, 2)?);
+/// assert_eq!(IterationKey::new(7, 2)?.as_bytes()[..22], *b"iterateConsensusStates");
+/// # Ok::<(), Refusal>(())
+/// ```
+#[derive(Clone, Copy, Debug, PartialEq, Eq, PartialOrd, Ord, Hash)]
+pub struct IterationKey([u8; ITERATION_KEY]);
+
+impl IterationKey {
+    /// The key of a revision number and height; it has room, so nothing is refused.
+    pub fn new(revision_number: u64, revision_height: u64) -> Result<Self, Refusal> {
+        let mut key = [0; ITERATION_KEY];
+        done(raw::iteration_key(revision_number, revision_height, &mut key).refusal)?;
+        Ok(Self(key))
+    }
+
+    /// Its bytes.
+    pub const fn as_bytes(&self) -> &[u8; ITERATION_KEY] {
+        &self.0
+    }
+}
+
+impl AsRef<[u8]> for IterationKey {
+    fn as_ref(&self) -> &[u8] {
+        &self.0
+    }
+}
+
+/// Writes `clients`. 4.
+pub fn client_state_prefix(out: &mut [u8]) -> Result<&str, Refusal> {
+    written(raw::client_state_prefix(out), out)
+}
+
+/// Writes `clientState`. 4.
+pub fn client_state_leaf(out: &mut [u8]) -> Result<&str, Refusal> {
+    written(raw::client_state_leaf(out), out)
+}
+
+/// Writes `clients/C/consensusStates`. 4.
+pub fn consensus_state_parent<'o>(
+    client_id: ClientId<'_>,
+    out: &'o mut [u8],
+) -> Result<&'o str, Refusal> {
+    written(raw::consensus_state_parent(client_id.as_bytes(), out), out)
+}
+
+/// Writes `consensusStates/R-h`. 4.
+pub fn consensus_state_leaf(
+    revision_number: u64,
+    revision_height: u64,
+    out: &mut [u8],
+) -> Result<&str, Refusal> {
+    written(raw::consensus_state_leaf(revision_number, revision_height, out), out)
+}
+
+/// Writes `consensusStates/R-h/processedTime`. 4.
+pub fn update_time_leaf(
+    revision_number: u64,
+    revision_height: u64,
+    out: &mut [u8],
+) -> Result<&str, Refusal> {
+    written(raw::update_time_leaf(revision_number, revision_height, out), out)
+}
+
+/// Writes `consensusStates/R-h/processedHeight`. 4.
+pub fn update_height_leaf(
+    revision_number: u64,
+    revision_height: u64,
+    out: &mut [u8],
+) -> Result<&str, Refusal> {
+    written(raw::update_height_leaf(revision_number, revision_height, out), out)
+}
+
+/// Writes `connections`. 4.
+pub fn connection_prefix(out: &mut [u8]) -> Result<&str, Refusal> {
+    written(raw::connection_prefix(out), out)
+}
+
+/// Writes `channelEnds`. 4.
+pub fn channel_end_prefix(out: &mut [u8]) -> Result<&str, Refusal> {
+    written(raw::channel_end_prefix(out), out)
+}
+
+/// Writes `commitments/ports/P/channels/H/sequences`. 4.
+pub fn commitments_path<'o>(
+    port_id: PortId<'_>,
+    channel_id: ChannelId<'_>,
+    out: &'o mut [u8],
+) -> Result<&'o str, Refusal> {
+    written(raw::commitments_path(port_id.as_bytes(), channel_id.as_bytes(), out), out)
+}
+
+/// Writes `acks/ports/P/channels/H/sequences`. 4.
+pub fn acks_path<'o>(
+    port_id: PortId<'_>,
+    channel_id: ChannelId<'_>,
+    out: &'o mut [u8],
+) -> Result<&'o str, Refusal> {
+    written(raw::acks_path(port_id.as_bytes(), channel_id.as_bytes(), out), out)
+}
+
+/// Writes `receipts/ports/P/channels/H/sequences`. 4.
+pub fn receipts_path<'o>(
+    port_id: PortId<'_>,
+    channel_id: ChannelId<'_>,
+    out: &'o mut [u8],
+) -> Result<&'o str, Refusal> {
+    written(raw::receipts_path(port_id.as_bytes(), channel_id.as_bytes(), out), out)
+}
+
+/// Writes `commitments`. 4.
+pub fn commitment_prefix(out: &mut [u8]) -> Result<&str, Refusal> {
+    written(raw::commitment_prefix(out), out)
+}
+
+/// Writes `acks`. 4.
+pub fn ack_prefix(out: &mut [u8]) -> Result<&str, Refusal> {
+    written(raw::ack_prefix(out), out)
+}
+
+/// Writes `receipts`. 4.
+pub fn receipt_prefix(out: &mut [u8]) -> Result<&str, Refusal> {
+    written(raw::receipt_prefix(out), out)
+}
