@@ -13,8 +13,7 @@ use borrow.Author.Tests.{lt-ltb, le-ltb, le-leb, lt-leb, eq-eqb, ne-eqb, eqb-tru
 use Rattle.text.specs.Bytes.{bytes}
 use Rattle.text.specs.Number.{numeralOf}
 use Rattle.text.specs.Part.{every, ascii, startsWith}
-use Rattle.text.specs.Part.{top}
-use Rattle.text.specs.PartLaws.{and-left, and-right, every-at, every-top, starts-append, starts-byte}
+use Rattle.text.specs.PartLaws.{and-left, and-right, every-at, starts-append, starts-byte}
 use Rattle.identifiers.specs.Check.{first, unless, among, identifierByte, charsOf, isValue, within, indexOf, namedOf, lengthOf, prefixLengthOf, namedIndexOf, Form, plain, indexed, Rule, client, clientType, formOf, checkOf, generalForm, generalOf}
 
 -- ---- of two checks, and of a test
@@ -61,49 +60,24 @@ identifier-low b h =
     (λ e. omega (arith, leb-true b 57 (and-right (leb 48 b) _ e)))
     (λ e. ltb-true b 128 (among-every (λ x. ltb x 128) b (bytes "._+-#[]<>") refl e))))
 
--- what a byte is: `0` an identifier byte, `1` another ASCII byte, `2` no ASCII
-unfoldable pub classOf : ℕ → ℕ
-classOf b = cond (identifierByte b) 48 (cond (ltb b 128) 49 50)
+low-bytes : (s : List ℕ) → every identifierByte s ≡ true → ascii s ≡ true
+unfolding ascii every
+low-bytes [] h = refl
+low-bytes (b ∷ s) h = rw (lt-ltb b 128 (identifier-low b (and-left (identifierByte b) _ h))) (low-bytes s (and-right (identifierByte b) _ h))
 
-class-ascii : (b : ℕ) → ltb b 128 ≡ ltb (classOf b) 50
-unfolding classOf
-class-ascii b = go (identifierByte b) refl (ltb b 128) refl
-  where
-    go : (t : Bool) → identifierByte b ≡ t → (u : Bool) → ltb b 128 ≡ u → u ≡ ltb (cond t 48 (cond u 49 50)) 50
-    go true e u f = sym f ∙ lt-ltb b 128 (identifier-low b e)
-    go false e true f = refl
-    go false e false f = refl
-
-class-byte : (b : ℕ) → identifierByte b ≡ ltb (classOf b) 49
-unfolding classOf
-class-byte b = go (identifierByte b) (ltb b 128)
-  where
-    go : (t u : Bool) → t ≡ ltb (cond t 48 (cond u 49 50)) 49
-    go true u = refl
-    go false true = refl
-    go false false = refl
-
--- ---- the largest class of a text answers both questions
+-- ---- the bytes of a text
 module _ (s : List ℕ) where
-  bytes-top : every identifierByte s ≡ ltb (top classOf 0 s) 49
-  bytes-top = every-top identifierByte classOf 49 class-byte (omega arith) s
-
-  chars-top : charsOf s ≡ first (unless 2 (ltb (top classOf 0 s) 50)) (unless 5 (ltb (top classOf 0 s) 49))
-  unfolding charsOf ascii
-  chars-top = rw (every-top (λ b. ltb b 128) classOf 50 class-ascii (omega arith) s, bytes-top)
-
-  module _ (t : ℕ) (e : top classOf 0 s ≡ t) where
-    pub chars-high : 49 < t → charsOf s ≡ 2
-    chars-high h = chars-top ∙ rw (e, le-ltb t 50 h)
-
-    pub chars-other : 48 < t → t ≤ 49 → charsOf s ≡ 5
-    chars-other h k = let below : t < 50 = omega arith in chars-top ∙ rw (e, lt-ltb t 50 below, le-ltb t 49 h)
-
-    pub chars-none : t ≤ 48 → charsOf s ≡ 0
-    chars-none h = let below : t < 50 = omega arith in let none : t < 49 = omega arith in chars-top ∙ rw (e, lt-ltb t 50 below, lt-ltb t 49 none)
-
   pub bytes-chars : every identifierByte s ≡ true → charsOf s ≡ 0
-  bytes-chars h = chars-none (top classOf 0 s) refl (omega (arith, ltb-true (top classOf 0 s) 49 (sym bytes-top ∙ h)))
+  unfolding charsOf
+  bytes-chars h = rw (low-bytes s h, h)
+
+  pub chars-other : every identifierByte s ≡ false → ascii s ≡ true → charsOf s ≡ 5
+  unfolding charsOf
+  chars-other h low = rw (low, h)
+
+  pub chars-high : ascii s ≡ false → charsOf s ≡ 2
+  unfolding charsOf
+  chars-high high = rw high
 
   -- what a text has that passes it
   module _ (ok : charsOf s ≡ 0) where

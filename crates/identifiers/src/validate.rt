@@ -11,34 +11,37 @@ ghost use Prim.Native.Nat.{max, _-_};
 ghost use Rattle.text.specs.Part.{every};
 ghost use Rattle.identifiers.specs.Check.{identifierByte, charsOf, within, indexOf, namedOf, lengthOf, prefixLengthOf, namedIndexOf, plain, indexed, checkOf, client, clientType, connection, port, channel};
 
-// What each byte is: `0` an identifier byte, `1` another ASCII byte, `2` no ASCII.
-const CLASS: [u8; 256] = *b"\
-    11111111111111111111111111111111\
-    11101111111010010000000000110101\
-    10000000000000000000000000001010\
-    10000000000000000000000000011111\
-    22222222222222222222222222222222\
-    22222222222222222222222222222222\
-    22222222222222222222222222222222\
-    22222222222222222222222222222222";
+// Which bytes may stand in an identifier, a bit each: of those from 0 to 63, and of those from 64 to 96.
+const LOW: u64 = 0x53ff680800000000;
 
-// Whether the text has only identifier bytes. One pass answers both questions, ASCII and bytes; the table is laid out once, before it.
+const HIGH: u64 = 0x00000000affffffe;
+
+// Whether the byte may stand in an identifier; lower-case letters are told first, being the most.
+fn is_identifier_byte(b: u8) -> bool
+    ensures { λ r. ⌜ r ≡ identifierByte b ⌝ }
+{
+    if b'`' < b {
+        return b < b'{';
+    }
+    if b < 64 {
+        return (LOW >> b) % 2 == 1;
+    }
+    (HIGH >> (b - 64)) % 2 == 1
+}
+
+// Whether the text has only identifier bytes. At the first other byte the whole text tells which refusal it is.
 pub fn validate_identifier_chars(id: &[u8]) -> u8
     ensures { λ r. ⌜ r ≡ charsOf (now (id .entry)) ⌝ }
 {
-    let class = CLASS;
-    let mut top: u8 = 0;
     let mut i = 0;
     while i < id.len() {
-        let b = id[i] as usize;
-        top = text::part::larger(top, class[b]);
+        if !is_identifier_byte(id[i]) {
+            if text::part::all_ascii(id) {
+                return BAD_CHAR;
+            }
+            return NOT_ASCII;
+        }
         i += 1;
-    }
-    if b'1' < top {
-        return NOT_ASCII;
-    }
-    if b'0' < top {
-        return BAD_CHAR;
     }
     0
 }

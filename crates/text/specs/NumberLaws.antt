@@ -13,7 +13,7 @@ use lib.ListN.{length, getD, length-append, List·getD-append}
 use lib.Seq.{getD-at}
 use borrow.Author.Tests.{lt-ltb, le-ltb, le-leb, lt-leb, ne-eqb, ltb-true, leb-true}
 use Rattle.text.specs.PartLaws.{and-left, and-right}
-use Rattle.text.specs.Number.{numeralOf, digitsAt, digitsFrom, isDigit, withDigit, width, widthBy, digits, decimal, bigEndian}
+use Rattle.text.specs.Number.{numeralOf, digitsAt, digitsFrom, isDigit, withDigit, width, widthBy, digits, decimal, bigEndian, lowBytes}
 use Rattle.text.specs.declared.Numeral.{Numeral}
 use Rattle.text.specs.declared.Numeral.the-variants.{Value, NoDigits, NotADigit, TooLarge}
 
@@ -215,8 +215,13 @@ decimal-no-longer (b ∷ s) n h = go (eqb b 43) h
     go true k = let l = digitsAt-no-longer 1 s n k .0 in (omega arith, λ e. absurd (omega arith))
     go false k = digitsAt-no-longer 0 (b ∷ s) n k
 
--- ---- bytes, high byte first
+-- ---- the bytes of a number
 pub length-big : (n v : ℕ) → length (bigEndian n v) ≡ n
 unfolding bigEndian
 length-big zero v = refl
 length-big (suc n) v = rw length-append (omega (arith, length-big n (v / 256)))
+
+pub length-low : (n v : ℕ) → length (lowBytes n v) ≡ n
+unfolding lowBytes
+length-low zero v = refl
+length-low (suc n) v = rw (length-low n (v / 256))

@@ -3,7 +3,7 @@
 use mathlib.Core.Path.{_≡_, refl, sym, ap, _∙_}
 use mathlib.Core.Bool.{Bool, true, false, cond}
 use Prim.Native.Nat.{ℕ, suc, _+_, _≤_, _<_}
-use native.Mathlib.Nat.{add-assoc, add-zero, zero-add, add-suc}
+use native.Mathlib.Nat.{add-assoc, zero-add, add-suc}
 use native.Mathlib.Numerals.{add-one}
 use native.Mathlib.Omega.{arith}
 use mathlib.Core.List.{List, [], _∷_, _++_, append-assoc}
@@ -18,11 +18,6 @@ use Rattle.text.specs.Put.{put, Wrote, Wanted, refused, text, refusal, d
 pub put-set : (out : List ℕ) (at b : ℕ) → at < length out → set out at b ≡ put out at (b ∷ [])
 unfolding put
 put-set out at b h = rw (set-split out at b h, add-one)
-
--- nothing written
-pub put-nil : (out : List ℕ) (at : ℕ) → put out at [] ≡ out
-unfolding put
-put-nil out at = rw add-zero (take-append-drop at out)
 
 -- written at the start
 pub put-zero : (out w : List ℕ) → put out 0 w ≡ w ++ drop (length w) out
@@ -73,13 +68,17 @@ both {out} {o} {o′} {a} {b} {at} {p} {q} x y =
     let l : length o ≡ length out = ap length (x .after) ∙ length-put out at a (x .room) in
     record { next = rw length-append (omega (arith, x .next, y .next)); after = put-then out at a b o o′ p (x .after) (x .next) (x .room) (y .after); room = rw length-append (omega (arith, x .next, y .room)) }
 
--- `out` up to place at + i, then `src` from i on, then `out` from place e on: one turn of a copying loop
+-- `out` up to place p, then what is to be written, then `out` from place e on: one byte of it stored
+pub store-more : (out : List ℕ) (p e b : ℕ) (rest : List ℕ) → p < length out → p < e → take p out ++ (b ∷ (rest ++ drop e out)) ≡ take (suc p) (set out p b) ++ (rest ++ drop e (set out p b))
+store-more out p e b rest l q = rw (take-suc-set out p b l, append-assoc, drop-set-lt e out p b q)
+
+-- the same where `src` from i on is to be written from place at + i on: one turn of a copying loop
 module _ (out src : List ℕ) (at i e : ℕ) where
   pub copy-none : length src ≤ i → at + i ≡ e → take (at + i) out ++ (drop i src ++ drop e out) ≡ out
   copy-none h q = rw (drop-of-length-le src h, q) (take-append-drop e out)
 
   pub copy-more : i < length src → at + i < length out → at + i < e → take (at + i) out ++ (drop i src ++ drop e out) ≡ take (at + (i + 1)) (set out (at + i) (getD src i 0)) ++ (drop (i + 1) src ++ drop e (set out (at + i) (getD src i 0)))
-  copy-more h l q = rw (drop-cons src i 0 h, add-one, add-suc, take-suc-set out (at + i) (getD src i 0) l, append-assoc, drop-set-lt e out (at + i) (getD src i 0) q)
+  copy-more h l q = rw (drop-cons src i 0 h, add-one, add-suc) (store-more out (at + i) e (getD src i 0) (drop (suc i) src) l q)
 
 -- a refusal
 pub answer-refused : (n room : ℕ) → answer (refused n) room ≡ refusal n

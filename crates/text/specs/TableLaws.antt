@@ -1,27 +1,11 @@
--- A table of the values of a function. A table in the code is proved by having antt compute the list and compare it with the code's, once.
+-- The values of a function on a run of numbers: a rule in the code is proved by having antt compute both on all of them, once.
 -- Assumes nothing.
-use mathlib.Core.Path.{_≡_, _∙_}
+use mathlib.Core.Path.{_≡_}
 use mathlib.Core.List.{List, [], _∷_, map}
 use Prim.Native.Nat.{ℕ, zero, suc, _+_, _≤_, _<_}
 use mathlib.Core.Logic.{⊎-elim}
-use native.Mathlib.Nat.{add-zero, zero-add, add-suc, suc-add, eq-or-lt-of-le}
+use native.Mathlib.Nat.{eq-or-lt-of-le}
 use native.Mathlib.Omega.{arith}
-use lib.ListN.{getD}
-
--- n values of g, from that of i on
-abbrev pub valuesFrom : (ℕ → ℕ) → ℕ → ℕ → List ℕ
-valuesFrom g i zero = []
-valuesFrom g i (suc n) = g i ∷ valuesFrom g (suc i) n
-
-module _ (g : ℕ → ℕ) where
-  from : (n i k : ℕ) → k < n → getD (valuesFrom g i n) k 0 ≡ g (i + k)
-  from zero i k h = absurd (omega arith)
-  from (suc n) i zero h = rw add-zero
-  from (suc n) i (suc k) h = from n (suc i) k (omega arith) ∙ rw (suc-add, add-suc)
-
-  -- what stands at each of its places
-  pub table-at : (n k : ℕ) → k < n → getD (valuesFrom g 0 n) k 0 ≡ g k
-  table-at n k h = from n 0 k h ∙ rw zero-add
 
 -- what is none of the n numbers from i on, and not below them, is past them: the last arm of a `match`
 abbrev pub NoneOf : ℕ → ℕ → ℕ → Type 0

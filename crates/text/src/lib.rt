@@ -6,7 +6,7 @@ pub mod refusal;
 ghost use mathlib.Core.Path.{_≡_};
 ghost use Prim.Native.Nat.{_+_, _≤_};
 ghost use lib.ListN.{length, drop};
-ghost use Rattle.text.specs.Number.{numeralOf, digitsAt, width, decimal, bigEndian};
+ghost use Rattle.text.specs.Number.{numeralOf, digitsAt, width, decimal, bigEndian, lowBytes};
 ghost use Rattle.text.specs.Put.{put};
 
 // What a text says as a number. A fault names its place in the text.
@@ -96,12 +96,47 @@ pub fn write_number(out: &mut [u8], at: usize, n: u64) -> usize
     at + w
 }
 
-// Writes `width` bytes of v from out[at] on, high byte first, and returns the place after them.
+// The number whose eight bytes, low byte first, are those of v, high byte first.
+fn turned(v: u64) -> u64
+    ensures { λ r. ⌜ lowBytes 8 r ≡ bigEndian 8 v ⌝ }
+{
+    let mut r: u64 = 0;
+    let mut m = v;
+    let mut i: usize = 0;
+    while i < 8 {
+        r = r * 256 + m % 256;
+        m = m / 256;
+        i += 1;
+    }
+    r
+}
+
+// Writes the eight bytes of v from out[at] on, low byte first.
+fn write_low(out: &mut [u8], at: usize, v: u64) -> usize
+    requires { ⌜ at + 8 ≤ length (now out) ⌝ }
+    ensures { λ r. ⌜ r ≡ at + 8 ⌝ }
+    ensures { λ _. ⌜ now (out .exit) ≡ put (now (out .entry)) at (lowBytes 8 v) ⌝ }
+{
+    let mut m = v;
+    let mut i: usize = 0;
+    while i < 8 {
+        out[at + i] = (m % 256) as u8;
+        m = m / 256;
+        i += 1;
+    }
+    at + 8
+}
+
+// Writes `width` bytes of v from out[at] on, high byte first, and returns the place after them. Eight are turned round
+// first, since eight stores low byte first are one.
 pub fn write_big_endian(out: &mut [u8], at: usize, v: u64, width: usize) -> usize
     requires { ⌜ at + width ≤ length (now out) ⌝ }
     ensures { λ r. ⌜ r ≡ at + width ⌝ }
     ensures { λ _. ⌜ now (out .exit) ≡ put (now (out .entry)) at (bigEndian width v) ⌝ }
 {
+    if width == 8 {
+        return write_low(out, at, turned(v));
+    }
     let mut j = width;
     let mut m = v;
     while 0 < j {
