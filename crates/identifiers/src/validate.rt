@@ -11,7 +11,8 @@ ghost use Prim.Native.Nat.{max, _-_};
 ghost use Rattle.text.specs.Part.{every};
 ghost use Rattle.identifiers.specs.Check.{identifierByte, charsOf, within, indexOf, namedOf, lengthOf, prefixLengthOf, namedIndexOf, plain, indexed, checkOf, client, clientType, connection, port, channel};
 
-// Which bytes may stand in an identifier, a bit each: of those from 0 to 63, and of those from 64 to 96.
+// Which bytes may stand in an identifier, a bit each: of those from 0 to 63 (`#`, `+`, `-`, `.`, digits, `<`, `>`), and of
+// those from 64 to 96 (A to Z, `[`, `]`, `_`).
 const LOW: u64 = 0x53ff680800000000;
 
 const HIGH: u64 = 0x00000000affffffe;

@@ -1,13 +1,13 @@
 -- The length of a rendering by three sums, and the tables of the code.
 -- Assumes nothing.
 use Prim.Native.Nat.{ℕ, suc, _+_, _-_, _≤_}
-use mathlib.Core.Path.{_≡_, refl, ap, _∙_}
+use mathlib.Core.Path.{_≡_, refl, _∙_}
 use mathlib.Core.List.{List, [], _∷_, map}
 use native.Mathlib.Omega.{arith}
 use lib.ListN.{length, length-append, getD}
 use Rattle.text.specs.Number.{width, decimal}
 use Rattle.text.specs.NumberLaws.{length-decimal}
-use Rattle.text.specs.TableLaws.{valuesFrom, table-at}
+use Rattle.text.specs.TableLaws.{span, agree-at}
 use Rattle.path.specs.Text.{joinBy}
 use Rattle.path.specs.Kinds.{Part, word, name, count, pair, Carried, carried, kinds, nameIn}
 use Rattle.path.specs.declared.name.Name.{Name}
@@ -72,5 +72,5 @@ module _ (k : ℕ) (low : 1 ≤ k) (high : k ≤ 19) where
       )
 
 -- ---- a table of the code that has a number for each kind: the bytes of its words, its identifiers, its numbers
-pub at-kind : (g : List Part → ℕ) (k : ℕ) → 1 ≤ k → k ≤ 19 → getD (valuesFrom (λ i. g (partsOf (suc i))) 0 19) (k - 1) 0 ≡ g (partsOf k)
-at-kind g k low high = table-at (λ i. g (partsOf (suc i))) 19 (k - 1) (omega arith) ∙ ap (λ n. g (partsOf n)) (let e : suc (k - 1) ≡ k = omega arith in e)
+pub at-kind : (g : List Part → ℕ) (k : ℕ) → 1 ≤ k → k ≤ 19 → getD (map (λ j. g (partsOf j)) (span 1 19)) (k - 1) 0 ≡ g (partsOf k)
+at-kind g k low high = agree-at (λ k. getD (map (λ j. g (partsOf j)) (span 1 19)) (k - 1) 0) (λ k. g (partsOf k)) 1 19 refl k low (omega arith)
