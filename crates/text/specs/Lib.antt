@@ -12,3 +12,4 @@ pub mod Put
 pub mod PutLaws
 pub mod Refusal
 pub mod TableLaws
+pub mod WordLaws
