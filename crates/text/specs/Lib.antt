@@ -13,3 +13,4 @@ pub mod Put
 pub mod PutLaws
 pub mod Refusal
 pub mod TableLaws
+pub mod WordLaws

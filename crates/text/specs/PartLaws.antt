@@ -7,8 +7,8 @@ use native.Mathlib.Nat.{add-zero, add-suc, le-refl}
 use native.Mathlib.Numerals.{add-one}
 use native.Mathlib.Omega.{arith}
 use mathlib.Core.List.{List, [], _∷_, _++_}
-use lib.ListN.{length, take, drop, getD, length-drop, drop-of-length-le}
-use lib.Seq.{drop-cons, take-all}
+use lib.ListN.{length, take, drop, getD, length-drop, drop-of-length-le, take-append-drop}
+use lib.Seq.{drop-cons, take-all, take-take, take-add}
 use lib.Dec.{ltb, eqb}
 use borrow.Author.Tests.{lt-ltb, le-ltb, eq-eqb, ne-eqb, eqb-true, ltb-true, ltb-false}
 use Rattle.text.specs.Part.{every, ascii, startsWith, same, top}
@@ -71,11 +71,6 @@ module _ (g : ℕ → ℕ) (v : ℕ) (s : List ℕ) (i : ℕ) where
   unfolding top
   top-more h = rw (drop-cons s i 0 h, add-one)
 
--- a text is ASCII where its largest byte is
-pub ascii-top : (s : List ℕ) → ascii s ≡ ltb (top (λ b. b) 0 s) 128
-unfolding ascii
-ascii-top s = every-top (λ b. ltb b 128) (λ b. b) 128 (λ b. refl) (omega arith) s
-
 -- ---- the part of a text from n to its end, as the code takes it
 pub part-rest : (n : ℕ) (s : List ℕ) → take (length s - n) (drop n s) ≡ drop n s
 part-rest n s = take-all (length s - n) (drop n s) (rw length-drop (le-refl _))
@@ -93,6 +88,26 @@ module _ (f : ℕ → Bool) (s : List ℕ) (i : ℕ) where
   pub every-more : i < length s → f (getD s i 0) ≡ true → every f (drop i s) ≡ every f (drop (i + 1) s)
   unfolding every
   every-more h e = rw (drop-cons s i 0 h, e, add-one)
+
+-- a test of each byte, before place i and from it on
+every-split : (f : ℕ → Bool) (s : List ℕ) (i : ℕ) → every f s ≡ (every f (take i s) && every f (drop i s))
+every-split f s i = ap (every f) (sym (take-append-drop i s)) ∙ every-append f (take i s) (drop i s)
+
+-- one turn of a loop that tests n bytes at a time, from i on
+module _ (f : ℕ → Bool) (s : List ℕ) (i n : ℕ) where
+  pub run-more : every f (take i s) ≡ true → every f (take n (drop i s)) ≡ true → every f (take (i + n) s) ≡ true
+  run-more h k = rw (take-add i n s, every-append f (take i s) (take n (drop i s)), h, k)
+
+  pub run-stop : every f (take n (drop i s)) ≡ false → every f s ≡ false
+  run-stop h =
+      let rest : every f (drop i s) ≡ false = every-split f (drop i s) n ∙ rw h in
+      every-split f s i ∙ rw rest (and-false (every f (take i s)))
+
+-- the n bytes from i on are the last of the text, and those before j passed
+pub run-last : (f : ℕ → Bool) (s : List ℕ) (i n j : ℕ) → i + n ≡ length s → i ≤ j → every f (take j s) ≡ true → every f s ≡ every f (take n (drop i s))
+run-last f s i n j e h k =
+    let front : every f (take i s) ≡ true = rw (take-take i j s h) at (and-left (every f (take i (take j s))) _ (sym (every-split f (take j s) i) ∙ k)) in
+    every-split f s i ∙ rw (front, take-all n (drop i s) (rw length-drop (omega arith)))
 
 -- ---- a text that is shorter than w does not start with w
 pub starts-short : (w s : List ℕ) → length s < length w → startsWith w s ≡ false

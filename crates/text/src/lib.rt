@@ -4,7 +4,8 @@ pub mod put;
 pub mod refusal;
 
 ghost use mathlib.Core.Path.{_≡_};
-ghost use Prim.Native.Nat.{_+_, _≤_};
+ghost use mathlib.Core.Bool.{true, false};
+ghost use Prim.Native.Nat.{_+_, _*_, _≤_, _<_};
 ghost use lib.ListN.{length, drop};
 ghost use Rattle.text.specs.Number.{numeralOf, digitsAt, width, decimal, bigEndian, lowBytes};
 ghost use Rattle.text.specs.Put.{put};
@@ -22,6 +23,20 @@ pub enum Numeral {
 pub struct Written {
     pub refusal: u8,
     pub length: u64,
+}
+
+// Whether v with the digit d after it is more than a u64 has. Most numbers are told by the first test.
+fn over(v: u64, d: u64) -> bool
+    requires { ⌜ d < 10 ⌝ }
+    ensures { λ r. ⌜ (r ≡ true → 18446744073709551615 < v * 10 + d) × (r ≡ false → v * 10 + d ≤ 18446744073709551615) ⌝ }
+{
+    if v < 1844674407370955161 {
+        return false;
+    }
+    if 1844674407370955161 < v {
+        return true;
+    }
+    5 < d
 }
 
 // Reads the digits from `start` to the end of `s`: one or more.
@@ -43,7 +58,7 @@ fn digits_at(s: &[u8], start: usize) -> Numeral
             return Numeral::NotADigit(i);
         }
         let d = (b - 48) as u64;
-        if (18446744073709551615 - d) / 10 < v {
+        if over(v, d) {
             return Numeral::TooLarge(i);
         }
         v = v * 10 + d;

@@ -1,9 +1,10 @@
 // Tests on a text.
 ghost use mathlib.Core.Path.{_≡_};
 ghost use mathlib.Core.Bool.{cond};
-ghost use Prim.Native.Nat.{_≤_, max};
+ghost use Prim.Native.Nat.{_+_, _≤_, max};
 ghost use lib.Dec.{eqb};
-ghost use lib.ListN.{length, drop};
+ghost use lib.ListN.{length, take, drop};
+ghost use Rattle.text.specs.Number.{little};
 ghost use Rattle.text.specs.Part.{ascii, startsWith, same, top};
 
 // The larger of two bytes.
@@ -26,11 +27,58 @@ pub fn largest(s: &[u8]) -> u8
     most
 }
 
-// Whether each byte of `s` is below 128.
+// The eight bytes of `s` from `at` on as a number, the first lowest: one load.
+fn eight(s: &[u8], at: usize) -> u64
+    requires { ⌜ at + 8 ≤ length (now s) ⌝ }
+    ensures { λ r. ⌜ r ≡ little 8 (drop at (now (s .entry))) ⌝ }
+{
+    let mut r: u64 = 0;
+    let mut i: usize = 0;
+    while i < 8 {
+        r = r + ((s[at + i] as u64) << (8 * i));
+        i += 1;
+    }
+    r
+}
+
+// Whether each of the eight bytes of `s` from `at` on is below 128.
+fn eight_ascii(s: &[u8], at: usize) -> bool
+    requires { ⌜ at + 8 ≤ length (now s) ⌝ }
+    ensures { λ r. ⌜ r ≡ ascii (take 8 (drop at (now (s .entry)))) ⌝ }
+{
+    (eight(s, at) & 0x8080808080808080) == 0
+}
+
+// Whether each byte of `s` is below 128, one at a time.
+fn each_ascii(s: &[u8]) -> bool
+    ensures { λ r. ⌜ r ≡ ascii (now (s .entry)) ⌝ }
+{
+    let mut i = 0;
+    while i < s.len() {
+        if 127 < s[i] {
+            return false;
+        }
+        i += 1;
+    }
+    true
+}
+
+// Whether each byte of `s` is below 128. The last eight may be looked at twice, so that none is left over.
 pub fn all_ascii(s: &[u8]) -> bool
     ensures { λ r. ⌜ r ≡ ascii (now (s .entry)) ⌝ }
 {
-    largest(s) < 128
+    if s.len() < 8 {
+        return each_ascii(s);
+    }
+    let last = s.len() - 8;
+    let mut i = 0;
+    while i < last {
+        if !eight_ascii(s, i) {
+            return false;
+        }
+        i += 8;
+    }
+    eight_ascii(s, last)
 }
 
 // Whether `w` stands in `s` at place `at`.

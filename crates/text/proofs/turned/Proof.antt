@@ -8,7 +8,8 @@ use native.Mathlib.Numerals.{add-one}
 use native.Mathlib.Omega.{arith}
 use borrow.Author.Needs.{needs}
 use Rattle.text.specs.Number.{bigEndian, lowBytes}
-use Rattle.text.proofs.Steps.{turn-room, turn-none, turn-more}
+use Rattle.text.specs.WordLaws.{byte-room}
+use Rattle.text.proofs.Steps.{turn-none, turn-more}
 use Rattle.text.proofs.turned.Statement.{statement}
 use Rattle.text.proofs.turned.Tie as tie
 
@@ -24,10 +25,10 @@ unfolding lowBytes
 loop-holds c = (search needs, sym (append-nil _))
 
 mul-r : tie.Need-mul-r Inv-loop μ-loop
-mul-r c = let small = turn-room (c .before .loop .i) (c .before .loop .r) (omega arith) (c .before .loop .inv .0 .1) in search needs
+mul-r c = let small = byte-room (c .before .loop .i) (c .before .loop .r) (omega arith) (c .before .loop .inv .0 .1) in search needs
 
 add-r : tie.Need-add-r Inv-loop μ-loop
-add-r c = let small = turn-room (c .before .loop .i) (c .before .loop .r) (omega arith) (c .before .loop .inv .0 .1) in search needs
+add-r c = let small = byte-room (c .before .loop .i) (c .before .loop .r) (omega arith) (c .before .loop .inv .0 .1) in search needs
 
 loop-again : tie.Need-loop-again Inv-loop μ-loop
 loop-again c =
