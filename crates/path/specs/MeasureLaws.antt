@@ -1,6 +1,6 @@
 -- The length of a rendering by three sums, and the tables of the code.
 -- Assumes nothing.
-use Prim.Native.Nat.{ℕ, suc, _+_, _-_, _≤_}
+use Prim.Native.Nat.{ℕ, zero, suc, _+_, _-_, _≤_, _<_}
 use mathlib.Core.Path.{_≡_, refl, _∙_}
 use mathlib.Core.List.{List, [], _∷_, map}
 use native.Mathlib.Omega.{arith}
@@ -70,6 +70,21 @@ module _ (k : ℕ) (low : 1 ≤ k) (high : k ≤ 19) where
         has-both (λ e. namesIn (e .parts) v) (λ e. firstOf (nameCount (e .parts)) (v .first) (v .second)) (kind-has k low high) (names-all v),
         has-both (λ e. numbersIn (e .parts) v) (λ e. firstOf (numberCount (e .parts)) (width (v .a)) (width (v .b))) (kind-has k low high) (numbers-all v),
       )
+
+-- ---- the sum of the first n of two, as the code tells it
+pub first-none : (r n x y : ℕ) → r ≡ n → r ≡ 0 → 0 ≡ firstOf n x y
+unfolding firstOf
+first-none r n x y e h = rw (← e, h)
+
+pub first-one : (r n x y : ℕ) → r ≡ n → r ≡ 1 → x ≡ firstOf n x y
+unfolding firstOf
+first-one r n x y e h = rw (← e, h) (omega arith)
+
+pub first-both : (r n x y : ℕ) → r ≡ n → 1 < r → x + y ≡ firstOf n x y
+unfolding firstOf
+first-both r zero x y e h = absurd (omega arith)
+first-both r (suc zero) x y e h = absurd (omega arith)
+first-both r (suc (suc n)) x y e h = omega arith
 
 -- ---- a table of the code that has a number for each kind: the bytes of its words, its identifiers, its numbers
 pub at-kind : (g : List Part → ℕ) (k : ℕ) → 1 ≤ k → k ≤ 19 → getD (map (λ j. g (partsOf j)) (span 1 19)) (k - 1) 0 ≡ g (partsOf k)

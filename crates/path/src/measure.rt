@@ -57,32 +57,36 @@ fn number_count(kind: u8) -> u8
     row[(kind - 1) as usize]
 }
 
-// The sum of the first n of two.
-fn first_of(n: usize, x: usize, y: usize) -> usize
-    requires { ⌜ x + y < 2 ^ 64 ⌝ }
-    ensures { λ r. ⌜ r ≡ firstOf n x y ⌝ }
-    ensures { λ r. ⌜ r ≤ x + y ⌝ }
+// The bytes of the identifiers that the kind has.
+fn name_bytes(kind: u8, first: usize, second: usize) -> usize
+    requires { ⌜ (1 ≤ kind) × (kind ≤ 19) × (first + second < 2 ^ 63) ⌝ }
+    ensures { λ r. ⌜ r ≡ firstOf (nameCount (partsOf kind)) first second ⌝ }
+    ensures { λ r. ⌜ r ≤ first + second ⌝ }
 {
+    let n = name_count(kind);
     if n == 0 {
         return 0;
     }
     if n == 1 {
-        return x;
+        return first;
     }
-    x + y
+    first + second
 }
 
-// The digits of the numbers that the kind has.
+// How many digits the numbers have that the kind has.
 fn digits(kind: u8, a: u64, b: u64) -> usize
     requires { ⌜ (1 ≤ kind) × (kind ≤ 19) ⌝ }
     ensures { λ r. ⌜ r ≡ firstOf (numberCount (partsOf kind)) (width a) (width b) ⌝ }
     ensures { λ r. ⌜ r ≤ 40 ⌝ }
 {
-    first_of(
-        number_count(kind) as usize,
-        text::number_width(a),
-        text::number_width(b),
-    )
+    let n = number_count(kind);
+    if n == 0 {
+        return 0;
+    }
+    if n == 1 {
+        return text::number_width(a);
+    }
+    text::number_width(a) + text::number_width(b)
 }
 
 // The length of the rendering by kind, with identifiers of these lengths. What the kind lacks has no influence.
@@ -90,6 +94,6 @@ pub fn render_length(kind: u8, first: usize, second: usize, a: u64, b: u64) -> u
     requires { ⌜ (1 ≤ kind) × (kind ≤ 19) × (first + second < 2 ^ 63) ⌝ }
     ensures { λ r. ⌜ r ≡ renderLength (partsOf kind) (carried first second a b) ⌝ }
 {
-    let names = first_of(name_count(kind) as usize, first, second);
+    let names = name_bytes(kind, first, second);
     fixed_bytes(kind) as usize + (names + digits(kind, a, b))
 }

@@ -37,7 +37,7 @@ unfolding little
 little-room zero s k = omega arith
 little-room (suc n) s k = omega (arith, pow-byte n, little-room n (drop 1 s) (λ i. rw getD-drop (k (1 + i))), k 0)
 
--- the same as one turn of a loop in a u64
+-- one turn of the loop that sums them in a u64
 pub little-next : (s : List ℕ) (at n r : ℕ) → ((i : ℕ) → getD s i 0 < 256) → n < 8 → r ≡ little n (drop at s) → (r + getD s (at + n) 0 * 2 ^ (8 * n) % 2 ^ 64 ≡ little (n + 1) (drop at s)) × (little (n + 1) (drop at s) < 2 ^ 64)
 little-next s at n r k h e =
     let next = rw (getD-drop at s n 0) at (little-snoc n (drop at s)) in
