@@ -1,3 +1,5 @@
 -- What the contract of `ask` cites.
 pub mod Answer
 pub mod AnswerLaws
+pub mod Input
+pub mod InputLaws
