@@ -1,12 +1,16 @@
 -- What is printed of a whole input, and of what one read of it brings after another.
 -- Assumes nothing.
-use Prim.Native.Nat.{ℕ}
+use Prim.Native.Nat.{ℕ, _-_}
 use mathlib.Core.Bool.{Bool, true, false, cond}
 use mathlib.Core.List.{List, [], _∷_, _++_}
 use lib.Dec.{eqb}
-use lib.ListN.{take}
+use lib.ListN.{take, drop}
 use Rattle.path.specs.Text.{cutAt}
 use Rattle.ask.specs.Answer.{lineAnswer}
+
+-- the bytes from place a up to e
+abbrev pub part : ℕ → ℕ → List ℕ → List ℕ
+part a e l = take (e - a) (drop a l)
 
 -- a last line counts if it is not empty
 unfoldable pub lastAnswer : List ℕ → List ℕ

@@ -10,6 +10,7 @@ use lib.ListN.{length, take, length-take}
 use lib.Seq.{take-all, take-take}
 use borrow.Author.Tests.{lt-ltb, ltb-true, ltb-false}
 use Rattle.text.specs.Number.{decimal}
+use Rattle.text.specs.Put.{Wrote}
 use Rattle.path.specs.Read.{readPath}
 use Rattle.path.specs.Text.{cutAt, cutStep, onto, joinBy}
 use Rattle.path.specs.TextLaws.{join-cut}
@@ -75,12 +76,12 @@ unfinished-front [] l m h = h
 unfinished-front (b ∷ s) l m h = unfinished-front s (lineAfter b l) (lineAfter b m) (after-front b l m h)
 
 -- ---- bytes that come in two parts
-ended-append : (s r line : List ℕ) → endedAnswers line (s ++ r) ≡ endedAnswers line s ++ endedAnswers (unfinished line s) r
+pub ended-append : (s r line : List ℕ) → endedAnswers line (s ++ r) ≡ endedAnswers line s ++ endedAnswers (unfinished line s) r
 unfolding endedAnswers unfinished
 ended-append [] r line = refl
 ended-append (b ∷ s) r line = rw (ended-append s r (lineAfter b line), append-assoc)
 
-unfinished-append : (s r line : List ℕ) → unfinished line (s ++ r) ≡ unfinished (unfinished line s) r
+pub unfinished-append : (s r line : List ℕ) → unfinished line (s ++ r) ≡ unfinished (unfinished line s) r
 unfolding unfinished
 unfinished-append [] r line = refl
 unfinished-append (b ∷ s) r line = unfinished-append s r (lineAfter b line)
@@ -127,3 +128,8 @@ steps-from (s ∷ reads) l m h =
 pub any-cutting : (reads : List (List ℕ)) → stepsAnswer [] reads ≡ wholeAnswer (flatten reads)
 unfolding wholeAnswer
 any-cutting reads = steps-from reads [] [] refl ∙ sym (whole-from (flatten reads) []) ∙ ap answers (on-none (cutAt 10 (flatten reads)) (cut-some (flatten reads)))
+
+-- what is held is short
+pub held-short : (line s : List ℕ) {l o : List ℕ} {r : ℕ} → Wrote l 0 (held line s) r o → r ≤ 4097
+unfolding held
+held-short line s w = omega (arith, w .next, length-take 4097 (unfinished line s))

@@ -3,3 +3,4 @@ pub mod Answer
 pub mod AnswerLaws
 pub mod Input
 pub mod InputLaws
+pub mod StepLaws

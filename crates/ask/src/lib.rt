@@ -1,4 +1,6 @@
-// What the program askpath prints of one line.
+// What the program askpath prints of one line, and of what one read brings.
+pub mod input;
+
 use path::Reading;
 ghost use mathlib.Core.Path.{_≡_};
 ghost use Prim.Native.Nat.{_+_, _≤_};
@@ -41,9 +43,9 @@ fn write_refusal(out: &mut [u8], at: usize, n: u8) -> usize
     text::put::write_byte(out, end, 10)
 }
 
-// Writes the answer to a line, of at most 4,104 bytes, and returns the place after it.
+// Writes the answer to a line, and returns the place after it.
 pub fn answer_line(out: &mut [u8], at: usize, line: &[u8]) -> usize
-    requires { ⌜ at + 4104 ≤ length (now out) ⌝ }
+    requires { ⌜ at + length (lineAnswer (now line)) ≤ length (now out) ⌝ }
     ensures { λ r. ⌜ r ≡ at + length (lineAnswer (now (line .entry))) ⌝ }
     ensures { λ _. ⌜ now (out .exit) ≡ put (now (out .entry)) at (lineAnswer (now (line .entry))) ⌝ }
 {

@@ -7,7 +7,7 @@ use Rattle.text.specs.Put.{put}
 use Rattle.text.specs.PutLaws.{put-two}
 use Rattle.render.specs.KeyTextLaws.{view-kind}
 use Rattle.ask.specs.Answer.{head}
-use Rattle.ask.specs.AnswerLaws.{viewText, answer-refused, answer-view, answer-length}
+use Rattle.ask.specs.AnswerLaws.{viewText, answer-refused, answer-view}
 use native.Mathlib.Omega.{arith}
 use borrow.Author.Needs.{needs}
 use Rattle.ask.proofs.answer_line.Statement.{statement}
@@ -29,7 +29,7 @@ write-refusal-requires : tie.Need-write-refusal-requires
 write-refusal-requires c κs = let x = c .before .before .before .before .before .before .before .args in
     let t = x .line .now in
     let e = answer-refused t _ (c .before .before .before .before .read-path .ensures) _ (c .before .before .enum-told .given .1) ∙ ap (λ k. decimal k ++ 10 ∷ []) (sym (c .refusal-of .ensures)) in
-    omega (arith, ap length e, answer-length t)
+    omega (arith, ap length e)
 
 same-length : tie.Need-same-length
 same-length c = search needs
@@ -56,7 +56,7 @@ write-head-requires c κs = let x = c .before .before .before .before .before .b
     let l = length-append h (w ++ 10 ∷ []) in
     let m = length-append w (10 ∷ []) in
     let n = ap length e in
-    omega (arith, answer-length t)
+    omega (arith)
 
 write-rendering-requires : tie.Need-write-rendering-requires
 write-rendering-requires c κs = let x = c .before .before .before .before .before .before .before .before .before .before .before .before .args in
@@ -70,7 +70,7 @@ write-rendering-requires c κs = let x = c .before .before .before .before .befo
     let l = length-append h (w ++ 10 ∷ []) in
     let m = length-append w (10 ∷ []) in
     let n = ap length e in
-    (view-kind t (r .result) _ _ (g .1) (r .ensures) (v .result) (v .ensures), omega (arith, answer-length t, c .before .before .before .write-head .ensures .0))
+    (view-kind t (r .result) _ _ (g .1) (r .ensures) (v .result) (v .ensures), omega (arith, c .before .before .before .write-head .ensures .0))
 
 write-byte-requires : tie.Need-write-byte-requires
 write-byte-requires c κs = let x = c .before .before .before .before .before .before .before .before .before .before .before .before .before .before .before .before .args in
@@ -84,7 +84,7 @@ write-byte-requires c κs = let x = c .before .before .before .before .before .b
     let l = length-append h (w ++ 10 ∷ []) in
     let m = length-append w (10 ∷ []) in
     let n = ap length e in
-    omega (arith, answer-length t, c .before .before .before .before .before .before .before .before .before .before .before .before .before .before .before .before .pre, c .before .before .before .before .before .before .before .write-head .ensures .0, c .before .before .before .write-rendering .ensures .0)
+    omega (arith, c .before .before .before .before .before .before .before .before .before .before .before .before .before .before .before .before .pre, c .before .before .before .before .before .before .before .write-head .ensures .0, c .before .before .before .write-rendering .ensures .0)
 
 same-length-2 : tie.Need-same-length-2
 same-length-2 c = search needs
@@ -104,7 +104,7 @@ returns-2 c = let x = c .before .before .before .before .before .before .before 
     let s1 = c .before .before .before .before .before .before .before .before .before .before .write-head in
     let s2 = c .before .before .before .before .before .before .write-rendering in
     let s3 = c .before .before .write-byte in
-    let q = put-two (x .out .now) (x .at) h w (10 ∷ []) (s1 .last .0) (s2 .last .0) (s1 .result) (s2 .result) (s1 .ensures .1) (s1 .ensures .0) (s2 .ensures .1) (s2 .ensures .0) (omega (arith, answer-length t, c .before .before .before .before .before .before .before .before .before .before .before .before .before .before .before .before .before .before .before .pre, s1 .ensures .0, s2 .ensures .0)) in
+    let q = put-two (x .out .now) (x .at) h w (10 ∷ []) (s1 .last .0) (s2 .last .0) (s1 .result) (s2 .result) (s1 .ensures .1) (s1 .ensures .0) (s2 .ensures .1) (s2 .ensures .0) (omega (arith, c .before .before .before .before .before .before .before .before .before .before .before .before .before .before .before .before .before .before .before .pre, s1 .ensures .0, s2 .ensures .0)) in
     (omega (arith, s1 .ensures .0, s2 .ensures .0, s3 .ensures .0), s3 .ensures .1 ∙ sym (ap (put (x .out .now) (x .at)) e ∙ q))
 
 pub answer-line-spec : {M : Type 1} → statement M
