@@ -20,10 +20,10 @@ same-step : (a b : Step) → a .held ≡ b .held → a .used ≡ b .used → a �
 same-step a b h u = ap (λ x. step x (a .used)) h ∙ ap (step (b .held)) u
 
 pub one-answer-lines : OneWith answer-lines.Post (λ κs s. now (s .1 .1 .1 .0))
-one-answer-lines κs a r₁ r₂ s₁ s₂ p q = (same-step r₁ r₂ (p .1 .next ∙ sym (q .1 .next)) (p .0 .next ∙ sym (q .0 .next)), p .0 .after ∙ sym (q .0 .after))
+one-answer-lines κs a r₁ r₂ s₁ s₂ p q = (same-step r₁ r₂ (p .holds .next ∙ sym (q .holds .next)) (p .answered .next ∙ sym (q .answered .next)), p .answered .after ∙ sym (q .answered .after))
 
 pub one-held : OneWith answer-lines.Post (λ κs s. now (s .0))
-one-held κs a r₁ r₂ s₁ s₂ p q = (one-answer-lines κs a r₁ r₂ s₁ s₂ p q .0, p .1 .after ∙ sym (q .1 .after))
+one-held κs a r₁ r₂ s₁ s₂ p q = (one-answer-lines κs a r₁ r₂ s₁ s₂ p q .0, p .holds .after ∙ sym (q .holds .after))
 
 pub one-answer-last : OneWith answer-last.Post (λ κs s. now (s .1 .0))
 one-answer-last κs a r₁ r₂ s₁ s₂ p q = (p .next ∙ sym (q .next), p .after ∙ sym (q .after))

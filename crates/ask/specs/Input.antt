@@ -5,6 +5,7 @@ use mathlib.Core.Bool.{Bool, true, false, cond}
 use mathlib.Core.List.{List, [], _∷_, _++_}
 use lib.Dec.{eqb}
 use lib.ListN.{take, drop}
+use Rattle.text.specs.Put.{Wrote}
 use Rattle.path.specs.Text.{cutAt}
 use Rattle.ask.specs.Answer.{lineAnswer}
 
@@ -55,3 +56,9 @@ held line s = take 4097 (unfinished line s)
 unfoldable pub stepsAnswer : List ℕ → List (List ℕ) → List ℕ
 stepsAnswer line [] = lastAnswer line
 stepsAnswer line (s ∷ reads) = endedAnswers line s ++ stepsAnswer (held line s) reads
+
+-- what a step does over two lent buffers: `from` bytes of the input are held, and those up to `end` are new; the answers
+-- are the first `used` bytes of the output, and what is then held is the first `kept` of the input
+pub record Stepped (input out : List ℕ) (from end kept used : ℕ) (input′ out′ : List ℕ) : Type 0 where
+  pub answered : Wrote out 0 (endedAnswers (part 0 from input) (part from end input)) used out′
+  pub holds : Wrote input 0 (held (part 0 from input) (part from end input)) kept input′

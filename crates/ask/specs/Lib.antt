@@ -4,3 +4,5 @@ pub mod AnswerLaws
 pub mod Input
 pub mod InputLaws
 pub mod StepLaws
+pub mod Run
+pub mod RunLaws

@@ -15,7 +15,7 @@ use Rattle.text.specs.Put.{put, Wrote}
 use Rattle.text.specs.PutLaws.{put-set, put-then, put-nil, put-zero, length-put, both}
 use Rattle.ask.specs.Answer.{lineAnswer}
 use Rattle.ask.specs.AnswerLaws.{answer-length}
-use Rattle.ask.specs.Input.{part, lastAnswer, answerAt, lineAfter, endedAnswers, unfinished, held}
+use Rattle.ask.specs.Input.{part, lastAnswer, answerAt, lineAfter, endedAnswers, unfinished, held, Stepped}
 use Rattle.ask.specs.InputLaws.{ended-append, unfinished-append}
 
 pub part-none : (a : ℕ) (l : List ℕ) → part a a l ≡ []
@@ -75,9 +75,9 @@ before-next input out₀ out from i start used h k b s r o e w =
 
 pub before-end : (input out₀ out : List ℕ) (from i end start used : ℕ) → i ≡ end → Before input out₀ from i start used out
     → (r : ℕ) (o : List ℕ) → Wrote input 0 (take 4097 (part start end input)) r o
-    → Wrote out₀ 0 (endedAnswers (part 0 from input) (part from end input)) used out × Wrote input 0 (held (part 0 from input) (part from end input)) r o
+    → Stepped input out₀ from end r used o out
 unfolding held
-before-end input out₀ out from i end start used q b r o w = (rw q at (b .wrote), rw (← rw q at (b .line)) w)
+before-end input out₀ out from i end start used q b r o w = record { answered = rw q at (b .wrote); holds = rw (← rw q at (b .line)) w }
 
 -- the ways out with the last line
 pub last-none : (line out : List ℕ) → length line ≡ 0 → Wrote out 0 (lastAnswer line) 0 out

@@ -5,7 +5,7 @@ ghost use Prim.Native.Nat.{_+_, _*_, _≤_, _<_, min};
 ghost use lib.Dec.{eqb};
 ghost use lib.ListN.{length, take, getD};
 ghost use Rattle.text.specs.Put.{Wrote};
-ghost use Rattle.ask.specs.Input.{part, lastAnswer, answerAt, lineAfter, endedAnswers, held};
+ghost use Rattle.ask.specs.Input.{part, lastAnswer, answerAt, lineAfter, Stepped};
 
 // How much is held at the front of the input, and how many bytes of answers stand in the output.
 pub struct Step {
@@ -62,8 +62,7 @@ fn keep(input: &mut [u8], start: usize, end: usize) -> usize
 pub fn answer_lines(input: &mut [u8], from: usize, end: usize, out: &mut [u8]) -> Step
     requires { ⌜ (from ≤ end) × (end ≤ length (now input)) ⌝ }
     requires { ⌜ 2 * end ≤ length (now out) ⌝ }
-    ensures { λ r. ⌜ Wrote (now (out .entry)) 0 (endedAnswers (part 0 from (now (input .entry))) (part from end (now (input .entry)))) (r .used) (now (out .exit)) ⌝ }
-    ensures { λ r. ⌜ Wrote (now (input .entry)) 0 (held (part 0 from (now (input .entry))) (part from end (now (input .entry)))) (r .held) (now (input .exit)) ⌝ }
+    ensures { λ r. ⌜ Stepped (now (input .entry)) (now (out .entry)) from end (r .held) (r .used) (now (input .exit)) (now (out .exit)) ⌝ }
 {
     let mut spot = Spot { start: 0, used: 0 };
     let mut i = from;

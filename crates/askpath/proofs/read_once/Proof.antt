@@ -68,7 +68,7 @@ same-length-5 : tie.Need-same-length-5
 same-length-5 c = search needs
 
 returns-3 : tie.Need-returns-3
-returns-3 c = held-short _ _ (c .before .before .before .before .before .before .answer-lines .ensures .1)
+returns-3 c = held-short _ _ (c .before .before .before .before .before .before .answer-lines .ensures .holds)
 
 pub read-once-spec : {M : Type 1} → statement M
 read-once-spec =
