@@ -17,8 +17,7 @@ use Rattle.path.specs.declared.Refusal.{Refusal}
 use Rattle.path.specs.declared.Refusal.the-variants.{TooLong, NotAscii, NotAPath}
 use Rattle.path.specs.declared.Reading.{Reading}
 use Rattle.path.specs.declared.Reading.the-variants.{Read, Refused}
-use Rattle.path.specs.Kinds.{Carried, carried, kinds}
-use Rattle.path.specs.Text.{shownOf}
+use Rattle.path.specs.Kinds.{Carried, kinds}
 use Rattle.path.specs.Read.{refusalOf, numberOf, render, partsOf, textsOf, renderPath, readPath}
 use Rattle.path.specs.View.{kindOf, carriedOf, viewOf}
 use Rattle.path.specs.ReadLaws.{made-range, has-both, kind-has, kind-parts}
@@ -27,11 +26,7 @@ use Rattle.path.specs.Length.{fixed}
 use Rattle.path.specs.ExactLaws.{rendering-not-longer}
 use Rattle.path.specs.MeasureLaws.{lengths, render-length, length-sums}
 use Rattle.render.specs.KeyTextLaws.{view-parts}
-use Rattle.ask.specs.Answer.{mark, head, printed, lineAnswer}
-
--- the rendering of a view over its text
-abbrev pub viewText : List ℕ → PathView → List ℕ
-viewText t v = render (partsOf (v .kind)) (carried (shownOf t (v .first)) (shownOf t (v .second)) (v .a) (v .b))
+use Rattle.ask.specs.Answer.{mark, head, viewText, viewAnswer, printed, lineAnswer}
 
 -- what a line that was refused, or read, is answered with
 module _ (t : List ℕ) (r : Reading) (by : r ≡ readPath t) where
@@ -44,7 +39,7 @@ module _ (t : List ℕ) (r : Reading) (by : r ≡ readPath t) where
   answer-read p e f = rw (← by, f)
 
   -- the same from the view of the path
-  pub answer-view : (p : Path) (e : Bool) (is : r ≡ Read p e) (v : PathView) → v ≡ viewOf p → lineAnswer t ≡ head (v .kind) e ++ (viewText t v ++ 10 ∷ [])
+  pub answer-view : (p : Path) (e : Bool) (is : r ≡ Read p e) (v : PathView) → v ≡ viewOf p → lineAnswer t ≡ viewAnswer t v e
   unfolding viewOf
   answer-view p e is v seen = answer-read p e is ∙ rw (← view-parts t r p e is by v seen, seen)
 
@@ -54,6 +49,9 @@ length-mark false = refl
 
 pub head-length : (k : ℕ) (e : Bool) → length (head k e) ≡ 2 + length (decimal k) + 3
 head-length k e = simp length-append (omega (arith, length-mark e))
+
+pub view-length : (t : List ℕ) (v : PathView) (e : Bool) → length (viewAnswer t v e) ≡ length (head (v .kind) e) + (length (viewText t v) + 1)
+view-length t v e = length-append (head (v .kind) e) (viewText t v ++ 10 ∷ []) ∙ rw (length-append (viewText t v) (10 ∷ []))
 
 pub length-head : (k : ℕ) (e : Bool) → k ≤ 19 → length (head k e) ≤ 7
 length-head k e h = omega (arith, head-length k e, length-decimal k, width-within 1 k (omega arith))

@@ -1,14 +1,14 @@
 -- A run prints what the whole input prints.
 -- Assumes nothing.
 use Prim.Native.Nat.{ℕ, _-_}
-use mathlib.Core.Path.{_≡_, refl, sym, ap, _∙_}
-use mathlib.Core.List.{List, [], _∷_, _++_, flatten}
+use mathlib.Core.Path.{_≡_, _∙_}
+use mathlib.Core.List.{List, flatten}
 use native.Mathlib.Omega.{arith}
 use lib.ListN.{length, drop}
 use lib.Seq.{take-append-seam}
-use Rattle.text.specs.Put.{put, Wrote}
+use Rattle.text.specs.Put.{Wrote}
 use Rattle.text.specs.PutLaws.{put-zero}
-use Rattle.ask.specs.Input.{part, lastAnswer, wholeAnswer, endedAnswers, held, stepsAnswer, Stepped}
+use Rattle.ask.specs.Input.{part, lastAnswer, wholeAnswer, endedAnswers, held, stepsAnswer}
 use Rattle.ask.specs.InputLaws.{any-cutting}
 use Rattle.ask.specs.Run.{Run, ends, reads}
 

@@ -4,11 +4,10 @@ use Prim.Native.Nat.{ℕ, suc, _+_, _-_, _*_, _≤_, _<_, min}
 use mathlib.Core.Path.{_≡_, refl, sym, ap, _∙_}
 use mathlib.Core.Bool.{Bool, true, false}
 use mathlib.Core.List.{List, [], _∷_, _++_, append-nil}
-use native.Mathlib.Nat.{zero-add}
 use native.Mathlib.Numerals.{add-one}
 use native.Mathlib.Omega.{arith}
 use lib.Dec.{eqb, leb}
-use lib.ListN.{length, take, drop, getD, set, length-append, length-take, length-drop}
+use lib.ListN.{length, take, drop, getD, set, length-take, length-drop}
 use lib.Seq.{take-all, take-take, take-suc, getD-drop, getD-append-add, length-take-le}
 use borrow.Author.Tests.{leb-true, leb-false}
 use Rattle.text.specs.Put.{put, Wrote}
@@ -18,24 +17,24 @@ use Rattle.ask.specs.AnswerLaws.{answer-length}
 use Rattle.ask.specs.Input.{part, lastAnswer, answerAt, lineAfter, endedAnswers, unfinished, held, Stepped}
 use Rattle.ask.specs.InputLaws.{ended-append, unfinished-append}
 
-pub part-none : (a : ℕ) (l : List ℕ) → part a a l ≡ []
+part-none : (a : ℕ) (l : List ℕ) → part a a l ≡ []
 part-none a l = let e : a - a ≡ 0 = omega arith in rw e
 
-pub length-part : (a e : ℕ) (l : List ℕ) → a ≤ e → e ≤ length l → length (part a e l) ≡ e - a
+length-part : (a e : ℕ) (l : List ℕ) → a ≤ e → e ≤ length l → length (part a e l) ≡ e - a
 length-part a e l h k = simp (length-take, length-drop) (omega arith)
 
-pub part-more : (a i : ℕ) (l : List ℕ) → a ≤ i → i < length l → part a (i + 1) l ≡ part a i l ++ (getD l i 0 ∷ [])
+part-more : (a i : ℕ) (l : List ℕ) → a ≤ i → i < length l → part a (i + 1) l ≡ part a i l ++ (getD l i 0 ∷ [])
 part-more a i l h k =
     let n : i + 1 - a ≡ suc (i - a) = omega arith in
     let m : a + (i - a) ≡ i = omega arith in
     rw (n, take-suc (drop a l) (i - a) 0 (simp length-drop (omega arith)), getD-drop a l (i - a) 0, m)
 
 -- ---- one byte more
-pub ended-one : (line s : List ℕ) (b : ℕ) → endedAnswers line (s ++ (b ∷ [])) ≡ endedAnswers line s ++ answerAt (eqb b 10) (unfinished line s)
+ended-one : (line s : List ℕ) (b : ℕ) → endedAnswers line (s ++ (b ∷ [])) ≡ endedAnswers line s ++ answerAt (eqb b 10) (unfinished line s)
 unfolding endedAnswers
 ended-one line s b = ended-append s (b ∷ []) line ∙ rw append-nil
 
-pub unfinished-one : (line s : List ℕ) (b : ℕ) → unfinished line (s ++ (b ∷ [])) ≡ lineAfter b (unfinished line s)
+unfinished-one : (line s : List ℕ) (b : ℕ) → unfinished line (s ++ (b ∷ [])) ≡ lineAfter b (unfinished line s)
 unfolding unfinished
 unfinished-one line s b = unfinished-append s (b ∷ []) line
 
@@ -107,7 +106,7 @@ module _ (l₀ l : List ℕ) (start i : ℕ) (h : start + i < length l₀) (e : 
       rw (add-one, take-suc (drop start l₀) i 0 k, getD-drop start l₀ i 0, ← moved-byte)
       (put-then l₀ 0 (take i (drop start l₀)) _ l _ i e (omega (arith, front)) (omega (arith, front)) (put-set l i (getD l (start + i) 0) n))
 
-pub move-all : (most n : ℕ) (l : List ℕ) → take (min most n) l ≡ take most (take n l)
+move-all : (most n : ℕ) (l : List ℕ) → take (min most n) l ≡ take most (take n l)
 move-all most n l = go (leb n most) refl
   where
     go : (v : Bool) → leb n most ≡ v → take (min most n) l ≡ take most (take n l)

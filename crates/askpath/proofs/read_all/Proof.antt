@@ -2,7 +2,6 @@ use mathlib.Core.Path.{_≡_}
 use Prim.Native.Nat.{_≤_}
 use lib.ListN.{length}
 use borrow.Author.Needs.{needs}
-use native.Mathlib.Omega.{arith}
 use Rattle.askpath.proofs.read_all.Statement.{statement}
 use Rattle.askpath.proofs.read_all.Tie as tie
 

@@ -1,5 +1,4 @@
 use Rattle.ask.specs.InputLaws.{held-short}
-use native.Mathlib.Omega.{arith}
 use borrow.Author.Needs.{needs}
 use Rattle.askpath.proofs.read_once.Statement.{statement}
 use Rattle.askpath.proofs.read_once.Tie as tie
