@@ -7,7 +7,7 @@ use ask::input::answer_lines;
 use libc::STDERR_FILENO;
 use libc::STDIN_FILENO;
 use libc::STDOUT_FILENO;
-ghost use Prim.Native.Nat.{_*_, _≤_};
+ghost use Prim.Native.Nat.{_*_, _≤_, _<_};
 ghost use lib.ListN.{length};
 
 // Whether to go on after a read, and how much of the input is held.
@@ -32,7 +32,7 @@ fn show(out: &[u8], used: usize) -> bool
 
 // The end of the input: the last line.
 fn finish(input: &[u8], held: usize, out: &mut [u8])
-    requires { ⌜ (held ≤ 4097) × (8196 ≤ length (now input)) ⌝ }
+    requires { ⌜ (held ≤ 4097) × (4097 < length (now input)) ⌝ }
     requires { ⌜ 2 * length (now input) ≤ length (now out) ⌝ }
 {
     let used = answer_last(&input[0..held], out);
@@ -42,7 +42,7 @@ fn finish(input: &[u8], held: usize, out: &mut [u8])
 // One read after what is held, and the answers to the lines that end in it. A read that fails is not the end of the
 // input, so what is held is then not answered as a last line.
 fn read_once(input: &mut [u8], held: usize, out: &mut [u8]) -> Turn
-    requires { ⌜ (held ≤ 4097) × (8196 ≤ length (now input)) ⌝ }
+    requires { ⌜ (held ≤ 4097) × (4097 < length (now input)) ⌝ }
     requires { ⌜ 2 * length (now input) ≤ length (now out) ⌝ }
     ensures { λ r. ⌜ r .held ≤ 4097 ⌝ }
 {
@@ -69,7 +69,7 @@ fn read_once(input: &mut [u8], held: usize, out: &mut [u8]) -> Turn
 
 // Reads to the end of the input: a proved loop ends, so it counts its turns down from a number that no run uses up.
 fn read_all(input: &mut [u8], out: &mut [u8])
-    requires { ⌜ 8196 ≤ length (now input) ⌝ }
+    requires { ⌜ 4097 < length (now input) ⌝ }
     requires { ⌜ 2 * length (now input) ≤ length (now out) ⌝ }
 {
     let mut t = Turn { go: true, held: 0 };
@@ -80,6 +80,7 @@ fn read_all(input: &mut [u8], out: &mut [u8])
     }
 }
 
+// The answers to what one read brings take at most twice as many bytes.
 fn main() {
     let mut input = io::large_buffer();
     let mut out = [0; 131072];
