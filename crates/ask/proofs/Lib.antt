@@ -1,2 +1,3 @@
 -- `Unique` has that each contract leaves one outcome.
+pub mod Examples
 pub mod Unique

@@ -1,4 +1,7 @@
-// What the program askpath prints of one line.
+// What the program askpath prints of one line, and of what one read brings.
+pub mod input;
+
+use path::PathView;
 use path::Reading;
 ghost use mathlib.Core.Path.{_≡_};
 ghost use Prim.Native.Nat.{_+_, _≤_};
@@ -6,7 +9,7 @@ ghost use lib.ListN.{length};
 ghost use mathlib.Core.List.{_∷_, [], _++_};
 ghost use Rattle.text.specs.Number.{decimal};
 ghost use Rattle.text.specs.Put.{put};
-ghost use Rattle.ask.specs.Answer.{mark, head, lineAnswer};
+ghost use Rattle.ask.specs.Answer.{mark, head, viewAnswer, lineAnswer};
 
 // Writes ` E ` or ` L `, and returns the place after it.
 fn write_mark(out: &mut [u8], at: usize, exact: bool) -> usize
@@ -41,9 +44,21 @@ fn write_refusal(out: &mut [u8], at: usize, n: u8) -> usize
     text::put::write_byte(out, end, 10)
 }
 
-// Writes the answer to a line, of at most 4,104 bytes, and returns the place after it.
+// Writes the answer to a line that was read, and returns the place after it.
+fn write_view(out: &mut [u8], at: usize, line: &[u8], v: PathView, exact: bool) -> usize
+    requires { ⌜ (1 ≤ v .kind) × (v .kind ≤ 19) ⌝ }
+    requires { ⌜ at + length (viewAnswer (now line) v exact) ≤ length (now out) ⌝ }
+    ensures { λ r. ⌜ r ≡ at + length (viewAnswer (now (line .entry)) v exact) ⌝ }
+    ensures { λ _. ⌜ now (out .exit) ≡ put (now (out .entry)) at (viewAnswer (now (line .entry)) v exact) ⌝ }
+{
+    let rendering = write_head(out, at, v.kind, exact);
+    let end = key::write_rendering(out, rendering, line, v);
+    text::put::write_byte(out, end, 10)
+}
+
+// Writes the answer to a line, and returns the place after it.
 pub fn answer_line(out: &mut [u8], at: usize, line: &[u8]) -> usize
-    requires { ⌜ at + 4104 ≤ length (now out) ⌝ }
+    requires { ⌜ at + length (lineAnswer (now line)) ≤ length (now out) ⌝ }
     ensures { λ r. ⌜ r ≡ at + length (lineAnswer (now (line .entry))) ⌝ }
     ensures { λ _. ⌜ now (out .exit) ≡ put (now (out .entry)) at (lineAnswer (now (line .entry))) ⌝ }
 {
@@ -51,8 +66,5 @@ pub fn answer_line(out: &mut [u8], at: usize, line: &[u8]) -> usize
     let Reading::Read { path, exact } = reading else {
         return write_refusal(out, at, path::refusal_of(reading));
     };
-    let v = path::view(path);
-    let rendering = write_head(out, at, v.kind, exact);
-    let end = key::write_rendering(out, rendering, line, v);
-    text::put::write_byte(out, end, 10)
+    write_view(out, at, line, path::view(path), exact)
 }

@@ -1,12 +1,12 @@
 use mathlib.Core.Path.{_≡_}
-use Prim.Native.Nat.{_-_, _≤_}
+use Prim.Native.Nat.{_≤_}
 use lib.ListN.{length}
 use borrow.Author.Needs.{needs}
 use Rattle.askpath.proofs.read_all.Statement.{statement}
 use Rattle.askpath.proofs.read_all.Tie as tie
 
 abbrev Inv-loop : tie.InvT-loop
-Inv-loop input₀ out₀ t₀ turns₀ input out t turns = (t .held .len ≤ 4097) × (t .held .used ≤ length out) × (length out ≡ length out₀) × (length input ≡ length input₀)
+Inv-loop input₀ out₀ t₀ turns₀ input out t turns = (t .held ≤ 4097) × (length out ≡ length out₀) × (length input ≡ length input₀)
 
 abbrev μ-loop : tie.MeasureT-loop
 μ-loop input₀ out₀ t₀ turns₀ input out t turns = turns
@@ -35,6 +35,15 @@ same-length-2 c = search needs
 returns : tie.Need-returns Inv-loop μ-loop
 returns c = search needs
 
+same-length-3 : tie.Need-same-length-3 Inv-loop μ-loop
+same-length-3 c = search needs
+
+same-length-4 : tie.Need-same-length-4 Inv-loop μ-loop
+same-length-4 c = search needs
+
+returns-2 : tie.Need-returns-2 Inv-loop μ-loop
+returns-2 c = search needs
+
 pub read-all-spec : {M : Type 1} → statement M
 read-all-spec =
     tie.close
@@ -48,4 +57,7 @@ read-all-spec =
     loop-again
     same-length
     same-length-2
-    returns)
+    returns
+    same-length-3
+    same-length-4
+    returns-2)

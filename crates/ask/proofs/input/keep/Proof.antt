@@ -1,12 +1,16 @@
-use mathlib.Core.Path.{_≡_}
+use mathlib.Core.Path.{_≡_, refl, sym}
 use Prim.Native.Nat.{_-_, _≤_}
-use lib.ListN.{length}
+use lib.ListN.{length, take, drop}
+use Rattle.text.specs.Put.{put}
+use Rattle.text.specs.PutLaws.{put-nil}
+use Rattle.ask.specs.StepLaws.{move-more, move-done}
 use borrow.Author.Needs.{needs}
-use Rattle.askpath.proofs.keep.Statement.{statement}
-use Rattle.askpath.proofs.keep.Tie as tie
+use native.Mathlib.Omega.{arith}
+use Rattle.ask.proofs.input.keep.Statement.{statement}
+use Rattle.ask.proofs.input.keep.Tie as tie
 
 abbrev Inv-loop : tie.InvT-loop
-Inv-loop input₀ start end n i₀ input i = (i ≤ n) × (length input ≡ length input₀)
+Inv-loop input₀ start end n i₀ input i = (i ≤ n) × (length input ≡ length input₀) × (input ≡ put input₀ 0 (take i (drop start input₀)))
 
 abbrev μ-loop : tie.MeasureT-loop
 μ-loop input₀ start end n i₀ input i = n - i
@@ -18,7 +22,7 @@ least-requires : tie.Need-least-requires Inv-loop μ-loop
 least-requires c κs = search needs
 
 loop-holds : tie.Need-loop-holds Inv-loop μ-loop
-loop-holds c = search needs
+loop-holds c = (omega arith, refl, sym (put-nil (c .before .before .args .input .now) 0))
 
 add-input : tie.Need-add-input Inv-loop μ-loop
 add-input c = search needs
@@ -36,13 +40,17 @@ loop-less : tie.Need-loop-less Inv-loop μ-loop
 loop-less c = search needs
 
 loop-again : tie.Need-loop-again Inv-loop μ-loop
-loop-again c = search needs
+loop-again c = let x = c .before .before .before .before .before .args in
+    let l = c .before .before .loop in
+    (search needs, search needs, move-more (x .input .now) (l .input) (x .start) (l .i) (omega (arith, c .before .before .before .least .ensures)) (l .inv .2))
 
 same-length : tie.Need-same-length Inv-loop μ-loop
 same-length c = search needs
 
 returns : tie.Need-returns Inv-loop μ-loop
-returns c = search needs
+returns c = let x = c .before .before .before .before .args in
+    let l = c .before .loop in
+    move-done (x .input .now) (l .input) (x .start) (x .end) _ (l .i) (omega arith) (omega arith) (c .before .before .least .ensures) (omega arith) (l .inv .2)
 
 pub keep-spec : {M : Type 1} → statement M
 keep-spec =

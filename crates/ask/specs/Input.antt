@@ -1,0 +1,64 @@
+-- What is printed of a whole input, and of what one read of it brings after another.
+-- Assumes nothing.
+use Prim.Native.Nat.{ℕ, _-_}
+use mathlib.Core.Bool.{Bool, true, false, cond}
+use mathlib.Core.List.{List, [], _∷_, _++_}
+use lib.Dec.{eqb}
+use lib.ListN.{take, drop}
+use Rattle.text.specs.Put.{Wrote}
+use Rattle.path.specs.Text.{cutAt}
+use Rattle.ask.specs.Answer.{lineAnswer}
+
+-- the bytes from place a up to e
+abbrev pub part : ℕ → ℕ → List ℕ → List ℕ
+part a e l = take (e - a) (drop a l)
+
+-- a last line counts if it is not empty
+unfoldable pub lastAnswer : List ℕ → List ℕ
+lastAnswer [] = []
+lastAnswer (b ∷ line) = lineAnswer (b ∷ line)
+
+-- the answers to lines of which the last has no end
+unfoldable pub answers : List (List ℕ) → List ℕ
+answers [] = []
+answers (line ∷ []) = lastAnswer line
+answers (line ∷ (next ∷ lines)) = lineAnswer line ++ answers (next ∷ lines)
+
+-- a line ends at byte 10
+unfoldable pub wholeAnswer : List ℕ → List ℕ
+wholeAnswer s = answers (cutAt 10 s)
+
+-- ---- the same in steps, each over the line that has not ended and the bytes that come after
+-- what a byte makes of the line before it: its answer, where the byte ends it
+unfoldable pub answerAt : Bool → List ℕ → List ℕ
+answerAt true line = lineAnswer line
+answerAt false line = []
+
+-- and the line that has then not ended
+abbrev pub lineAfter : ℕ → List ℕ → List ℕ
+lineAfter b line = cond (eqb b 10) [] (line ++ (b ∷ []))
+
+-- the answers to the lines that end in s
+unfoldable pub endedAnswers : List ℕ → List ℕ → List ℕ
+endedAnswers line [] = []
+endedAnswers line (b ∷ s) = answerAt (eqb b 10) line ++ endedAnswers (lineAfter b line) s
+
+-- the line that has not ended after s
+unfoldable pub unfinished : List ℕ → List ℕ → List ℕ
+unfinished line [] = line
+unfinished line (b ∷ s) = unfinished (lineAfter b line) s
+
+-- what is held of it: one byte more than a path may have is enough to refuse it
+unfoldable pub held : List ℕ → List ℕ → List ℕ
+held line s = take 4097 (unfinished line s)
+
+-- what is printed where the input comes in these reads: the answers of each step, then the last line
+unfoldable pub stepsAnswer : List ℕ → List (List ℕ) → List ℕ
+stepsAnswer line [] = lastAnswer line
+stepsAnswer line (s ∷ reads) = endedAnswers line s ++ stepsAnswer (held line s) reads
+
+-- what a step does over two lent buffers: `from` bytes of the input are held, and those up to `end` are new; the answers
+-- are the first `used` bytes of the output, and what is then held is the first `kept` of the input
+pub record Stepped (input out : List ℕ) (from end kept used : ℕ) (input′ out′ : List ℕ) : Type 0 where
+  pub answered : Wrote out 0 (endedAnswers (part 0 from input) (part from end input)) used out′
+  pub holds : Wrote input 0 (held (part 0 from input) (part from end input)) kept input′

@@ -1,0 +1,135 @@
+-- Laws of `Input`: however the input is cut into reads, the steps print what the whole input prints.
+-- Assumes nothing.
+use Prim.Native.Nat.{ℕ, zero, suc, _≤_, _<_, min}
+use mathlib.Core.Path.{_≡_, refl, sym, ap, _∙_}
+use mathlib.Core.Bool.{Bool, true, false, cond}
+use mathlib.Core.List.{List, [], _∷_, _++_, append-assoc, append-nil, flatten}
+use native.Mathlib.Omega.{arith}
+use lib.Dec.{eqb, ltb}
+use lib.ListN.{length, take, length-take}
+use lib.Seq.{take-all, take-take}
+use borrow.Author.Tests.{lt-ltb, ltb-true, ltb-false}
+use Rattle.text.specs.Number.{decimal}
+use Rattle.text.specs.Put.{Wrote}
+use Rattle.path.specs.Read.{readPath}
+use Rattle.path.specs.Text.{cutAt, cutStep, onto, joinBy}
+use Rattle.path.specs.TextLaws.{join-cut}
+use Rattle.ask.specs.Answer.{lineAnswer}
+use Rattle.ask.specs.Input.{lastAnswer, answers, wholeAnswer, answerAt, lineAfter, endedAnswers, unfinished, held, stepsAnswer}
+
+-- ---- the answer to a line depends only on what would be held of it
+abbrev Alike : List ℕ → List ℕ → Type 0
+Alike l m = take 4097 l ≡ take 4097 m
+
+alike-length : (l m : List ℕ) → Alike l m → min 4097 (length l) ≡ min 4097 (length m)
+alike-length l m h = sym (length-take 4097 l) ∙ ap length h ∙ length-take 4097 m
+
+too-long : (t : List ℕ) → 4096 < length t → lineAnswer t ≡ decimal 1 ++ 10 ∷ []
+unfolding lineAnswer readPath
+too-long t h = rw (lt-ltb 4096 (length t) h)
+
+line-front : (l m : List ℕ) → Alike l m → lineAnswer l ≡ lineAnswer m
+line-front l m h = go (ltb 4096 (length l)) refl (alike-length l m h)
+  where
+    go : (v : Bool) → ltb 4096 (length l) ≡ v → min 4097 (length l) ≡ min 4097 (length m) → lineAnswer l ≡ lineAnswer m
+    go true e n = too-long l (ltb-true 4096 (length l) e) ∙ sym (too-long m (omega (arith, ltb-true 4096 (length l) e)))
+    go false e n =
+        let k = ltb-false 4096 (length l) e in
+        ap lineAnswer (sym (take-all 4097 l (omega arith)) ∙ h ∙ take-all 4097 m (omega arith))
+
+last-front : (l m : List ℕ) → Alike l m → lastAnswer l ≡ lastAnswer m
+unfolding lastAnswer
+last-front [] [] h = refl
+last-front [] (b ∷ m) h = absurd (omega (arith, alike-length [] (b ∷ m) h))
+last-front (b ∷ l) [] h = absurd (omega (arith, alike-length (b ∷ l) [] h))
+last-front (b ∷ l) (a ∷ m) h = line-front (b ∷ l) (a ∷ m) h
+
+front-append : (n : ℕ) (l m x : List ℕ) → take n l ≡ take n m → take n (l ++ x) ≡ take n (m ++ x)
+front-append zero l m x h = refl
+front-append (suc n) [] [] x h = refl
+front-append (suc n) [] (b ∷ m) x h = let z : _≡_ {A = ℕ} 0 1 = cc in absurd (omega arith)
+front-append (suc n) (b ∷ l) [] x h = let z : _≡_ {A = ℕ} 0 1 = cc in absurd (omega arith)
+front-append (suc n) (b ∷ l) (a ∷ m) x h =
+    let t : take n l ≡ take n m = cc in
+    let e : b ≡ a = cc in
+    rw (e, front-append n l m x t)
+
+after-front : (b : ℕ) (l m : List ℕ) → Alike l m → Alike (lineAfter b l) (lineAfter b m)
+after-front b l m h = go (eqb b 10)
+  where
+    go : (v : Bool) → Alike (cond v [] (l ++ (b ∷ []))) (cond v [] (m ++ (b ∷ [])))
+    go true = refl
+    go false = front-append 4097 l m (b ∷ []) h
+
+ended-front : (s l m : List ℕ) → Alike l m → endedAnswers l s ≡ endedAnswers m s
+unfolding endedAnswers answerAt
+ended-front [] l m h = refl
+ended-front (b ∷ s) l m h = go (eqb b 10) (ended-front s (lineAfter b l) (lineAfter b m) (after-front b l m h))
+  where
+    go : (v : Bool) → endedAnswers (lineAfter b l) s ≡ endedAnswers (lineAfter b m) s → answerAt v l ++ endedAnswers (lineAfter b l) s ≡ answerAt v m ++ endedAnswers (lineAfter b m) s
+    go true k = rw (k, line-front l m h)
+    go false k = k
+
+unfinished-front : (s l m : List ℕ) → Alike l m → Alike (unfinished l s) (unfinished m s)
+unfolding unfinished
+unfinished-front [] l m h = h
+unfinished-front (b ∷ s) l m h = unfinished-front s (lineAfter b l) (lineAfter b m) (after-front b l m h)
+
+-- ---- bytes that come in two parts
+pub ended-append : (s r line : List ℕ) → endedAnswers line (s ++ r) ≡ endedAnswers line s ++ endedAnswers (unfinished line s) r
+unfolding endedAnswers unfinished
+ended-append [] r line = refl
+ended-append (b ∷ s) r line = rw (ended-append s r (lineAfter b line), append-assoc)
+
+pub unfinished-append : (s r line : List ℕ) → unfinished line (s ++ r) ≡ unfinished (unfinished line s) r
+unfolding unfinished
+unfinished-append [] r line = refl
+unfinished-append (b ∷ s) r line = unfinished-append s r (lineAfter b line)
+
+-- ---- the whole input in one step
+abbrev onLine : List ℕ → List (List ℕ) → List (List ℕ)
+onLine line [] = line ∷ []
+onLine line (c ∷ cs) = (line ++ c) ∷ cs
+
+on-onto : (line : List ℕ) (b : ℕ) (cs : List (List ℕ)) → onLine line (onto b cs) ≡ onLine (line ++ (b ∷ [])) cs
+on-onto line b [] = refl
+on-onto line b (c ∷ cs) = rw append-assoc
+
+on-none : (cs : List (List ℕ)) → (cs ≡ [] → ⊥) → onLine [] cs ≡ cs
+on-none [] h = absurd (h refl)
+on-none (c ∷ cs) h = refl
+
+cut-some : (s : List ℕ) → cutAt 10 s ≡ [] → ⊥
+unfolding cutAt joinBy
+cut-some s e =
+    let n : s ≡ [] = sym (join-cut 10 s) ∙ ap (joinBy 10) e in
+    let z : _≡_ {A = ℕ} 1 0 = ap length (rw n at e) in
+    omega arith
+
+whole-from : (s line : List ℕ) → answers (onLine line (cutAt 10 s)) ≡ endedAnswers line s ++ lastAnswer (unfinished line s)
+unfolding answers cutAt endedAnswers unfinished answerAt
+whole-from [] line = rw append-nil
+whole-from (b ∷ s) line = go (eqb b 10) (cutAt 10 s) refl (whole-from s (lineAfter b line))
+  where
+    go : (v : Bool) (cs : List (List ℕ)) → cutAt 10 s ≡ cs → answers (onLine (cond v [] (line ++ (b ∷ []))) cs) ≡ endedAnswers (cond v [] (line ++ (b ∷ []))) s ++ lastAnswer (unfinished (cond v [] (line ++ (b ∷ []))) s)
+        → answers (onLine line (cutStep v b cs)) ≡ (answerAt v line ++ endedAnswers (cond v [] (line ++ (b ∷ []))) s) ++ lastAnswer (unfinished (cond v [] (line ++ (b ∷ []))) s)
+    go true [] e h = absurd (cut-some s e)
+    go true (c ∷ cs) e h = rw (append-nil, h, append-assoc)
+    go false cs e h = ap answers (on-onto line b cs) ∙ h
+
+-- however the input is cut into reads
+steps-from : (reads : List (List ℕ)) (l m : List ℕ) → Alike l m → stepsAnswer l reads ≡ endedAnswers m (flatten reads) ++ lastAnswer (unfinished m (flatten reads))
+unfolding stepsAnswer held flatten endedAnswers unfinished
+steps-from [] l m h = last-front l m h
+steps-from (s ∷ reads) l m h =
+    let k = steps-from reads (held l s) (unfinished m s) (take-take 4097 4097 (unfinished l s) (omega arith) ∙ unfinished-front s l m h) in
+    rw (ended-front s l m h, k, ended-append s (flatten reads) m, unfinished-append s (flatten reads) m, append-assoc)
+
+pub any-cutting : (reads : List (List ℕ)) → stepsAnswer [] reads ≡ wholeAnswer (flatten reads)
+unfolding wholeAnswer
+any-cutting reads = steps-from reads [] [] refl ∙ sym (whole-from (flatten reads) []) ∙ ap answers (on-none (cutAt 10 (flatten reads)) (cut-some (flatten reads)))
+
+-- what is held is short
+pub held-short : (line s : List ℕ) {l o : List ℕ} {r : ℕ} → Wrote l 0 (held line s) r o → r ≤ 4097
+unfolding held
+held-short line s w = omega (arith, w .next, length-take 4097 (unfinished line s))

@@ -1,0 +1,68 @@
+#!/bin/sh
+# Runs the built askpath as a person does: a line is answered before the next is written, however the input is cut, and
+# what cannot be read or written is said. It is run after the program is built. Last line: 'N passed, M failed'.
+. "$(dirname "$0")/../lib/start.sh"
+cd .. || exit 2 # start.sh goes to the folder above this one
+if [ ! -x target/bin/askpath ]; then
+    echo 'askpath: LEFT OUT, the program is not built: how it answers line by line'
+    echo '0 passed, 0 failed'
+    exit
+fi
+
+# check NAME EXPECTED GOT
+check() {
+    if [ "$2" = "$3" ]; then
+        passed=$((passed + 1))
+    else
+        echo "askpath: $1: '$3' in place of '$2'"
+        failed=$((failed + 1))
+    fi
+}
+
+# Waits until as many lines are answered, ten seconds at most.
+answered() {
+    tries=0
+    while [ "$(wc -l <"$work/out")" -lt "$1" ] && [ "$tries" -lt 100 ]; do
+        sleep 0.1
+        tries=$((tries + 1))
+    done
+    tail -n +"$1" "$work/out"
+}
+
+# Line by line, with the input open all the while.
+mkfifo "$work/in"
+: >"$work/out"
+bin/askpath <"$work/in" >"$work/out" &
+exec 3>"$work/in"
+printf 'clients\n' >&3
+check 'a line, answered while the input is open' 3 "$(answered 1)"
+printf 'clients/07-tendermint-4/consensus' >&3
+sleep 0.2
+check 'no answer to half a line' 1 "$(grep -c . "$work/out")"
+printf 'States/007-+2\n/5/upgr' >&3
+check 'a line that came in two parts' '0 5 L clients/07-tendermint-4/consensusStates/7-2' "$(answered 2)"
+printf 'adedClient' >&3
+exec 3>&-
+wait
+check 'the last line, which has no end' '0 18 E /5/upgradedClient' "$(answered 3)"
+
+# Lines on both sides of 4,096 bytes, in one input that no single read takes.
+awk 'BEGIN {
+    for (i = 1; i <= 40; i++) printf "%s%0*d\n", "x/", i % 2 ? 4094 : 4095, 0
+    printf "%0300000d\n\nports/ab", 0
+}' | bin/askpath >"$work/out"
+check 'long lines' '20 of 3, 21 of 1, 3, 0 10 E ports/ab' \
+    "$(head -n 41 "$work/out" | grep -cx 3) of 3, $(grep -cx 1 "$work/out") of 1, $(tail -n 2 "$work/out" | head -n 1), $(tail -n 1 "$work/out")"
+bin/askpath </dev/null >"$work/out"
+check 'no input' '' "$(cat "$work/out")"
+
+# A folder cannot be read as a file: that is no end of the input.
+bin/askpath <tests >"$work/out" 2>"$work/err"
+check 'what is said where the input cannot be read' 1 "$(grep -c 'standard input cannot be read' "$work/err")"
+if [ -c /dev/full ]; then
+    echo ports/ab | bin/askpath 2>"$work/err" >/dev/full
+    check 'what is said where the answers cannot be written' 1 "$(grep -c 'standard output cannot be written' "$work/err")"
+fi
+
+echo "$passed passed, $failed failed"
+[ "$failed" -eq 0 ]

@@ -1,0 +1,66 @@
+#!/bin/sh
+# Holds bin/askpath to what it says of itself, with a program and a toolchain that only stand for the real ones: it proves
+# and builds once, asks for the toolchain only where that is needed, and hands its input to the program.
+# Last line: 'N passed, M failed'.
+. "$(dirname "$0")/lib/start.sh"
+
+# check NAME EXPECTED GOT
+check() {
+    if [ "$2" = "$3" ]; then
+        passed=$((passed + 1))
+    else
+        echo "askpath: $1: '$3' in place of '$2'"
+        failed=$((failed + 1))
+    fi
+}
+
+mkdir -p "$work/bin" "$work/crates" "$work/tools"
+cp bin/askpath "$work/bin"
+: >"$work/crates.txt"
+for tool in cat chmod cp dirname find mkdir touch; do ln -s "$(command -v "$tool")" "$work/tools"; done
+printf '#!/bin/sh\necho x86_64\n' >"$work/tools/uname"
+printf '#!/bin/sh\necho "the program"\ncat\n' >"$work/program"
+chmod +x "$work/tools/uname" "$work/program"
+
+# Calls it with the line `text`, and lays down what it prints, what it says on standard error, and its status.
+call() {
+    status=0
+    echo text | PATH=$work/tools /bin/sh "$work/bin/askpath" "$@" >"$work/out" 2>"$work/err" || status=$?
+}
+
+call
+check 'the status where the toolchain is missing' 2 "$status"
+check 'what is printed then' '' "$(cat "$work/out")"
+check 'the lines that say what to do' 1 "$(grep -c 'put its command rt on the PATH' "$work/err")"
+
+# The toolchain that stands for the real one counts its calls, and reads all that is left to it of the input.
+cat >"$work/tools/rt" <<'END'
+#!/bin/sh
+cat >/dev/null
+echo "$*" >>calls
+mkdir -p target/bin
+cp program target/bin/askpath
+END
+chmod +x "$work/tools/rt"
+call
+check 'the first call' 'the program text' "$(tr '\n' ' ' <"$work/out" | sed 's/ $//')"
+check 'what the toolchain was asked' 'check askpath' "$(cat "$work/calls")"
+call
+check 'calls of the toolchain once the program is built' 1 "$(grep -c . "$work/calls")"
+
+touch -t 202001010000 "$work/target/bin/askpath"
+touch "$work/crates/source"
+printf '#!/bin/sh\ncat >/dev/null\necho again >>calls\n' >"$work/tools/rt" # all is proved: the program stays as it is
+call
+call
+check 'calls where a source is newer' 2 "$(grep -c . "$work/calls")"
+
+rm "$work/tools/rt"
+call
+check 'the second call without the toolchain' 0 "$status"
+call --help
+check 'the status with an argument' 2 "$status"
+check 'what is said of it' 1 "$(grep -c 'takes no arguments' "$work/err")"
+
+echo "$passed passed, $failed failed"
+[ "$failed" -eq 0 ]
