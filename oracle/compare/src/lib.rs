@@ -33,7 +33,9 @@ impl Size {
 }
 
 /// A set's name and what it asks.
-pub type Sets = &'static [(&'static str, fn(&mut set::Set, Size))];
+pub type NamedSet = (&'static str, fn(&mut set::Set, Size));
+
+pub type Sets = &'static [NamedSet];
 
 /// The families of sets.
 pub const FAMILIES: &[Sets] = &[

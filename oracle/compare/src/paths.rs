@@ -15,6 +15,7 @@ pub const SETS: Sets = &[
     ("paths of document 01", table),
     ("texts of up to three bytes", short),
     ("lists of components", lists),
+    ("longer lists of components", longer),
     ("lists of packet components", packets),
     ("texts at each place", places),
     ("numbers in paths", numbers),
@@ -82,8 +83,7 @@ fn table(set: &mut Set, _: Size) {
 }
 
 fn short(set: &mut Set, _: Size) {
-    let bytes: Vec<[u8; 1]> = (0..128).map(|byte| [byte]).collect();
-    pool::texts(&bytes, "", 3, |text| ask(set, text));
+    pool::texts(&pool::ascii(), "", 3, |text| ask(set, text));
 }
 
 /// What may stand between slashes; those that read on come first.
@@ -99,10 +99,15 @@ fn lists(set: &mut Set, size: Size) {
     pool::texts(&COMPONENTS[..size.pick(12, 27)], "/", 5, |text| ask(set, text));
 }
 
+fn longer(set: &mut Set, size: Size) {
+    pool::texts(&COMPONENTS[..size.pick(6, 22)], "/", 6, |text| ask(set, text));
+}
+
 /// Lists as long as the longest kinds, and in the full set one longer.
 fn packets(set: &mut Set, size: Size) {
-    let pieces = ["commitments", "ports", "channels", "channel-7", "sequences", "+5", "transfer"];
-    pool::texts(&pieces[..size.pick(6, 7)], "/", size.pick(7, 8), |text| ask(set, text));
+    let pieces =
+        ["commitments", "ports", "channels", "channel-7", "sequences", "+5", "transfer", "acks"];
+    pool::texts(&pieces[..size.pick(6, 8)], "/", size.pick(7, 8), |text| ask(set, text));
 }
 
 /// Every pool text at every place of every kind, and once more with a slash too many.
@@ -142,13 +147,13 @@ fn at_each_number(set: &mut Set, number: &str) {
 }
 
 fn numbers(set: &mut Set, size: Size) {
-    pool::texts(&pool::LETTERS, "", size.pick(5, 6), |number| {
+    pool::texts(&pool::LETTERS, "", size.pick(5, 8), |number| {
         at_each_number(set, std::str::from_utf8(number).unwrap());
     });
 }
 
 fn limit(set: &mut Set, size: Size) {
-    for value in pool::around_powers(size.pick(50, 2_000)) {
+    for value in pool::around_powers(size.pick(50, 10_000)) {
         for sign in ["", "+", "0", "+0000"] {
             at_each_number(set, &format!("{sign}{value}"));
         }
@@ -158,7 +163,7 @@ fn limit(set: &mut Set, size: Size) {
 fn damaged(set: &mut Set, size: Size) {
     let mut random = Random(1);
     let pools = Pools::default();
-    for _ in 0..size.pick(300_000, 6_000_000) {
+    for _ in 0..size.pick(300_000, 30_000_000) {
         ask(set, &pools.path(&mut random));
     }
 }
