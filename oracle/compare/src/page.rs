@@ -25,6 +25,13 @@ pub struct Row {
     pub why: Option<&'static str>,
 }
 
+impl Row {
+    /// The kind that the Rust's answer has, or 0.
+    pub fn kind(&self) -> u8 {
+        self.rust.strip_prefix("kind ").and_then(|kind| kind.parse().ok()).unwrap_or(0)
+    }
+}
+
 /// Every call of every row. A table has the columns `asked`, `the Rust` and `here`, and where it lists
 /// differences `why`.
 fn rows() -> Vec<Row> {
@@ -203,20 +210,29 @@ impl Page {
     }
 
     /// The rows that list the difference between what the original says and another answer: none where
-    /// the original says it of a question on which it may not differ.
+    /// it was asked what it may not differ on.
     pub fn covering<T>(
         &self,
-        call: Call,
+        function: Function,
         theirs: &Theirs<Result<T, u8>>,
         ours: &Result<T, u8>,
     ) -> &[Row] {
         let number = |answer: &Result<T, u8>| answer.as_ref().err().copied().unwrap_or(0);
         match theirs {
             Theirs::Says(_) => &[],
-            Theirs::Listed(_, said) => self.rows(call.function, Ok(number(said)), number(ours)),
-            Theirs::Silent(reason) => self.rows(call.function, Err(reason), number(ours)),
+            Theirs::Listed(_, said) => self.rows(function, Ok(number(said)), number(ours)),
+            Theirs::Silent(reason) => self.rows(function, Err(reason), number(ours)),
         }
     }
+}
+
+/// The calls of `hp_read` that rows list with a text alone, and their texts.
+#[cfg(test)]
+pub fn texts_read() -> Vec<(&'static str, Vec<u8>)> {
+    let listed = rows().into_iter().filter(|row| row.why.is_some());
+    let calls = listed.filter_map(|row| Some((row.asked, Asked::of(row.asked)?)));
+    let alone = calls.filter(|(_, call)| call.function == Function::Read && call.room == ROOM);
+    alone.map(|(asked, call)| (asked, call.texts[0].clone())).collect()
 }
 
 fn ask(set: &mut Set, _: Size) {

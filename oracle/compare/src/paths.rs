@@ -1,14 +1,12 @@
 //! Reading: `hp_read` and `hp_key` against `Path::from_str` and `Path`'s `Display`.
-use ibc_core_host_types::path::Path;
-use ibc_core_host_types::terms::{self, Parts};
-use model::path::{self, Reading, KINDS};
+use model::path::{self, KINDS};
 use model::pool::{self, Pools};
 use model::random::Random;
 use model::table;
 
 use crate::call::{Call, Function};
-use crate::original::reads;
 use crate::set::{Bytes, Set, Text, Theirs};
+use crate::told::{self, read_call};
 use crate::{Sets, Size};
 
 pub const SETS: Sets = &[
@@ -26,33 +24,6 @@ pub const SETS: Sets = &[
     ("rooms for a reading", rooms),
 ];
 
-/// A reading with its identifiers as texts, as each voice can tell it.
-#[derive(Debug, PartialEq)]
-struct Told {
-    kind: u8,
-    exact: bool,
-    first: Bytes,
-    second: Bytes,
-    numbers: [u64; 2],
-    key: Bytes,
-}
-
-fn told_by_original(path: &Path, key: &str, text: &[u8]) -> Told {
-    let Parts { kind, first, second, numbers } = terms::parts(path);
-    let [first, second, key] = [first, second, key].map(|text| Bytes(text.into()));
-    Told { kind, exact: key.0 == text, first, second, numbers, key }
-}
-
-fn told_by_model(reading: &Reading, key: &Bytes, text: &[u8]) -> Told {
-    let Reading { kind, exact, numbers, .. } = *reading;
-    let [first, second] = [reading.first, reading.second].map(|place| Bytes(place.of(text).into()));
-    Told { kind, exact, first, second, numbers, key: key.clone() }
-}
-
-fn read_call(text: &[u8]) -> Call<'_> {
-    Call::new(Function::Read, [text, b""], [0, 0])
-}
-
 fn key_call(text: &[u8]) -> Call<'_> {
     Call::new(Function::Key, [text, b""], [0, 0])
 }
@@ -65,12 +36,8 @@ fn ask(set: &mut Set, text: &[u8]) {
     set.count();
     set.lend_around(read_call(text), &bytes);
     set.lend_around(key_call(text), &key);
-    let theirs = reads(text, |path, key| told_by_original(path, key, text));
-    set.agree(
-        theirs,
-        &model.map(|(reading, key)| told_by_model(&reading, &key, text)),
-        read_call(text),
-    );
+    let told = model.map(|(reading, key)| told::by_reading(&reading, &key.0, text));
+    set.agree(told::by_original(text), &told, read_call(text));
 }
 
 /// Document 01's rows, held to the outcomes that it writes.

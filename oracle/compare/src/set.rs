@@ -172,7 +172,7 @@ impl<'a> Set<'a> {
         if let Theirs::Listed(reason, _) = theirs {
             self.listed[reason as usize] += 1;
         }
-        if self.page.covering(call, &theirs, model).is_empty() {
+        if self.page.covering(call.function, &theirs, model).is_empty() {
             self.differ(|| format!("{call}: Rust {said:?}, here {model:?}, and no row lists it"));
         }
     }
