@@ -1,5 +1,6 @@
 //! Two sides of one question, and how their times compare.
 use std::hint::black_box;
+use std::rc::Rc;
 use std::time::{Duration, Instant};
 
 const ROUNDS: usize = 25;
@@ -11,22 +12,32 @@ const ROUND: Duration = Duration::from_millis(2);
 /// and the readings of its keys.
 pub struct Family {
     pub name: String,
-    upper: Box<dyn Fn()>,
-    lower: Box<dyn Fn()>,
+    upper: Rc<dyn Fn()>,
+    lower: Rc<dyn Fn()>,
 }
 
 impl Family {
     pub fn new(name: String, upper: impl Fn() + 'static, lower: impl Fn() + 'static) -> Self {
-        Self { name, upper: Box::new(upper), lower: Box::new(lower) }
+        Self { name, upper: Rc::new(upper), lower: Rc::new(lower) }
+    }
+
+    /// One pass over all texts of some families.
+    pub fn together(name: &str, families: &[Self]) -> Self {
+        let passes = |side: fn(&Self) -> Rc<dyn Fn()>| {
+            let sides: Vec<_> = families.iter().map(side).collect();
+            move || sides.iter().for_each(|side| side())
+        };
+        let (upper, lower) = (passes(|one| one.upper.clone()), passes(|one| one.lower.clone()));
+        Self::new(name.into(), upper, lower)
     }
 
     /// Time of the first side over time of the second. The sides take turns at going first.
     pub fn ratio(&self) -> f64 {
         let passes = self.passes();
         let round = |turn: usize| {
-            let before = (turn % 2 == 1).then(|| time(passes, &self.upper));
-            let lower = time(passes, &self.lower);
-            let upper = before.unwrap_or_else(|| time(passes, &self.upper));
+            let before = (turn % 2 == 1).then(|| time(passes, &*self.upper));
+            let lower = time(passes, &*self.lower);
+            let upper = before.unwrap_or_else(|| time(passes, &*self.upper));
             upper.as_secs_f64() / lower.as_secs_f64()
         };
         let mut ratios: Vec<f64> = (0..ROUNDS).map(round).collect();
@@ -41,7 +52,7 @@ impl Family {
     }
 
     fn passes(&self) -> u32 {
-        let slower = |passes| time(passes, &self.upper).max(time(passes, &self.lower));
+        let slower = |passes| time(passes, &*self.upper).max(time(passes, &*self.lower));
         (0..)
             .map(|doubled| 1 << doubled)
             .find(|passes| slower(*passes) >= ROUND)
