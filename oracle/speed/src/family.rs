@@ -52,10 +52,12 @@ impl Family {
     }
 
     fn passes(&self) -> u32 {
-        let slower = |passes| time(passes, &*self.upper).max(time(passes, &*self.lower));
+        // the least of some times, since what else runs on the machine makes one longer
+        let least = |passes, side: &dyn Fn()| (0..5).map(|_| time(passes, side)).min();
+        let slower = |passes| least(passes, &*self.upper).max(least(passes, &*self.lower));
         (0..)
             .map(|doubled| 1 << doubled)
-            .find(|passes| slower(*passes) >= ROUND)
+            .find(|passes| slower(*passes) >= Some(ROUND))
             .expect("time passes")
     }
 }

@@ -45,6 +45,7 @@ fn families() -> impl Iterator<Item = Family> {
 
 fn figures(picture: &str, programs: Option<Family>) {
     let mut figures = vec![];
+    println!("{:40}  ratio", "family");
     for family in families().chain(programs).chain(books::families()) {
         let ratio = family.ratio();
         println!("{:40} {ratio:6.2}", family.name);

@@ -1,6 +1,8 @@
 //! docs/bench.svg: the figures that sum up the others, as bars.
 use std::fmt::Write;
 
+use crate::programs;
+
 /// Bars of one meaning: a family's name, and what the bar is called.
 struct Panel {
     title: &'static str,
@@ -22,7 +24,7 @@ const PANELS: [Panel; 2] = [
             ("general checks, accepted, together", "general checks, accepted"),
             ("checks, refused, together", "all checks, refused"),
             ("identifiers from a counter, together", "identifiers made from a counter"),
-            ("askpath", "askpath on 1,000,000 lines"),
+            (programs::NAME, "askpath on 1,000,000 lines"),
         ],
     },
     Panel {
@@ -102,4 +104,24 @@ fn put_panel(body: &mut String, panel: &Panel, bars: &[(&str, f64)], top: usize)
     }
     put(format!("<path class=\"one\" d=\"M{0:.1} {1}V{end}\"/>", at(1.0), first - 20));
     end + 10
+}
+
+#[cfg(test)]
+mod tests {
+    use super::*;
+    use crate::{books, families};
+
+    #[test]
+    fn every_bar_is_of_a_family() {
+        let names: Vec<String> =
+            families().chain(books::families()).map(|family| family.name).collect();
+        let bars: Vec<&str> =
+            PANELS.iter().flat_map(|panel| panel.bars).map(|(name, _)| *name).collect();
+        for bar in &bars {
+            assert!(*bar == programs::NAME || names.iter().any(|name| name == bar), "{bar}");
+        }
+        let figures: Vec<(String, f64)> = bars.iter().map(|bar| (bar.to_string(), 2.5)).collect();
+        assert_eq!(svg(&figures).matches("2.50</text>").count(), bars.len());
+        assert_eq!(svg(&[]).matches("class=\"bar\"").count(), 0);
+    }
 }

@@ -4,6 +4,8 @@ use std::process::{Command, Stdio};
 
 use crate::family::Family;
 
+pub const NAME: &str = "askpath";
+
 fn command(program: &str, lines: &str) -> Command {
     let mut command = Command::new(program);
     command.stdin(File::open(lines).expect("a file of lines"));
@@ -21,5 +23,5 @@ pub fn family(askpath: &str, rustask: &str, lines: &str) -> Family {
     assert!(answers(askpath) == answers(rustask), "the answers differ");
     let [askpath, rustask, lines] = [askpath, rustask, lines].map(String::from);
     let same = lines.clone();
-    Family::new("askpath".into(), move || run(&rustask, &lines), move || run(&askpath, &same))
+    Family::new(NAME.into(), move || run(&rustask, &lines), move || run(&askpath, &same))
 }
