@@ -1,9 +1,10 @@
-//! Two sides of one question, and how their times compare.
+//! Two sides of one question, and how their times compare. A time is the least of some, since what else
+//! runs on the machine only adds to it.
 use std::hint::black_box;
 use std::rc::Rc;
 use std::time::{Duration, Instant};
 
-const ROUNDS: usize = 25;
+const ROUNDS: usize = 50;
 
 /// What a round of the slower side takes at least.
 const ROUND: Duration = Duration::from_millis(2);
@@ -31,18 +32,15 @@ impl Family {
         Self::new(name.into(), upper, lower)
     }
 
-    /// Time of the first side over time of the second. The sides take turns at going first.
+    /// Time of the first side over time of the second, of each the least of its rounds.
     pub fn ratio(&self) -> f64 {
         let passes = self.passes();
-        let round = |turn: usize| {
-            let before = (turn % 2 == 1).then(|| time(passes, &*self.upper));
-            let lower = time(passes, &*self.lower);
-            let upper = before.unwrap_or_else(|| time(passes, &*self.upper));
-            upper.as_secs_f64() / lower.as_secs_f64()
+        let round = |_| [&self.upper, &self.lower].map(|side| time(passes, &**side));
+        let least = |least: [Duration; 2], round: [Duration; 2]| {
+            [least[0].min(round[0]), least[1].min(round[1])]
         };
-        let mut ratios: Vec<f64> = (0..ROUNDS).map(round).collect();
-        ratios.sort_by(f64::total_cmp);
-        ratios[ROUNDS / 2]
+        let [upper, lower] = (0..ROUNDS).map(round).fold([Duration::MAX; 2], least);
+        upper.as_secs_f64() / lower.as_secs_f64()
     }
 
     /// So many passes by one side, for a count of its instructions.
@@ -52,7 +50,6 @@ impl Family {
     }
 
     fn passes(&self) -> u32 {
-        // the least of some times, since what else runs on the machine makes one longer
         let least = |passes, side: &dyn Fn()| (0..5).map(|_| time(passes, side)).min();
         let slower = |passes| least(passes, &*self.upper).max(least(passes, &*self.lower));
         (0..)

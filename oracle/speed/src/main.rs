@@ -1,6 +1,6 @@
 //! `speed figures PICTURE [ASKPATH RUSTASK LINES]`, for oracle/bench: time of the original over time of
 //! the library, for each family of calls; above 1 the library is faster. Both sides get the same texts
-//! from one driver, turn by turn; a figure is the median of the rounds' ratios. So it is with the programs
+//! from one driver, turn by turn; a side's time is the least of its rounds. So it is with the programs
 //! askpath and rustask on a file of lines. Then calls on books, which the original lacks: time of a call
 //! over time of one reading of every key of its book. PICTURE is written with some of them as bars.
 //!
