@@ -5,3 +5,15 @@ work=$(mktemp -d) || exit 2
 trap 'rm -rf "$work"' EXIT
 passed=0
 failed=0
+
+# Runs a command and counts it; where it fails, the first word says what does not hold.
+holds() {
+    said=$1
+    shift
+    if "$@"; then
+        passed=$((passed + 1))
+    else
+        echo "$(basename "$0" .sh): $said"
+        failed=$((failed + 1))
+    fi
+}

@@ -1,5 +1,7 @@
 //! What `askpath` prints for a line, by the original. Refusals 1 and 2 are the port's own, given by
 //! document 01; all else is the original's answer.
+pub mod sample;
+
 use std::fmt::Write;
 
 use ibc_core_host_types::path::Path;

@@ -16,6 +16,7 @@ pub const SETS: Sets = &[
     ("bytes at each place", bytes),
     ("scalar values", scalars),
     ("short texts", short),
+    ("identifiers of up to three bytes", three),
     ("indexes and names", indexes),
     ("indexes at the limit", limit),
     ("long texts", long),
@@ -223,6 +224,11 @@ fn scalars(set: &mut Set, size: Size) {
     }
 }
 
+/// Every ASCII text of so many bytes.
+fn three(set: &mut Set, size: Size) {
+    pool::texts(&pool::ascii(), "", size.pick(1, 3), |text| every(set, text));
+}
+
 /// Every text of up to two bytes, and every short index.
 fn short(set: &mut Set, size: Size) {
     let top = size.pick(127, 255);
@@ -236,7 +242,7 @@ fn short(set: &mut Set, size: Size) {
         }
     }
     for head in ["channel-", "connection-", "connection"] {
-        pool::texts(&pool::LETTERS, "", size.pick(4, 6), |tail| {
+        pool::texts(&pool::LETTERS, "", size.pick(4, 7), |tail| {
             index(set, &[head.as_bytes(), tail].concat());
         });
     }
@@ -255,7 +261,7 @@ fn indexes(set: &mut Set, _: Size) {
 
 /// Numbers on both sides of 2^64, and of other powers.
 fn limit(set: &mut Set, size: Size) {
-    for value in pool::around_powers(size.pick(500, 20_000)) {
+    for value in pool::around_powers(size.pick(500, 100_000)) {
         for sign in ["", "+", "0", "+0", "+0000"] {
             index(set, format!("channel-{sign}{value}").as_bytes());
             index(set, format!("connection-{sign}{value}").as_bytes());
@@ -285,7 +291,7 @@ fn damaged(set: &mut Set, size: Size) {
     let mut random = Random(2);
     let whole = pool::identifiers();
     let good = good();
-    for _ in 0..size.pick(40_000, 400_000) {
+    for _ in 0..size.pick(40_000, 6_000_000) {
         let chosen = if random.one_in(2) { random.text(&whole) } else { random.of(&good) };
         let mut text = chosen.as_bytes().to_vec();
         let times = random.below(4);
@@ -316,7 +322,7 @@ fn trimming(set: &mut Set, size: Size) {
         }
     }
     let mut random = Random(3);
-    for _ in 0..size.pick(50_000, 1_000_000) {
+    for _ in 0..size.pick(50_000, 4_000_000) {
         let length = random.below(48);
         let mut text = filled("07-tend", 'x', length);
         text.insert_str(length / 2, &blanks(&mut random, 2));
@@ -331,7 +337,7 @@ fn counters(set: &mut Set, size: Size) {
     let mut random = Random(4);
     let corners = pool::around_powers(2).into_iter().filter_map(|value| u64::try_from(value).ok());
     let mut all: Vec<u64> = corners.collect();
-    all.extend((0..size.pick(2_000, 200_000)).map(|_| random.word() >> random.below(64)));
+    all.extend((0..size.pick(2_000, 1_000_000)).map(|_| random.word() >> random.below(64)));
     for counter in &all {
         channel_id_new(set, *counter);
         client_id_new(set, b"\x0b07-tendermint\t", *counter);

@@ -2,6 +2,7 @@
 //! and the model of document 01. The library equals the model always; the original equals it
 //! wherever docs/DIFFERENCES.md lists no difference. Of books the original knows nothing.
 pub mod batch;
+pub mod beside;
 pub mod books;
 pub mod call;
 #[rustfmt::skip]
@@ -14,6 +15,7 @@ pub mod page;
 pub mod paths;
 pub mod renderings;
 pub mod set;
+pub mod told;
 pub mod typed;
 
 /// How much of a set to run.
@@ -33,7 +35,9 @@ impl Size {
 }
 
 /// A set's name and what it asks.
-pub type Sets = &'static [(&'static str, fn(&mut set::Set, Size))];
+pub type NamedSet = (&'static str, fn(&mut set::Set, Size));
+
+pub type Sets = &'static [NamedSet];
 
 /// The families of sets.
 pub const FAMILIES: &[Sets] = &[

@@ -1,6 +1,6 @@
 //! The tables of docs/DIFFERENCES.md: every call that a row names is asked of the original and of the
 //! library, and each has to answer what the row says. The page says how calls and answers are written.
-use std::collections::BTreeSet;
+use std::collections::BTreeMap;
 
 use crate::call::{Call, Function};
 use crate::library;
@@ -15,26 +15,38 @@ const PAGE: &str = include_str!("../../../docs/DIFFERENCES.md");
 /// What is lent where a row names no room.
 const ROOM: usize = 8192;
 
-/// A call that a row names, and the answers that stand there.
-struct Row<'a> {
-    asked: &'a str,
-    rust: &'a str,
-    here: &'a str,
+/// A call that a row names, and what stands there of it.
+#[derive(Debug)]
+pub struct Row {
+    pub asked: &'static str,
+    pub rust: &'static str,
+    pub here: &'static str,
+    /// None in a table that lists no differences between the Rust and the library.
+    pub why: Option<&'static str>,
 }
 
-/// Every call of every row. A table has the columns `asked`, `the Rust` and `here`.
-fn rows() -> Vec<Row<'static>> {
-    let (mut rows, mut columns) = (vec![], None::<[usize; 3]>);
+impl Row {
+    /// The kind that the Rust's answer has, or 0.
+    pub fn kind(&self) -> u8 {
+        self.rust.strip_prefix("kind ").and_then(|kind| kind.parse().ok()).unwrap_or(0)
+    }
+}
+
+/// Every call of every row. A table has the columns `asked`, `the Rust` and `here`, and where it lists
+/// differences `why`.
+fn rows() -> Vec<Row> {
+    let (mut rows, mut columns) = (vec![], None::<([usize; 3], Option<usize>)>);
     for line in PAGE.lines() {
         let cells: Vec<&str> = line.split('|').map(str::trim).collect();
+        let column = |name: &str| cells.iter().position(|cell| *cell == name);
         if !line.starts_with('|') {
             columns = None;
-        } else if let Some(columns) = columns {
-            rows.extend(calls(columns.map(|at| quoted(cells[at]))));
+        } else if let Some((columns, why)) = columns {
+            rows.extend(calls(columns.map(|at| quoted(cells[at])), why.map(|at| cells[at])));
         } else {
-            columns = Some(["asked", "the Rust", "here"].map(|name| {
-                cells.iter().position(|cell| *cell == name).unwrap_or_else(|| panic!("{line}"))
-            }));
+            let names = ["asked", "the Rust", "here"];
+            let places = names.map(|name| column(name).unwrap_or_else(|| panic!("{line}")));
+            columns = Some((places, column("why")));
         }
     }
     rows
@@ -50,14 +62,17 @@ fn quoted(cell: &str) -> Vec<&str> {
 }
 
 /// The calls of a row: each has an answer of its own in a cell, or all have the one that is there.
-fn calls<'a>([asked, rust, here]: [Vec<&'a str>; 3]) -> impl Iterator<Item = Row<'a>> {
+fn calls(
+    [asked, rust, here]: [Vec<&'static str>; 3],
+    why: Option<&'static str>,
+) -> impl Iterator<Item = Row> {
     let many = asked.len();
-    let of = move |answers: &[&'a str], at: usize| match answers {
+    let of = move |answers: &[&'static str], at: usize| match answers {
         [one] => one,
         answers if answers.len() == many => answers[at],
         _ => "as many answers as calls",
     };
-    let row = move |(at, asked)| Row { asked, rust: of(&rust, at), here: of(&here, at) };
+    let row = move |(at, asked)| Row { asked, rust: of(&rust, at), here: of(&here, at), why };
     asked.into_iter().enumerate().map(row)
 }
 
@@ -164,32 +179,64 @@ fn bytes(piece: &str) -> Option<Vec<u8>> {
     Some(all)
 }
 
-/// The pairs of answers that rows list, 0 for any that is no refusal.
+/// An answer as rows list it: a refusal, 0 for any that is none, or why the Rust cannot be asked.
+pub type Said = Result<u8, &'static str>;
+
+/// The rows that list differences, by their call and pair of answers.
 #[derive(Debug)]
-pub struct Page(BTreeSet<(Function, u8, u8)>);
+pub struct Page(BTreeMap<(Function, Said, u8), Vec<Row>>);
 
 impl Default for Page {
     fn default() -> Self {
-        let number = |cell: &str| match cell {
-            "panics" => Some(PANICKED),
-            "no str" | "no kind" | "no book" => None,
-            cell => Some(cell.parse().unwrap_or(0)),
+        let said = |cell: &'static str| match cell {
+            "panics" => Ok(PANICKED),
+            "no str" | "no kind" | "no book" => Err(cell),
+            cell => Ok(cell.parse().unwrap_or(0)),
         };
-        let pair = |row: &Row| {
-            Some((Asked::of(row.asked)?.function, number(row.rust)?, number(row.here)?))
-        };
-        Self(rows().iter().filter_map(pair).collect())
+        let mut page = Self(BTreeMap::new());
+        for row in rows().into_iter().filter(|row| row.why.is_some()) {
+            if let (Some(asked), Ok(here)) = (Asked::of(row.asked), said(row.here)) {
+                page.0.entry((asked.function, said(row.rust), here)).or_default().push(row);
+            }
+        }
+        page
     }
 }
 
 impl Page {
-    pub fn lists(&self, function: Function, rust: u8, here: u8) -> bool {
-        self.0.contains(&(function, rust, here))
+    /// The rows of a call with this pair of answers; none where no row lists the difference.
+    pub fn rows(&self, function: Function, rust: Said, here: u8) -> &[Row] {
+        self.0.get(&(function, rust, here)).map_or(&[], Vec::as_slice)
+    }
+
+    /// The rows that list the difference between what the original says and another answer: none where
+    /// it was asked what it may not differ on.
+    pub fn covering<T>(
+        &self,
+        function: Function,
+        theirs: &Theirs<Result<T, u8>>,
+        ours: &Result<T, u8>,
+    ) -> &[Row] {
+        let number = |answer: &Result<T, u8>| answer.as_ref().err().copied().unwrap_or(0);
+        match theirs {
+            Theirs::Says(_) => &[],
+            Theirs::Listed(_, said) => self.rows(function, Ok(number(said)), number(ours)),
+            Theirs::Silent(reason) => self.rows(function, Err(reason), number(ours)),
+        }
     }
 }
 
+/// The calls of `hp_read` that rows list with a text alone, and their texts.
+#[cfg(test)]
+pub fn texts_read() -> Vec<(&'static str, Vec<u8>)> {
+    let listed = rows().into_iter().filter(|row| row.why.is_some());
+    let calls = listed.filter_map(|row| Some((row.asked, Asked::of(row.asked)?)));
+    let alone = calls.filter(|(_, call)| call.function == Function::Read && call.room == ROOM);
+    alone.map(|(asked, call)| (asked, call.texts[0].clone())).collect()
+}
+
 fn ask(set: &mut Set, _: Size) {
-    for Row { asked, rust, here } in rows() {
+    for Row { asked, rust, here, .. } in rows() {
         set.count();
         let Some(call) = Asked::of(asked) else {
             set.differ(|| format!("{asked}: no call"));

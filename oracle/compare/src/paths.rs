@@ -1,20 +1,19 @@
 //! Reading: `hp_read` and `hp_key` against `Path::from_str` and `Path`'s `Display`.
-use ibc_core_host_types::path::Path;
-use ibc_core_host_types::terms::{self, Parts};
-use model::path::{self, Reading, KINDS};
+use model::path::{self, KINDS};
 use model::pool::{self, Pools};
 use model::random::Random;
 use model::table;
 
 use crate::call::{Call, Function};
-use crate::original::reads;
 use crate::set::{Bytes, Set, Text, Theirs};
+use crate::told::{self, read_call};
 use crate::{Sets, Size};
 
 pub const SETS: Sets = &[
     ("paths of document 01", table),
     ("texts of up to three bytes", short),
     ("lists of components", lists),
+    ("longer lists of components", longer),
     ("lists of packet components", packets),
     ("texts at each place", places),
     ("numbers in paths", numbers),
@@ -24,33 +23,6 @@ pub const SETS: Sets = &[
     ("bytes of 128 and more", high),
     ("rooms for a reading", rooms),
 ];
-
-/// A reading with its identifiers as texts, as each voice can tell it.
-#[derive(Debug, PartialEq)]
-struct Told {
-    kind: u8,
-    exact: bool,
-    first: Bytes,
-    second: Bytes,
-    numbers: [u64; 2],
-    key: Bytes,
-}
-
-fn told_by_original(path: &Path, key: &str, text: &[u8]) -> Told {
-    let Parts { kind, first, second, numbers } = terms::parts(path);
-    let [first, second, key] = [first, second, key].map(|text| Bytes(text.into()));
-    Told { kind, exact: key.0 == text, first, second, numbers, key }
-}
-
-fn told_by_model(reading: &Reading, key: &Bytes, text: &[u8]) -> Told {
-    let Reading { kind, exact, numbers, .. } = *reading;
-    let [first, second] = [reading.first, reading.second].map(|place| Bytes(place.of(text).into()));
-    Told { kind, exact, first, second, numbers, key: key.clone() }
-}
-
-fn read_call(text: &[u8]) -> Call<'_> {
-    Call::new(Function::Read, [text, b""], [0, 0])
-}
 
 fn key_call(text: &[u8]) -> Call<'_> {
     Call::new(Function::Key, [text, b""], [0, 0])
@@ -64,12 +36,8 @@ fn ask(set: &mut Set, text: &[u8]) {
     set.count();
     set.lend_around(read_call(text), &bytes);
     set.lend_around(key_call(text), &key);
-    let theirs = reads(text, |path, key| told_by_original(path, key, text));
-    set.agree(
-        theirs,
-        &model.map(|(reading, key)| told_by_model(&reading, &key, text)),
-        read_call(text),
-    );
+    let told = model.map(|(reading, key)| told::by_reading(&reading, &key.0, text));
+    set.agree(told::by_original(text), &told, read_call(text));
 }
 
 /// Document 01's rows, held to the outcomes that it writes.
@@ -82,8 +50,7 @@ fn table(set: &mut Set, _: Size) {
 }
 
 fn short(set: &mut Set, _: Size) {
-    let bytes: Vec<[u8; 1]> = (0..128).map(|byte| [byte]).collect();
-    pool::texts(&bytes, "", 3, |text| ask(set, text));
+    pool::texts(&pool::ascii(), "", 3, |text| ask(set, text));
 }
 
 /// What may stand between slashes; those that read on come first.
@@ -99,10 +66,15 @@ fn lists(set: &mut Set, size: Size) {
     pool::texts(&COMPONENTS[..size.pick(12, 27)], "/", 5, |text| ask(set, text));
 }
 
+fn longer(set: &mut Set, size: Size) {
+    pool::texts(&COMPONENTS[..size.pick(6, 22)], "/", 6, |text| ask(set, text));
+}
+
 /// Lists as long as the longest kinds, and in the full set one longer.
 fn packets(set: &mut Set, size: Size) {
-    let pieces = ["commitments", "ports", "channels", "channel-7", "sequences", "+5", "transfer"];
-    pool::texts(&pieces[..size.pick(6, 7)], "/", size.pick(7, 8), |text| ask(set, text));
+    let pieces =
+        ["commitments", "ports", "channels", "channel-7", "sequences", "+5", "transfer", "acks"];
+    pool::texts(&pieces[..size.pick(6, 8)], "/", size.pick(7, 8), |text| ask(set, text));
 }
 
 /// Every pool text at every place of every kind, and once more with a slash too many.
@@ -142,13 +114,13 @@ fn at_each_number(set: &mut Set, number: &str) {
 }
 
 fn numbers(set: &mut Set, size: Size) {
-    pool::texts(&pool::LETTERS, "", size.pick(5, 6), |number| {
+    pool::texts(&pool::LETTERS, "", size.pick(5, 8), |number| {
         at_each_number(set, std::str::from_utf8(number).unwrap());
     });
 }
 
 fn limit(set: &mut Set, size: Size) {
-    for value in pool::around_powers(size.pick(50, 2_000)) {
+    for value in pool::around_powers(size.pick(50, 10_000)) {
         for sign in ["", "+", "0", "+0000"] {
             at_each_number(set, &format!("{sign}{value}"));
         }
@@ -158,7 +130,7 @@ fn limit(set: &mut Set, size: Size) {
 fn damaged(set: &mut Set, size: Size) {
     let mut random = Random(1);
     let pools = Pools::default();
-    for _ in 0..size.pick(300_000, 6_000_000) {
+    for _ in 0..size.pick(300_000, 30_000_000) {
         ask(set, &pools.path(&mut random));
     }
 }

@@ -89,7 +89,7 @@ fn chance(set: &mut Set, size: Size) {
         random.damage(&mut text, times);
         text
     };
-    for _ in 0..size.pick(200_000, 3_000_000) {
+    for _ in 0..size.pick(200_000, 15_000_000) {
         let (first, second) = (part(&mut random), part(&mut random));
         let numbers = [0, 0].map(|_| random.word() >> random.below(64));
         ask(set, 1 + random.below(19) as u8, &first, &second, numbers);
@@ -139,7 +139,7 @@ fn pairs(chances: usize) -> Vec<(u64, u64)> {
 
 /// The keys; that they compare as their pairs do is a test of the model.
 fn iteration(set: &mut Set, size: Size) {
-    for (number, height) in pairs(size.pick(1_000, 100_000)) {
+    for (number, height) in pairs(size.pick(1_000, 1_000_000)) {
         let call = Call::new(Function::IterationKey, [b"", b""], [number, height]);
         text(set, call, Ok(path::iteration_key(number, height)));
     }
@@ -169,7 +169,7 @@ fn leaves(set: &mut Set, size: Size) {
         (Function::UpdateHeightLeaf, "/processedHeight"),
     ];
     for (function, after) in rows {
-        for (a, b) in pairs(size.pick(1_000, 100_000)) {
+        for (a, b) in pairs(size.pick(1_000, 1_000_000)) {
             let call = Call::new(function, [b"", b""], [a, b]);
             text(set, call, Ok(path::consensus_state_leaf(a, b, after)));
         }
@@ -184,7 +184,7 @@ fn parents(set: &mut Set, size: Size) {
     for client in &parts {
         consensus_state_parent(set, client);
     }
-    let step = size.pick(97, 7);
+    let step = size.pick(97, 1);
     for (turn, port) in parts.iter().enumerate() {
         for channel in
             good().into_iter().chain(parts.iter().skip(turn % step).step_by(step).copied())

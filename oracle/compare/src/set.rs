@@ -74,6 +74,10 @@ impl<'a> Set<'a> {
         self.differences == 0
     }
 
+    pub fn checks(&self) -> u64 {
+        self.checks
+    }
+
     /// The first differences.
     pub fn shown(&self) -> &[String] {
         &self.shown
@@ -124,7 +128,9 @@ impl<'a> Set<'a> {
             let (refusal, text) = match model {
                 Ok(text) if text.0.len() <= room => (0, text.0.as_slice()),
                 Ok(_) => {
-                    self.on_page(call, 0, NO_ROOM);
+                    if self.page.rows(call.function, Ok(0), NO_ROOM).is_empty() {
+                        self.differ(|| format!("{call}: no row lists {NO_ROOM} of it"));
+                    }
                     (NO_ROOM, &[][..])
                 }
                 Err(refusal) => (*refusal, &[][..]),
@@ -159,23 +165,15 @@ impl<'a> Set<'a> {
         model: &Result<T, u8>,
         call: Call,
     ) {
-        let refusal = |answer: &Result<T, u8>| answer.as_ref().err().copied().unwrap_or(0);
-        match theirs {
-            Theirs::Says(said) if said != *model => {
-                self.differ(|| format!("{call}: Rust {said:?}, document 01 {model:?}"));
-            }
-            Theirs::Listed(reason, said) if said != *model => {
-                self.listed[reason as usize] += 1;
-                self.on_page(call, refusal(&said), refusal(model));
-            }
-            _ => {}
+        let said = match &theirs {
+            Theirs::Says(said) | Theirs::Listed(_, said) if said != model => said,
+            _ => return,
+        };
+        if let Theirs::Listed(reason, _) = theirs {
+            self.listed[reason as usize] += 1;
         }
-    }
-
-    /// A difference of these answers, 0 for done, has a row in docs/DIFFERENCES.md.
-    fn on_page(&mut self, call: Call, theirs: u8, ours: u8) {
-        if !self.page.lists(call.function, theirs, ours) {
-            self.differ(|| format!("{call}: Rust {theirs}, here {ours}, and no row lists it"));
+        if self.page.covering(call.function, &theirs, model).is_empty() {
+            self.differ(|| format!("{call}: Rust {said:?}, here {model:?}, and no row lists it"));
         }
     }
 

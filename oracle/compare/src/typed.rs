@@ -66,7 +66,7 @@ fn typed(set: &mut Set, size: Size) {
         }
     }
     let (mut random, pools) = (Random(11), Pools::default());
-    for _ in 0..size.pick(100_000, 3_000_000) {
+    for _ in 0..size.pick(100_000, 9_000_000) {
         ask(set, &pools.path(&mut random));
     }
 }

@@ -147,6 +147,11 @@ impl Pools {
     }
 }
 
+/// Every byte of ASCII, as a piece.
+pub fn ascii() -> Vec<[u8; 1]> {
+    (0..128).map(|byte| [byte]).collect()
+}
+
 /// Hands over every text of up to `most` pieces, with the joint between them.
 pub fn texts<T: AsRef<[u8]>>(pieces: &[T], joint: &str, most: usize, mut each: impl FnMut(&[u8])) {
     each(b"");

@@ -15,6 +15,7 @@ type Library = fn(&[u8]) -> u8;
 /// A check's name, its two sides, texts that it accepts and texts that it refuses.
 type Row = (&'static str, Original, Library, Vec<String>, Vec<String>);
 
+/// The four general checks, then the five of whole identifiers.
 fn rows() -> Vec<Row> {
     let texts = |texts: &[&str]| texts.iter().map(|text| text.to_string()).collect::<Vec<_>>();
     let with = |all: &[&str], long: String| [texts(all), vec![long]].concat();
@@ -150,11 +151,18 @@ fn channel_id_new() -> Family {
 }
 
 pub fn families() -> Vec<Family> {
-    let mut all = vec![];
+    let (mut taken, mut denied) = (vec![], vec![]);
     for (name, original, library, accepted, refused) in rows() {
-        all.push(check(format!("{name}, accepted"), original, library, accepted, true));
-        all.push(check(format!("{name}, refused"), original, library, refused, false));
+        taken.push(check(format!("{name}, accepted"), original, library, accepted, true));
+        denied.push(check(format!("{name}, refused"), original, library, refused, false));
     }
-    all.extend([client_id_new(), channel_id_new()]);
-    all
+    let made = [client_id_new(), channel_id_new()];
+    let (general, whole) = taken.split_at(4);
+    let sums = [
+        Family::together("identifier checks, accepted, together", whole),
+        Family::together("general checks, accepted, together", general),
+        Family::together("checks, refused, together", &denied),
+        Family::together("identifiers from a counter, together", &made),
+    ];
+    taken.into_iter().chain(denied).chain(made).chain(sums).collect()
 }
