@@ -11,41 +11,20 @@ use borrow.Author.Needs.{needs}
 use Rattle.ask.proofs.answer_line.Statement.{statement}
 use Rattle.ask.proofs.answer_line.Tie as tie
 
-read-path-requires : tie.Need-read-path-requires
-read-path-requires c κs = search needs
-
-enum-known-reading : tie.Need-enum-known-reading
-enum-known-reading c = search needs
-
-enum-told : tie.Need-enum-told
-enum-told c = search needs
-
-refusal-of-requires : tie.Need-refusal-of-requires
-refusal-of-requires c κs = search needs
-
 write-refusal-requires : tie.Need-write-refusal-requires
 write-refusal-requires c κs = let e = answer-refused (c .before .before .before .before .before .before .before .args .line .now) _ (c .before .before .before .before .read-path .ensures) _ (c .before .before .enum-told .given .1) ∙ ap (λ k. decimal k ++ 10 ∷ []) (sym (c .refusal-of .ensures)) in
     omega (arith, ap length e)
-
-same-length : tie.Need-same-length
-same-length c = search needs
 
 returns : tie.Need-returns
 returns c = let e = answer-refused (c .before .before .before .before .before .before .before .before .before .before .args .line .now) _ (c .before .before .before .before .before .before .before .read-path .ensures) _ (c .before .before .before .before .before .enum-told .given .1) ∙ ap (λ k. decimal k ++ 10 ∷ []) (sym (c .before .before .before .refusal-of .ensures)) in
     let s = c .before .before .write-refusal in
     (s .ensures .0 ∙ ap (λ l. c .before .before .before .before .before .before .before .before .before .before .args .at + length l) (sym e), s .ensures .1 ∙ ap (put (c .before .before .before .before .before .before .before .before .before .before .args .out .now) (c .before .before .before .before .before .before .before .before .before .before .args .at)) (sym e))
 
-view-requires : tie.Need-view-requires
-view-requires c κs = search needs
-
 write-view-requires : tie.Need-write-view-requires
 write-view-requires c κs = let r = c .before .before .before .before .before .read-path in
     let v = c .view in
     let e = answer-view (c .before .before .before .before .before .before .before .before .args .line .now) (r .result) (r .ensures) _ _ (c .before .before .before .reading .given .1) (v .result) (v .ensures) in
     (view-kind (c .before .before .before .before .before .before .before .before .args .line .now) (r .result) _ _ (c .before .before .before .reading .given .1) (r .ensures) (v .result) (v .ensures), omega (arith, ap length e))
-
-same-length-2 : tie.Need-same-length-2
-same-length-2 c = search needs
 
 returns-2 : tie.Need-returns-2
 returns-2 c = let r = c .before .before .before .before .before .before .before .before .read-path in
@@ -58,14 +37,14 @@ pub answer-line-spec : {M : Type 1} → statement M
 answer-line-spec =
     tie.close
     (tie.spec
-    read-path-requires
-    enum-known-reading
-    enum-told
-    refusal-of-requires
+    (λ c κs. search needs)
+    (λ c. search needs)
+    (λ c. search needs)
+    (λ c κs. search needs)
     write-refusal-requires
-    same-length
+    (λ c. search needs)
     returns
-    view-requires
+    (λ c κs. search needs)
     write-view-requires
-    same-length-2
+    (λ c. search needs)
     returns-2)

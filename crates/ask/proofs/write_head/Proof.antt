@@ -9,9 +9,6 @@ use borrow.Author.Needs.{needs}
 use Rattle.ask.proofs.write_head.Statement.{statement}
 use Rattle.ask.proofs.write_head.Tie as tie
 
-slice-aggregate-write-text : tie.Need-slice-aggregate-write-text
-slice-aggregate-write-text c = search needs
-
 write-text-requires : tie.Need-write-text-requires
 write-text-requires c κs = let x = c .before .before .before .args in omega (arith, head-length (x .kind) (x .exact))
 
@@ -20,9 +17,6 @@ write-number-requires c κs = let x = c .before .before .before .before .before 
 
 write-mark-requires : tie.Need-write-mark-requires
 write-mark-requires c κs = let x = c .before .before .before .before .before .before .before .before .before .before .before .args in omega (arith, head-length (x .kind) (x .exact), c .before .before .before .before .before .before .before .write-text .ensures .0, c .before .before .before .write-number .ensures .0)
-
-same-length : tie.Need-same-length
-same-length c = search needs
 
 returns : tie.Need-returns
 returns c = let x = c .before .before .before .before .before .before .before .before .before .before .before .before .before .before .args in
@@ -37,9 +31,9 @@ pub write-head-spec : {M : Type 1} → statement M
 write-head-spec =
     tie.close
     (tie.spec
-    slice-aggregate-write-text
+    (λ c. search needs)
     write-text-requires
     write-number-requires
     write-mark-requires
-    same-length
+    (λ c. search needs)
     returns)

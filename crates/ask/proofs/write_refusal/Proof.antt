@@ -13,9 +13,6 @@ write-number-requires c κs = let x = c .before .before .args in omega (arith, l
 write-byte-requires : tie.Need-write-byte-requires
 write-byte-requires c κs = let x = c .before .before .before .before .before .before .args in omega (arith, length-append (decimal (x .n)) (10 ∷ []), c .before .before .before .write-number .ensures .0)
 
-same-length : tie.Need-same-length
-same-length c = search needs
-
 returns : tie.Need-returns
 returns c = let x = c .before .before .before .before .before .before .before .before .before .args in
     let s1 = c .before .before .before .before .before .before .write-number in
@@ -25,4 +22,4 @@ returns c = let x = c .before .before .before .before .before .before .before .b
 
 pub write-refusal-spec : {M : Type 1} → statement M
 write-refusal-spec =
-    tie.close (tie.spec write-number-requires write-byte-requires same-length returns)
+    tie.close (tie.spec write-number-requires write-byte-requires (λ c. search needs) returns)

@@ -17,9 +17,6 @@ write-rendering-requires c κs = (c .before .before .before .before .before .bef
 write-byte-requires : tie.Need-write-byte-requires
 write-byte-requires c κs = omega (arith, c .before .before .before .before .before .before .before .before .before .before .before .pre .1, view-length (c .before .before .before .before .before .before .before .before .before .before .before .args .line .now) (c .before .before .before .before .before .before .before .before .before .before .before .args .v) (c .before .before .before .before .before .before .before .before .before .before .before .args .exact), c .before .before .before .before .before .before .before .write-head .ensures .0, c .before .before .before .write-rendering .ensures .0)
 
-same-length : tie.Need-same-length
-same-length c = search needs
-
 returns : tie.Need-returns
 returns c = let x = c .before .before .before .before .before .before .before .before .before .before .before .before .before .before .args in
     let s1 = c .before .before .before .before .before .before .before .before .before .before .write-head in
@@ -32,4 +29,4 @@ returns c = let x = c .before .before .before .before .before .before .before .b
 pub write-view-spec : {M : Type 1} → statement M
 write-view-spec =
     tie.close
-    (tie.spec write-head-requires write-rendering-requires write-byte-requires same-length returns)
+    (tie.spec write-head-requires write-rendering-requires write-byte-requires (λ c. search needs) returns)

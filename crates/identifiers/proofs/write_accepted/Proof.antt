@@ -10,12 +10,6 @@ returns : tie.Need-returns
 unfolding answer left
 returns c = let e = ne-eqb _ 0 (c .if1 .taken) in (rw e, rw e)
 
-give-requires : tie.Need-give-requires
-give-requires c κs = search needs
-
-same-length : tie.Need-same-length
-same-length c = search needs
-
 returns-2 : tie.Need-returns-2
 returns-2 c =
     let e = eq-eqb _ 0 (c .before .before .before .before .if1 .left) in
@@ -23,4 +17,4 @@ returns-2 c =
     (rw e (w .0), rw e (w .1))
 
 pub write-accepted-spec : {M : Type 1} → statement M
-write-accepted-spec = tie.close (tie.spec returns give-requires same-length returns-2)
+write-accepted-spec = tie.close (tie.spec returns (λ c κs. search needs) (λ c. search needs) returns-2)

@@ -11,17 +11,11 @@ use Rattle.identifiers.specs.OwnedLaws.{length-named}
 use Rattle.identifiers.proofs.write_named.Statement.{statement}
 use Rattle.identifiers.proofs.write_named.Tie as tie
 
-number-width-requires : tie.Need-number-width-requires
-number-width-requires c κs = search needs
-
 returns : tie.Need-returns
 returns c =
     let a = c .before .before .before .before .args in
     let e = length-named (a .name .now) (a .counter) in
     (sym (answer-short _ _ (omega arith)), sym (left-short _ _ (omega arith)))
-
-sub-if2 : tie.Need-sub-if2
-sub-if2 c = search needs
 
 returns-2 : tie.Need-returns-2
 returns-2 c =
@@ -29,17 +23,8 @@ returns-2 c =
     let e = length-named (a .name .now) (a .counter) in
     (sym (answer-short _ _ (omega arith)), sym (left-short _ _ (omega arith)))
 
-write-text-requires : tie.Need-write-text-requires
-write-text-requires c κs = search needs
-
-write-byte-requires : tie.Need-write-byte-requires
-write-byte-requires c κs = search needs
-
 write-number-requires : tie.Need-write-number-requires
 write-number-requires c κs = omega (arith, length-decimal (c .before .before .before .before .before .before .before .before .before .before .before .before .before .before .args .counter))
-
-same-length : tie.Need-same-length
-same-length c = search needs
 
 returns-3 : tie.Need-returns-3
 returns-3 c =
@@ -61,12 +46,12 @@ pub write-named-spec : {M : Type 1} → statement M
 write-named-spec =
     tie.close
     (tie.spec
-    number-width-requires
+    (λ c κs. search needs)
     returns
-    sub-if2
+    (λ c. search needs)
     returns-2
-    write-text-requires
-    write-byte-requires
+    (λ c κs. search needs)
+    (λ c κs. search needs)
     write-number-requires
-    same-length
+    (λ c. search needs)
     returns-3)

@@ -7,9 +7,6 @@ use borrow.Author.Needs.{needs}
 use Rattle.reader.proofs.fault.Statement.{statement}
 use Rattle.reader.proofs.fault.Tie as tie
 
-all-ascii-requires : tie.Need-all-ascii-requires
-all-ascii-requires c κs = search needs
-
 returns : tie.Need-returns
 returns c = let h : ascii (c .before .before .before .args .text .now) ≡ true = sym (c .before .all-ascii .ensures) ∙ c .if1 .taken in rw h
 
@@ -17,4 +14,4 @@ returns-2 : tie.Need-returns-2
 returns-2 c = let h : ascii (c .before .before .before .args .text .now) ≡ false = sym (c .before .all-ascii .ensures) ∙ c .if1 .left in rw h
 
 pub fault-spec : {M : Type 1} → statement M
-fault-spec = tie.close (tie.spec all-ascii-requires returns returns-2)
+fault-spec = tie.close (tie.spec (λ c κs. search needs) returns returns-2)

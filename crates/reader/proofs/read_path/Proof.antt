@@ -13,23 +13,8 @@ returns : tie.Need-returns
 unfolding readPath
 returns c = rw (lt-ltb _ _ (c .if1 .taken))
 
-parse-path-requires : tie.Need-parse-path-requires
-parse-path-requires c κs = search needs
-
-enum-known-path : tie.Need-enum-known-path
-enum-known-path c = search needs
-
-enum-told : tie.Need-enum-told
-enum-told c = search needs
-
-fault-requires : tie.Need-fault-requires
-fault-requires c κs = search needs
-
 returns-2 : tie.Need-returns-2
 returns-2 c = ap Refused (c .fault .ensures) ∙ no-path _ (c .before .before .before .before .if1 .left) (sym (c .before .enum-told .given .1) ∙ c .before .before .before .parse-path .ensures)
-
-view-requires : tie.Need-view-requires
-view-requires c κs = search needs
 
 render-length-requires : tie.Need-render-length-requires
 render-length-requires c κs = found-measured _ _ (sym (c .before .before .path .given .1) ∙ c .before .before .before .before .parse-path .ensures) (c .before .before .before .before .before .if1 .left) _ (c .view .ensures)
@@ -42,11 +27,11 @@ read-path-spec =
     tie.close
     (tie.spec
     returns
-    parse-path-requires
-    enum-known-path
-    enum-told
-    fault-requires
+    (λ c κs. search needs)
+    (λ c. search needs)
+    (λ c. search needs)
+    (λ c κs. search needs)
     returns-2
-    view-requires
+    (λ c κs. search needs)
     render-length-requires
     returns-3)

@@ -7,23 +7,8 @@ use borrow.Author.Needs.{needs}
 use Rattle.reader.proofs.second_identifier.Statement.{statement}
 use Rattle.reader.proofs.second_identifier.Tie as tie
 
-enum-known-reading : tie.Need-enum-known-reading
-enum-known-reading c = search needs
-
-enum-told : tie.Need-enum-told
-enum-told c = search needs
-
-part-requires : tie.Need-part-requires
-part-requires c κs = search needs
-
 returns : tie.Need-returns
 returns c = shows-at _ _ _ _ (sym (ap secondPlace (c .before .enum-told .given .1))) (c .part .ensures)
-
-view-requires : tie.Need-view-requires
-view-requires c κs = search needs
-
-part-requires-2 : tie.Need-part-requires-2
-part-requires-2 c κs = search needs
 
 returns-2 : tie.Need-returns-2
 returns-2 c = shows-at _ _ _ _ (view-second _ _ (c .before .before .view .ensures) ∙ sym (ap secondPlace (c .before .before .before .before .reading .given .1))) (c .part2 .ensures)
@@ -32,10 +17,10 @@ pub second-identifier-spec : {M : Type 1} → statement M
 second-identifier-spec =
     tie.close
     (tie.spec
-    enum-known-reading
-    enum-told
-    part-requires
+    (λ c. search needs)
+    (λ c. search needs)
+    (λ c κs. search needs)
     returns
-    view-requires
-    part-requires-2
+    (λ c κs. search needs)
+    (λ c κs. search needs)
     returns-2)

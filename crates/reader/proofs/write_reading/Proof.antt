@@ -8,27 +8,6 @@ use borrow.Author.Needs.{needs}
 use Rattle.reader.proofs.write_reading.Statement.{statement}
 use Rattle.reader.proofs.write_reading.Tie as tie
 
-read-path-requires : tie.Need-read-path-requires
-read-path-requires c κs = search needs
-
-enum-known-path : tie.Need-enum-known-path
-enum-known-path c = search needs
-
-view-requires : tie.Need-view-requires
-view-requires c κs = search needs
-
-write-view-requires : tie.Need-write-view-requires
-write-view-requires c κs = search needs
-
-enum-known-why : tie.Need-enum-known-why
-enum-known-why c = search needs
-
-refusal-number-requires : tie.Need-refusal-number-requires
-refusal-number-requires c κs = search needs
-
-same-length : tie.Need-same-length
-same-length c = search needs
-
 returns : tie.Need-returns
 returns c =
     let out = c .before .before .before .before .before .before .before .before .before .before .before .args .out .now in
@@ -46,12 +25,12 @@ pub write-reading-spec : {M : Type 1} → statement M
 write-reading-spec =
     tie.close
     (tie.spec
-    read-path-requires
-    enum-known-path
-    view-requires
-    write-view-requires
-    enum-known-why
-    refusal-number-requires
-    same-length
+    (λ c κs. search needs)
+    (λ c. search needs)
+    (λ c κs. search needs)
+    (λ c κs. search needs)
+    (λ c. search needs)
+    (λ c κs. search needs)
+    (λ c. search needs)
     returns
     returns-2)

@@ -16,14 +16,8 @@ Inv-loop n w₀ m₀ w m = w + width m ≡ width n + 1
 abbrev μ-loop : tie.MeasureT-loop
 μ-loop n w₀ m₀ w m = m
 
-loop-holds : tie.Need-loop-holds Inv-loop μ-loop
-loop-holds c = search needs
-
 add-w : tie.Need-add-w Inv-loop μ-loop
 add-w c = omega (arith, width-u64 (c .before .before .args .n) (omega arith), width-pos (c .before .loop .m))
-
-loop-less : tie.Need-loop-less Inv-loop μ-loop
-loop-less c = search needs
 
 loop-again : tie.Need-loop-again Inv-loop μ-loop
 loop-again c = omega (arith, width-more (c .before .loop .m) (omega arith))
@@ -33,4 +27,4 @@ returns c = omega (arith, width-small (c .before .loop .m) (omega arith))
 
 pub number-width-spec : {M : Type 1} → statement M
 number-width-spec =
-    tie.close (tie.spec Inv-loop μ-loop loop-holds add-w loop-less loop-again returns)
+    tie.close (tie.spec Inv-loop μ-loop (λ c. search needs) add-w (λ c. search needs) loop-again returns)

@@ -22,39 +22,12 @@ Inv-loop out₀ at n w j₀ m₀ out j m =
 abbrev μ-loop : tie.MeasureT-loop
 μ-loop out₀ at n w j₀ m₀ out j m = j
 
-number-width-requires : tie.Need-number-width-requires Inv-loop μ-loop
-number-width-requires c κs = search needs
-
 loop-holds : tie.Need-loop-holds Inv-loop μ-loop
 loop-holds c = let fits = length-decimal (c .before .before .args .n) in (search needs, refl)
-
-sub-j : tie.Need-sub-j Inv-loop μ-loop
-sub-j c = search needs
-
-cast-out : tie.Need-cast-out Inv-loop μ-loop
-cast-out c = search needs
-
-add-out : tie.Need-add-out Inv-loop μ-loop
-add-out c = search needs
-
-add-out-2 : tie.Need-add-out-2 Inv-loop μ-loop
-add-out-2 c = search needs
-
-slice-write-out : tie.Need-slice-write-out Inv-loop μ-loop
-slice-write-out c = search needs
-
-loop-less : tie.Need-loop-less Inv-loop μ-loop
-loop-less c = search needs
 
 loop-again : tie.Need-loop-again Inv-loop μ-loop
 loop-again c =
     let l = c .before .loop in (search needs, l .inv .1 ∙ steps.put-last digits (λ m. 48 + m % 10) (λ m. m / 10) steps.digits-nil steps.digits-snoc (l .out) (c .before .before .before .before .args .at) (l .j) (l .m) (l .j - 1) (omega arith) (omega arith))
-
-add-result : tie.Need-add-result Inv-loop μ-loop
-add-result c = search needs
-
-same-length : tie.Need-same-length Inv-loop μ-loop
-same-length c = search needs
 
 returns : tie.Need-returns Inv-loop μ-loop
 unfolding decimal put
@@ -71,15 +44,15 @@ write-number-spec =
     (tie.spec
     Inv-loop
     μ-loop
-    number-width-requires
+    (λ c κs. search needs)
     loop-holds
-    sub-j
-    cast-out
-    add-out
-    add-out-2
-    slice-write-out
-    loop-less
+    (λ c. search needs)
+    (λ c. search needs)
+    (λ c. search needs)
+    (λ c. search needs)
+    (λ c. search needs)
+    (λ c. search needs)
     loop-again
-    add-result
-    same-length
+    (λ c. search needs)
+    (λ c. search needs)
     returns)

@@ -5,29 +5,11 @@ use borrow.Author.Needs.{needs}
 use Rattle.ask.proofs.input.answer_byte.Statement.{statement}
 use Rattle.ask.proofs.input.answer_byte.Tie as tie
 
-shared-slice-read-if1 : tie.Need-shared-slice-read-if1
-shared-slice-read-if1 c = search needs
-
 returns : tie.Need-returns
 returns c = let x = c .before .before .before .before .args in taken-inside (x .input .now) (x .out .now) (x .start) (x .i) (x .used) (c .before .before .before .before .pre .0) (c .before .before .before .before .pre .1) (ne-eqb _ _ (c .if1 .taken))
 
-sub-answer-line : tie.Need-sub-answer-line
-sub-answer-line c = search needs
-
-part-answer-line-start : tie.Need-part-answer-line-start
-part-answer-line-start c = search needs
-
-part-answer-line-end : tie.Need-part-answer-line-end
-part-answer-line-end c = search needs
-
 answer-line-requires : tie.Need-answer-line-requires
 answer-line-requires c κs = let x = c .before .before .before .before .before .before .args in omega (arith, answer-fits (x .input .now) (x .out .now) (x .start) (x .i) (x .used) (c .before .before .before .before .before .before .pre .0) (c .before .before .before .before .before .before .pre .1))
-
-add-t13 : tie.Need-add-t13
-add-t13 c = search needs
-
-same-length : tie.Need-same-length
-same-length c = search needs
 
 returns-2 : tie.Need-returns-2
 returns-2 c = let x = c .before .before .before .before .before .before .before .before .before .args in
@@ -38,12 +20,12 @@ pub answer-byte-spec : {M : Type 1} → statement M
 answer-byte-spec =
     tie.close
     (tie.spec
-    shared-slice-read-if1
+    (λ c. search needs)
     returns
-    sub-answer-line
-    part-answer-line-start
-    part-answer-line-end
+    (λ c. search needs)
+    (λ c. search needs)
+    (λ c. search needs)
     answer-line-requires
-    add-t13
-    same-length
+    (λ c. search needs)
+    (λ c. search needs)
     returns-2)

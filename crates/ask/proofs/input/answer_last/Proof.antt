@@ -11,13 +11,10 @@ returns c = let x = c .before .before .before .args in last-none (x .line .now) 
 answer-line-requires : tie.Need-answer-line-requires
 answer-line-requires c κs = omega (arith, answer-length (c .before .before .before .before .args .line .now))
 
-same-length : tie.Need-same-length
-same-length c = search needs
-
 returns-2 : tie.Need-returns-2
 returns-2 c = let x = c .before .before .before .before .before .before .before .args in
     let s = c .before .before .answer-line in
     last-some (x .line .now) (x .out .now) (c .before .before .before .before .if1 .left) (c .before .before .before .before .before .before .before .pre) (s .result) (s .last .0) (s .ensures .0) (s .ensures .1)
 
 pub answer-last-spec : {M : Type 1} → statement M
-answer-last-spec = tie.close (tie.spec returns answer-line-requires same-length returns-2)
+answer-last-spec = tie.close (tie.spec returns answer-line-requires (λ c. search needs) returns-2)

@@ -16,30 +16,12 @@ abbrev μ-loop : tie.MeasureT-loop
 loop-holds : tie.Need-loop-holds Inv-loop μ-loop
 loop-holds c = let x = c .before .before .args in (omega arith, omega arith, omega arith, omega arith, refl, before-first (x .input .now) (x .out .now) (x .from))
 
-answer-byte-requires : tie.Need-answer-byte-requires Inv-loop μ-loop
-answer-byte-requires c κs = search needs
-
-add-i : tie.Need-add-i Inv-loop μ-loop
-add-i c = search needs
-
-loop-less : tie.Need-loop-less Inv-loop μ-loop
-loop-less c = search needs
-
 loop-again : tie.Need-loop-again Inv-loop μ-loop
 loop-again c = let x = c .before .before .before .before .before .before .before .before .before .args in
     let l = c .before .before .before .before .before .before .loop in
     let s = c .before .before .answer-byte in
     let n = before-next (x .input .now) (x .out .now) (l .out) (x .from) (l .i) (l .spot .start) (l .spot .used) (omega arith) (omega (arith, c .before .before .before .before .before .before .before .before .before .pre)) (l .inv .5) (s .result .start) (s .result .used) (s .last .1 .1 .1 .0) (s .ensures .1 .0) (s .ensures .1 .1) in
     (omega arith, omega arith, s .ensures .0 .0, s .ensures .0 .1, search needs, n)
-
-keep-requires : tie.Need-keep-requires Inv-loop μ-loop
-keep-requires c κs = search needs
-
-same-length : tie.Need-same-length Inv-loop μ-loop
-same-length c = search needs
-
-same-length-2 : tie.Need-same-length-2 Inv-loop μ-loop
-same-length-2 c = search needs
 
 returns : tie.Need-returns Inv-loop μ-loop
 returns c = let x = c .before .before .before .before .before .before .before .before .args in
@@ -54,11 +36,11 @@ answer-lines-spec =
     Inv-loop
     μ-loop
     loop-holds
-    answer-byte-requires
-    add-i
-    loop-less
+    (λ c κs. search needs)
+    (λ c. search needs)
+    (λ c. search needs)
     loop-again
-    keep-requires
-    same-length
-    same-length-2
+    (λ c κs. search needs)
+    (λ c. search needs)
+    (λ c. search needs)
     returns)

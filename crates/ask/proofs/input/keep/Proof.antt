@@ -15,37 +15,13 @@ Inv-loop input₀ start end n i₀ input i = (i ≤ n) × (length input ≡ leng
 abbrev μ-loop : tie.MeasureT-loop
 μ-loop input₀ start end n i₀ input i = n - i
 
-sub-least : tie.Need-sub-least Inv-loop μ-loop
-sub-least c = search needs
-
-least-requires : tie.Need-least-requires Inv-loop μ-loop
-least-requires c κs = search needs
-
 loop-holds : tie.Need-loop-holds Inv-loop μ-loop
 loop-holds c = (omega arith, refl, sym (put-nil (c .before .before .args .input .now) 0))
-
-add-input : tie.Need-add-input Inv-loop μ-loop
-add-input c = search needs
-
-slice-read-input : tie.Need-slice-read-input Inv-loop μ-loop
-slice-read-input c = search needs
-
-slice-write-input : tie.Need-slice-write-input Inv-loop μ-loop
-slice-write-input c = search needs
-
-add-i : tie.Need-add-i Inv-loop μ-loop
-add-i c = search needs
-
-loop-less : tie.Need-loop-less Inv-loop μ-loop
-loop-less c = search needs
 
 loop-again : tie.Need-loop-again Inv-loop μ-loop
 loop-again c = let x = c .before .before .before .before .before .args in
     let l = c .before .before .loop in
     (search needs, search needs, move-more (x .input .now) (l .input) (x .start) (l .i) (omega (arith, c .before .before .before .least .ensures)) (l .inv .2))
-
-same-length : tie.Need-same-length Inv-loop μ-loop
-same-length c = search needs
 
 returns : tie.Need-returns Inv-loop μ-loop
 returns c = let x = c .before .before .before .before .args in
@@ -58,14 +34,14 @@ keep-spec =
     (tie.spec
     Inv-loop
     μ-loop
-    sub-least
-    least-requires
+    (λ c. search needs)
+    (λ c κs. search needs)
     loop-holds
-    add-input
-    slice-read-input
-    slice-write-input
-    add-i
-    loop-less
+    (λ c. search needs)
+    (λ c. search needs)
+    (λ c. search needs)
+    (λ c. search needs)
+    (λ c. search needs)
     loop-again
-    same-length
+    (λ c. search needs)
     returns)

@@ -25,17 +25,8 @@ no-value (NoDigits i) h = refl
 no-value (NotADigit i) h = refl
 no-value (TooLarge i) h = refl
 
-shared-slice-read-if2 : tie.Need-shared-slice-read-if2
-shared-slice-read-if2 c = search needs
-
 returns : tie.Need-returns
 returns c = sym (index-zero _ (search needs) (c .if2 .taken))
-
-read-number-requires : tie.Need-read-number-requires
-read-number-requires c κs = search needs
-
-enum-told : tie.Need-enum-told
-enum-told c = search needs
 
 returns-2 : tie.Need-returns-2
 returns-2 c =
@@ -55,9 +46,9 @@ pub check-index-spec : {M : Type 1} → statement M
 check-index-spec =
     tie.close
     (tie.spec
-    shared-slice-read-if2
+    (λ c. search needs)
     returns
-    read-number-requires
-    enum-told
+    (λ c κs. search needs)
+    (λ c. search needs)
     returns-2
     returns-3)

@@ -6,14 +6,8 @@ use Rattle.identifiers.specs.CheckLaws.{first-some, first-none, check-pl
 use Rattle.identifiers.proofs.validate.check_plain.Statement.{statement}
 use Rattle.identifiers.proofs.validate.check_plain.Tie as tie
 
-validate-identifier-chars-requires : tie.Need-validate-identifier-chars-requires
-validate-identifier-chars-requires c κs = search needs
-
 returns : tie.Need-returns
 returns c = let e = c .before .validate-identifier-chars .ensures in e ∙ sym (check-plain _ _ _ ∙ first-some _ _ (λ z. c .if1 .taken (e ∙ z)))
-
-length-within-requires : tie.Need-length-within-requires
-length-within-requires c κs = search needs
 
 returns-2 : tie.Need-returns-2
 returns-2 c = c .length-within .ensures ∙ sym (check-plain _ _ _ ∙ first-none _ _ (sym (c .before .before .validate-identifier-chars .ensures) ∙ c .before .if1 .left))
@@ -21,4 +15,4 @@ returns-2 c = c .length-within .ensures ∙ sym (check-plain _ _ _ ∙ first-non
 pub check-plain-spec : {M : Type 1} → statement M
 check-plain-spec =
     tie.close
-    (tie.spec validate-identifier-chars-requires returns length-within-requires returns-2)
+    (tie.spec (λ c κs. search needs) returns (λ c κs. search needs) returns-2)

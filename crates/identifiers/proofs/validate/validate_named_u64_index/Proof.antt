@@ -7,22 +7,13 @@ use Rattle.identifiers.specs.Check.{namedIndexOf}
 use Rattle.identifiers.proofs.validate.validate_named_u64_index.Statement.{statement}
 use Rattle.identifiers.proofs.validate.validate_named_u64_index.Tie as tie
 
-all-ascii-requires : tie.Need-all-ascii-requires
-all-ascii-requires c κs = search needs
-
 returns : tie.Need-returns
 unfolding namedIndexOf
 returns c = rw (sym (c .before .all-ascii .ensures) ∙ not-true _ (c .if1 .taken))
 
-all-ascii-requires-2 : tie.Need-all-ascii-requires-2
-all-ascii-requires-2 c κs = search needs
-
 returns-2 : tie.Need-returns-2
 unfolding namedIndexOf
 returns-2 c = let b = c .before .before in rw (sym (b .before .all-ascii .ensures) ∙ not-false _ (b .if1 .left), sym (c .before .all-ascii2 .ensures) ∙ not-true _ (c .if2 .taken))
-
-check-named-requires : tie.Need-check-named-requires
-check-named-requires c κs = search needs
 
 returns-3 : tie.Need-returns-3
 unfolding namedIndexOf
@@ -32,9 +23,9 @@ pub validate-named-u64-index-spec : {M : Type 1} → statement M
 validate-named-u64-index-spec =
     tie.close
     (tie.spec
-    all-ascii-requires
+    (λ c κs. search needs)
     returns
-    all-ascii-requires-2
+    (λ c κs. search needs)
     returns-2
-    check-named-requires
+    (λ c κs. search needs)
     returns-3)

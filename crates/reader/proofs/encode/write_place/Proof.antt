@@ -9,15 +9,6 @@ use native.Mathlib.Omega.{arith}
 use Rattle.reader.proofs.encode.write_place.Statement.{statement}
 use Rattle.reader.proofs.encode.write_place.Tie as tie
 
-write-big-endian-requires : tie.Need-write-big-endian-requires
-write-big-endian-requires c κs = search needs
-
-write-big-endian-requires-2 : tie.Need-write-big-endian-requires-2
-write-big-endian-requires-2 c κs = search needs
-
-same-length : tie.Need-same-length
-same-length c = search needs
-
 returns : tie.Need-returns
 returns c =
     let a = c .before .before .before .before .before .before .before .before .before .args in
@@ -27,4 +18,4 @@ returns c =
     (omega arith, sym (put-next (a .out .now) (a .at) (bigEndian 2 (a .p .start)) _ (s1 .last .0) (s1 .result) (omega arith) (omega arith) (s1 .ensures .1) ∙ sym (s2 .ensures .1)))
 
 pub write-place-spec : {M : Type 1} → statement M
-write-place-spec = tie.close (tie.spec write-big-endian-requires write-big-endian-requires-2 same-length returns)
+write-place-spec = tie.close (tie.spec (λ c κs. search needs) (λ c κs. search needs) (λ c. search needs) returns)

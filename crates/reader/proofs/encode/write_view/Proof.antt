@@ -15,30 +15,6 @@ returns c =
     let l = length-view (a .v) (a .exact) in
     (sym (answer-short _ _ (omega arith)), sym (left-short _ _ (omega arith)))
 
-write-byte-requires : tie.Need-write-byte-requires
-write-byte-requires c κs = search needs
-
-mark-requires : tie.Need-mark-requires
-mark-requires c κs = search needs
-
-write-byte-requires-2 : tie.Need-write-byte-requires-2
-write-byte-requires-2 c κs = search needs
-
-write-place-requires : tie.Need-write-place-requires
-write-place-requires c κs = search needs
-
-write-place-requires-2 : tie.Need-write-place-requires-2
-write-place-requires-2 c κs = search needs
-
-write-big-endian-requires : tie.Need-write-big-endian-requires
-write-big-endian-requires c κs = search needs
-
-write-big-endian-requires-2 : tie.Need-write-big-endian-requires-2
-write-big-endian-requires-2 c κs = search needs
-
-same-length : tie.Need-same-length
-same-length c = search needs
-
 returns-2 : tie.Need-returns-2
 returns-2 c =
     let a = c .before .before .before .before .before .before .before .before .before .before .before .before .before .before .before .before .before .before .before .before .before .before .before .before .before .before .before .before .before .args in
@@ -60,12 +36,12 @@ write-view-spec =
     tie.close
     (tie.spec
     returns
-    write-byte-requires
-    mark-requires
-    write-byte-requires-2
-    write-place-requires
-    write-place-requires-2
-    write-big-endian-requires
-    write-big-endian-requires-2
-    same-length
+    (λ c κs. search needs)
+    (λ c κs. search needs)
+    (λ c κs. search needs)
+    (λ c κs. search needs)
+    (λ c κs. search needs)
+    (λ c κs. search needs)
+    (λ c κs. search needs)
+    (λ c. search needs)
     returns-2)

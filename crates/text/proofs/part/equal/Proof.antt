@@ -22,21 +22,6 @@ returns c = sym (same-not _ _ (λ e. c .if1 .taken (ap length e)))
 loop-holds : tie.Need-loop-holds Inv-loop μ-loop
 loop-holds c = (omega arith, c .if1 .left, refl)
 
-shared-slice-read-unlike : tie.Need-shared-slice-read-unlike Inv-loop μ-loop
-shared-slice-read-unlike c = search needs
-
-shared-slice-read-unlike-2 : tie.Need-shared-slice-read-unlike-2 Inv-loop μ-loop
-shared-slice-read-unlike-2 c = search needs
-
-unlike-requires : tie.Need-unlike-requires Inv-loop μ-loop
-unlike-requires c κs = search needs
-
-add-i : tie.Need-add-i Inv-loop μ-loop
-add-i c = search needs
-
-loop-less : tie.Need-loop-less Inv-loop μ-loop
-loop-less c = search needs
-
 loop-again : tie.Need-loop-again Inv-loop μ-loop
 loop-again c =
     let l = c .before .before .before .before .loop in
@@ -61,10 +46,10 @@ equal-spec =
     μ-loop
     returns
     loop-holds
-    shared-slice-read-unlike
-    shared-slice-read-unlike-2
-    unlike-requires
-    add-i
-    loop-less
+    (λ c. search needs)
+    (λ c. search needs)
+    (λ c κs. search needs)
+    (λ c. search needs)
+    (λ c. search needs)
     loop-again
     returns-2)

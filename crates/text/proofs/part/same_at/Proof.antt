@@ -15,32 +15,14 @@ Inv-loop s at w i₀ i = (i ≤ length w) × (startsWith w (drop at s) ≡ start
 abbrev μ-loop : tie.MeasureT-loop
 μ-loop s at w i₀ i = length w - i
 
-sub-if1 : tie.Need-sub-if1 Inv-loop μ-loop
-sub-if1 c = search needs
-
 returns : tie.Need-returns Inv-loop μ-loop
 returns c = sym (parts.starts-short _ _ (rw length-drop (omega arith)))
 
 loop-holds : tie.Need-loop-holds Inv-loop μ-loop
 loop-holds c = (search needs, rw add-zero)
 
-add-if2 : tie.Need-add-if2 Inv-loop μ-loop
-add-if2 c = search needs
-
-shared-slice-read-if2 : tie.Need-shared-slice-read-if2 Inv-loop μ-loop
-shared-slice-read-if2 c = search needs
-
-shared-slice-read-if2-2 : tie.Need-shared-slice-read-if2-2 Inv-loop μ-loop
-shared-slice-read-if2-2 c = search needs
-
 returns-2 : tie.Need-returns-2 Inv-loop μ-loop
 returns-2 c = let l = c .before .before .before .before .loop in let a = c .before .before .before .before .before .before .args in sym (l .inv .1 ∙ parts.starts-other (a .w .now) (a .s .now) (a .at) (l .i) (omega arith) (omega arith) (c .if2 .taken))
-
-add-i : tie.Need-add-i Inv-loop μ-loop
-add-i c = search needs
-
-loop-less : tie.Need-loop-less Inv-loop μ-loop
-loop-less c = search needs
 
 loop-again : tie.Need-loop-again Inv-loop μ-loop
 loop-again c = let l = c .before .before .before .before .loop in let a = c .before .before .before .before .before .before .args in (search needs, l .inv .1 ∙ parts.starts-more (a .w .now) (a .s .now) (a .at) (l .i) (omega arith) (omega arith) (c .if2 .left))
@@ -54,14 +36,14 @@ same-at-spec =
     (tie.spec
     Inv-loop
     μ-loop
-    sub-if1
+    (λ c. search needs)
     returns
     loop-holds
-    add-if2
-    shared-slice-read-if2
-    shared-slice-read-if2-2
+    (λ c. search needs)
+    (λ c. search needs)
+    (λ c. search needs)
     returns-2
-    add-i
-    loop-less
+    (λ c. search needs)
+    (λ c. search needs)
     loop-again
     returns-3)

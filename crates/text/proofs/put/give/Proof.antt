@@ -10,16 +10,10 @@ use Rattle.text.proofs.put.give.Tie as tie
 returns : tie.Need-returns
 returns c = (sym (answer-short _ _ (omega arith)), sym (left-short _ _ (omega arith)))
 
-write-text-requires : tie.Need-write-text-requires
-write-text-requires c κs = search needs
-
-same-length : tie.Need-same-length
-same-length c = search needs
-
 returns-2 : tie.Need-returns-2
 returns-2 c =
     let w = c .before .before .write-text .ensures in
     (ap done (w .0 ∙ zero-add _) ∙ sym (answer-fits _ _ (omega arith)), w .1 ∙ sym (left-fits _ _ (omega arith)))
 
 pub give-spec : {M : Type 1} → statement M
-give-spec = tie.close (tie.spec returns write-text-requires same-length returns-2)
+give-spec = tie.close (tie.spec returns (λ c κs. search needs) (λ c. search needs) returns-2)
