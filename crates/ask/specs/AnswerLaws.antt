@@ -72,7 +72,7 @@ long-rendering k v low high =
     let f : 6 ≤ fixed (partsOf k) = rw (kind-parts k low high) (leb-true 6 _ (has-both (λ e. leb 6 (fixed (e .parts))) (λ e. true) (kind-has k low high) fixed-all)) in
     omega (arith, render-length (partsOf k) v, length-sums (partsOf k) (lengths v))
 
--- an answer has at most two bytes for each of its line and for the end of it
+-- an answer has at most twice as many bytes as its line with its end
 pub answer-length : (t : List ℕ) → length (lineAnswer t) ≤ 2 * (length t + 1)
 unfolding lineAnswer renderPath
 answer-length t = go (readPath t) refl
