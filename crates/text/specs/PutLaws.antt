@@ -3,7 +3,7 @@
 use mathlib.Core.Path.{_≡_, refl, sym, ap, _∙_}
 use mathlib.Core.Bool.{Bool, true, false, cond}
 use Prim.Native.Nat.{ℕ, suc, _+_, _≤_, _<_}
-use native.Mathlib.Nat.{add-assoc, zero-add, add-suc}
+use native.Mathlib.Nat.{add-assoc, add-zero, zero-add, add-suc}
 use native.Mathlib.Numerals.{add-one}
 use native.Mathlib.Omega.{arith}
 use mathlib.Core.List.{List, [], _∷_, _++_, append-assoc}
@@ -18,6 +18,11 @@ use Rattle.text.specs.Put.{put, Wrote, Wanted, refused, text, refusal, d
 pub put-set : (out : List ℕ) (at b : ℕ) → at < length out → set out at b ≡ put out at (b ∷ [])
 unfolding put
 put-set out at b h = rw (set-split out at b h, add-one)
+
+-- nothing written
+pub put-nil : (out : List ℕ) (at : ℕ) → put out at [] ≡ out
+unfolding put
+put-nil out at = rw add-zero (take-append-drop at out)
 
 -- written at the start
 pub put-zero : (out w : List ℕ) → put out 0 w ≡ w ++ drop (length w) out
