@@ -2,7 +2,7 @@
 -- `hp_read_iteration_key`, `hp_first_above` and `hp_last_below`. A text that is lent holds bytes (`Bytes`); nothing else is premised but room.
 -- Assumes nothing.
 use Prim.Native.Nat.{ℕ, _<_, _≤_, _^_}
-use mathlib.Core.Path.{_≡_, refl}
+use mathlib.Core.Path.{_≡_}
 use mathlib.Core.Logic.{_↔_}
 use mathlib.Core.Bool.{true}
 use mathlib.Core.List.{List}

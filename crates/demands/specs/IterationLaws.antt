@@ -1,6 +1,6 @@
 -- What the calls on iteration keys come to, by the definitions that their contracts cite.
 -- Assumes nothing.
-use Prim.Native.Nat.{ℕ, _<_, _≤_, _^_}
+use Prim.Native.Nat.{ℕ, _<_, _^_}
 use mathlib.Core.Path.{_≡_, refl, sym, ap, subst, _∙_}
 use mathlib.Core.Logic.{_↔_}
 use mathlib.Core.Bool.{Bool, true, false}
@@ -15,10 +15,10 @@ use Rattle.path.specs.Pair.{pair}
 use Rattle.iteration.specs.declared.Revision.{Revision}
 use Rattle.iteration.specs.declared.KeyAnswer.{KeyAnswer}
 use Rattle.iteration.specs.declared.KeyAnswer.the-variants.{Key, Refused}
-use Rattle.iteration.specs.Key.{iterationKey, revision, keyIn, answered, pairOf}
+use Rattle.iteration.specs.Key.{iterationKey, keyIn, answered, pairOf}
 use Rattle.iteration.specs.ReadLaws.{read-written, written-read, key-counted}
-use Rattle.iteration.specs.Block.{rising, blockOf, scanned, Among, Nearest, keysOf}
-use Rattle.iteration.specs.BlockLaws.{Parts, parts}
+use Rattle.iteration.specs.Block.{rising, blockOf, scanned, Among, Nearest}
+use Rattle.iteration.specs.BlockLaws.{parts}
 use Rattle.iteration.specs.ScanLaws.{block-read, block-back, block-counted}
 use Rattle.demands.specs.Demand2Laws.{iff-yes, iff-no}
 use Rattle.demands.specs.Scanned.{IsKey, WhenKey, Block, WhenScanned}

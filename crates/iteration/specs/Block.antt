@@ -23,7 +23,7 @@ abbrev pub follows : Option Revision → Revision → Bool
 follows none q = true
 follows (some p) q = below p q
 
--- each is above the one before it
+-- each is above the one before it, the first above the last one, if there was one
 unfoldable pub rising : Option Revision → List Revision → Bool
 rising last [] = true
 rising last (p ∷ ps) = follows last p && rising (some p) ps

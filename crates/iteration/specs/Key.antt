@@ -23,12 +23,12 @@ abbrev pub revision : ℕ → ℕ → Revision
 revision n h = record { number = record { 0 = n }; height = record { 0 = h } }
 
 -- what stands behind the word in the key at place `at`
-abbrev pub pairAt : ℕ → List ℕ → Revision
-pairAt at s = revision (bigAt (at + 22) 8 s) (bigAt (at + 30) 8 s)
+abbrev pub revisionAt : ℕ → List ℕ → Revision
+revisionAt at s = revision (bigAt (at + 22) 8 s) (bigAt (at + 30) 8 s)
 
 -- a text of 38 bytes that begins with the word is a key
 unfoldable pub keyIn : List ℕ → Option Revision
-keyIn k = cond (eqb (length k) 38 && startsWith (bytes "iterateConsensusStates") k) (some (pairAt 0 k)) none
+keyIn k = cond (eqb (length k) 38 && startsWith (bytes "iterateConsensusStates") k) (some (revisionAt 0 k)) none
 
 -- the revision, or this refusal where there is none
 abbrev pub answered : ℕ → Option Revision → KeyAnswer

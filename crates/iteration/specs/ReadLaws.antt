@@ -1,23 +1,23 @@
 -- Reading an iteration key undoes writing it, and writing undoes reading.
 -- Assumes nothing.
-use mathlib.Core.Path.{_≡_, refl, sym, ap, _∙_}
+use mathlib.Core.Path.{_≡_, refl, sym, _∙_}
 use mathlib.Core.Bool.{Bool, true, false, cond, not, _&&_}
 use mathlib.Core.List.{List, [], _∷_, _++_, append-nil}
-use mathlib.Core.Option.{Option, none, some}
+use mathlib.Core.Option.{none, some}
 use Prim.Native.Nat.{ℕ, zero, suc, _+_, _^_, _≤_, _<_}
 use native.Mathlib.Omega.{arith}
 use lib.Dec.{eqb}
-use lib.ListN.{length, take, drop, getD, length-append, length-take, length-drop, take-append-drop}
+use lib.ListN.{length, take, drop, length-append, length-take, length-drop}
 use lib.Seq.{take-take, take-all, take-add, drop-drop, getD-drop}
 use borrow.Author.Tests.{eq-eqb, ne-eqb, eqb-true, not-true, not-false}
 use Rattle.text.specs.Bytes.{bytes}
-use Rattle.text.specs.Number.{bigEndian, bigFrom, bigAt, Bytes}
+use Rattle.text.specs.Number.{bigEndian, bigAt, Bytes}
 use Rattle.text.specs.NumberLaws.{length-big, big-at, big-forth, big-below}
 use Rattle.text.specs.Part.{startsWith}
 use Rattle.text.specs.PartLaws.{and-left, and-right}
 use Rattle.iteration.specs.declared.Revision.{Revision}
 use Rattle.iteration.specs.declared.KeyAnswer.the-variants.{Key, Refused}
-use Rattle.iteration.specs.Key.{iterationKey, revision, pairAt, keyIn, answered}
+use Rattle.iteration.specs.Key.{iterationKey, revision, revisionAt, keyIn, answered}
 use Rattle.iteration.specs.KeyLaws.{key-length}
 
 abbrev word : List ℕ
@@ -38,7 +38,7 @@ starts-take (x ∷ w) (suc k) [] h = refl
 starts-take (x ∷ w) (suc k) (y ∷ t) h = rw (starts-take w k t (omega arith))
 
 -- it is one where the word stands there
-pub piece-key : (at : ℕ) (s : List ℕ) → at + 38 ≤ length s → keyIn (take 38 (drop at s)) ≡ cond (startsWith word (drop at s)) (some (pairAt at s)) none
+pub piece-key : (at : ℕ) (s : List ℕ) → at + 38 ≤ length s → keyIn (take 38 (drop at s)) ≡ cond (startsWith word (drop at s)) (some (revisionAt at s)) none
 unfolding keyIn
 piece-key at s h =
     let l : length (take 38 (drop at s)) ≡ 38 = simp (length-take, length-drop) (omega arith) in
@@ -51,10 +51,10 @@ piece-key at s h =
       drop-drop 30 at s,
     )
 
-pub piece-is : (at : ℕ) (s : List ℕ) (p : Revision) → at + 38 ≤ length s → keyIn (take 38 (drop at s)) ≡ some p → p ≡ pairAt at s
+pub piece-is : (at : ℕ) (s : List ℕ) (p : Revision) → at + 38 ≤ length s → keyIn (take 38 (drop at s)) ≡ some p → p ≡ revisionAt at s
 piece-is at s p h e = go (startsWith word (drop at s)) (sym (piece-key at s h) ∙ e)
   where
-    go : (b : Bool) → cond b (some (pairAt at s)) none ≡ some p → p ≡ pairAt at s
+    go : (b : Bool) → cond b (some (revisionAt at s)) none ≡ some p → p ≡ revisionAt at s
     go true q = cc
     go false q = cc
 
@@ -63,7 +63,7 @@ module _ (at : ℕ) (s : List ℕ) (h : at + 38 ≤ length s) (r : Bool) (e : r 
   pub key-none : not r ≡ true → Refused 15 ≡ answered 15 (keyIn (take 38 (drop at s)))
   key-none t = rw (piece-key at s h, ← e, not-true r t)
 
-  pub key-here : (p : Revision) → not r ≡ false → p ≡ pairAt at s → Key p ≡ answered 15 (keyIn (take 38 (drop at s)))
+  pub key-here : (p : Revision) → not r ≡ false → p ≡ revisionAt at s → Key p ≡ answered 15 (keyIn (take 38 (drop at s)))
   key-here p f q = rw (piece-key at s h, ← e, not-false r f, q)
 
 -- a text of 38 bytes is the piece at its start, and another is no key
@@ -110,13 +110,13 @@ starts-is (x ∷ w) (y ∷ s) h =
 pub record Reads (k : List ℕ) (p : Revision) : Type 0 where
   pub size : length k ≡ 38
   pub starts : startsWith word k ≡ true
-  pub carries : p ≡ pairAt 0 k
+  pub carries : p ≡ revisionAt 0 k
 
 pub key-reads : (k : List ℕ) (p : Revision) → keyIn k ≡ some p → Reads k p
 unfolding keyIn
 key-reads k p e = go (eqb (length k) 38) refl (startsWith word k) refl e
   where
-    go : (a : Bool) → eqb (length k) 38 ≡ a → (b : Bool) → startsWith word k ≡ b → cond (a && b) (some (pairAt 0 k)) none ≡ some p → Reads k p
+    go : (a : Bool) → eqb (length k) 38 ≡ a → (b : Bool) → startsWith word k ≡ b → cond (a && b) (some (revisionAt 0 k)) none ≡ some p → Reads k p
     go true x true y q = record { size = eqb-true (length k) 38 x; starts = y; carries = cc }
     go true x false y q = let z : _≡_ {A = ℕ} 0 1 = cc in absurd (omega arith)
     go false x b y q = let z : _≡_ {A = ℕ} 0 1 = cc in absurd (omega arith)

@@ -1,17 +1,16 @@
 -- What the scans find in a rising list: one of it, on its side of the pair, and none of the list between. And a block is the
 -- keys of its revisions, in both directions.
 -- Assumes nothing.
-use mathlib.Core.Path.{_≡_, refl, sym, ap, _∙_}
-use mathlib.Core.Bool.{Bool, true, false, cond, _&&_}
-use mathlib.Core.List.{List, [], _∷_, _++_}
+use mathlib.Core.Path.{_≡_, refl, sym, _∙_}
+use mathlib.Core.Bool.{Bool, true, false, cond}
+use mathlib.Core.List.{List, [], _∷_}
 use mathlib.Core.Logic.{_↔_, _⊎_, inl, inr, ⊎-elim}
 use mathlib.Core.Option.{Option, none, some}
-use Prim.Native.Nat.{ℕ, zero, suc, _+_, _*_, _/_, _%_, _^_, _<_, _≤_, compare, Ordering·lt}
+use Prim.Native.Nat.{ℕ, zero, suc, _*_, _/_, _%_, _^_, _<_, compare, Ordering·lt}
 use native.Mathlib.Omega.{arith}
-use lib.Dec.{eqb}
-use lib.ListN.{length, take, drop, length-append, length-drop, take-append-drop, drop-of-length-le}
-use lib.Seq.{take-at, drop-at, take-length}
-use borrow.Author.Tests.{eq-eqb, eqb-true}
+use lib.ListN.{length, take, drop, length-append, length-drop, take-append-drop}
+use lib.Seq.{take-at, drop-at}
+use borrow.Author.Tests.{eq-eqb}
 use Rattle.text.specs.Number.{Bytes}
 use Rattle.text.specs.Order.{then, cmp, Before}
 use Rattle.text.specs.OrderLaws.{Tri, tri, compare-lt, compare-gt, compare-same}
@@ -21,8 +20,8 @@ use Rattle.iteration.specs.declared.Revision.{Revision}
 use Rattle.iteration.specs.Key.{iterationKey, keyIn}
 use Rattle.iteration.specs.KeyLaws.{key-length, key-compare}
 use Rattle.iteration.specs.ReadLaws.{read-written, written-read, key-counted, bytes-take, bytes-drop}
-use Rattle.iteration.specs.Block.{below, follows, rising, onto, keysIn, inOrder, blockOf, firstAbove, orElse, lastBelow, Among, Nearest, Counted, keysOf}
-use Rattle.iteration.specs.BlockLaws.{below-is, is-below, below-trans, Parts, parts}
+use Rattle.iteration.specs.Block.{below, follows, rising, onto, keysIn, blockOf, firstAbove, orElse, lastBelow, Among, Nearest, Counted, keysOf}
+use Rattle.iteration.specs.BlockLaws.{below-is, is-below, below-trans, parts}
 
 -- ---- the order has no two ways
 pub below-not-above : (p q : Revision) → below p q ≡ true → below q p ≡ false

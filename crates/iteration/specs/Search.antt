@@ -9,7 +9,7 @@ use lib.ListN.{length}
 use Rattle.iteration.specs.declared.Revision.{Revision}
 use Rattle.iteration.specs.declared.KeyAnswer.{KeyAnswer}
 use Rattle.iteration.specs.declared.KeyAnswer.the-variants.{Key, Refused}
-use Rattle.iteration.specs.Key.{pairAt}
+use Rattle.iteration.specs.Key.{revisionAt}
 use Rattle.iteration.specs.Block.{below, follows}
 
 -- the revision of an answer that has one
@@ -24,7 +24,7 @@ rises last (some q) = follows last q
 
 -- the key number j of a block
 abbrev pub keyNo : List ℕ → ℕ → Revision
-keyNo s j = pairAt (38 * j) s
+keyNo s j = revisionAt (38 * j) s
 
 -- a key that is below the pair, or, where `equal` says so, below it or equal to it
 abbrev pub passed : Bool → Revision → Revision → Bool

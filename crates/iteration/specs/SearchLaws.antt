@@ -1,11 +1,11 @@
 -- The search by halving, and what the place that it finds says of the scans.
 -- Assumes nothing.
 use mathlib.Core.Path.{_≡_, refl, sym, ap, _∙_}
-use mathlib.Core.Bool.{Bool, true, false, cond, not}
-use mathlib.Core.List.{List, [], _∷_, map}
+use mathlib.Core.Bool.{Bool, true, false, not}
+use mathlib.Core.List.{List, map}
 use mathlib.Core.Logic.{⊎-elim}
 use mathlib.Core.Option.{Option, none, some}
-use Prim.Native.Nat.{ℕ, zero, suc, _+_, _*_, _/_, _-_, _≤_, _<_}
+use Prim.Native.Nat.{ℕ, zero, suc, _+_, _/_, _-_, _≤_, _<_}
 use native.Mathlib.Decide.{decLt}
 use native.Mathlib.Nat.{eq-or-lt-of-le}
 use native.Mathlib.Omega.{arith}
@@ -13,10 +13,9 @@ use lib.ListN.{length}
 use borrow.Author.Tests.{not-true, not-false}
 use Rattle.text.specs.TableLaws.{span}
 use Rattle.iteration.specs.declared.Revision.{Revision}
-use Rattle.iteration.specs.declared.KeyAnswer.{KeyAnswer}
 use Rattle.iteration.specs.declared.KeyAnswer.the-variants.{Key, Refused}
-use Rattle.iteration.specs.Block.{below, blockOf, isBlock, firstAbove, orElse, lastBelow, scanned}
-use Rattle.iteration.specs.BlockLaws.{below-trans, Held, held}
+use Rattle.iteration.specs.Block.{below, blockOf, isBlock, firstAbove, lastBelow, scanned}
+use Rattle.iteration.specs.BlockLaws.{below-trans, held}
 use Rattle.iteration.specs.Search.{keyNo, passed, Placed}
 
 -- what is below a key that passes, passes

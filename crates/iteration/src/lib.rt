@@ -14,7 +14,7 @@ ghost use Prim.Native.Nat.{_+_, _≤_};
 ghost use lib.ListN.{length, take, drop};
 ghost use Rattle.text.specs.Put.{text, answer, left};
 ghost use Rattle.text.specs.Refusal.{badIterKey};
-ghost use Rattle.iteration.specs.Key.{iterationKey, pairAt, keyIn, answered, pairOf};
+ghost use Rattle.iteration.specs.Key.{iterationKey, revisionAt, keyIn, answered, pairOf};
 
 // What an iteration key carries.
 pub struct Revision {
@@ -51,7 +51,7 @@ pub fn iteration_key(number: RevisionNumber, height: RevisionHeight, out: &mut [
 // The revision in the key that stands in `s` at `at`.
 pub(crate) fn revision_at(s: &[u8], at: usize) -> Revision
     requires { ⌜ at + 38 ≤ length (now s) ⌝ }
-    ensures { λ r. ⌜ r ≡ pairAt at (now (s .entry)) ⌝ }
+    ensures { λ r. ⌜ r ≡ revisionAt at (now (s .entry)) ⌝ }
 {
     Revision {
         number: RevisionNumber(read_big_endian(s, at + 22, 8)),

@@ -147,6 +147,7 @@ pub fn write_big_endian(out: &mut [u8], at: usize, v: u64, width: usize) -> usiz
     at + width
 }
 
+// A byte as a wider number.
 fn wide(b: u8) -> u64
     ensures { λ r. ⌜ r ≡ b ⌝ }
 {

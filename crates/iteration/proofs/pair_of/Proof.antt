@@ -1,6 +1,6 @@
 -- `iteration::pair_of` meets its contract.
 -- Assumes nothing.
-use mathlib.Core.Path.{sym, ap, _∙_}
+use mathlib.Core.Path.{sym, ap}
 use Rattle.iteration.specs.Key.{pairOf}
 use borrow.Author.Needs.{needs}
 use Rattle.iteration.proofs.pair_of.Statement.{statement}

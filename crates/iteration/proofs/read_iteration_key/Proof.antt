@@ -1,7 +1,6 @@
 -- `iteration::read_iteration_key` meets its contract.
 -- Assumes nothing.
 use mathlib.Core.Path.{sym, ap, _∙_}
-use native.Mathlib.Omega.{arith}
 use borrow.Author.Needs.{needs}
 use Rattle.iteration.specs.Key.{answered}
 use Rattle.iteration.specs.ReadLaws.{key-whole, key-other}

@@ -1,6 +1,5 @@
 -- `iteration::block::is_next` meets its contract.
 -- Assumes nothing.
-use mathlib.Core.Path.{sym, ap, _∙_}
 use borrow.Author.Needs.{needs}
 use Rattle.iteration.proofs.block.is_next.Statement.{statement}
 use Rattle.iteration.proofs.block.is_next.Tie as tie

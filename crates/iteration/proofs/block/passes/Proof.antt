@@ -1,7 +1,5 @@
 -- `iteration::block::passes` meets its contract.
 -- Assumes nothing.
-use mathlib.Core.Path.{sym, ap, _∙_}
-use mathlib.Core.Bool.{not}
 use borrow.Author.Needs.{needs}
 use Rattle.iteration.proofs.block.passes.Statement.{statement}
 use Rattle.iteration.proofs.block.passes.Tie as tie
