@@ -172,7 +172,7 @@ impl Default for Page {
     fn default() -> Self {
         let number = |cell: &str| match cell {
             "panics" => Some(PANICKED),
-            "no str" | "no kind" | "no book" => None,
+            "no str" | "no kind" | "no book" | "no reader" => None,
             cell => Some(cell.parse().unwrap_or(0)),
         };
         let pair = |row: &Row| {
