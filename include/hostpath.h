@@ -103,12 +103,16 @@ enum hp_refusal {
     HP_KEY_TOO_LONG = 10,
     /* every slot of the book holds another key: remove a record, or take a book of more slots */
     HP_FULL = 11,
-    /* the book holds no such record: ask for the key of the text to see which record was looked for */
+    /* the book holds no such record, or the block no such key: ask for the key of the text to see which record was looked for */
     HP_ABSENT = 12,
     /* the upgrade path has a slash: give it as one piece, such as upgradedIBCState */
     HP_BAD_SEGMENT = 13,
     /* the kind is not a number from 1 to 19: take it from the table of kinds */
-    HP_BAD_KIND = 14
+    HP_BAD_KIND = 14,
+    /* the bytes are not iterateConsensusStates and 16 more, 38 in all: give one whole iteration key */
+    HP_BAD_ITER_KEY = 15,
+    /* the block is not whole iteration keys that rise, no two the same: put them in order and take out what is no key */
+    HP_BAD_BLOCK = 16
     /* Above, made by bin/interface. */
 };
 
@@ -162,6 +166,13 @@ struct hp_written hp_render(uint8_t kind, const uint8_t *first, size_t first_len
 struct hp_flag hp_is_provable(uint8_t kind);
 /* `iterateConsensusStates`, number and height, 38 bytes: 4. */
 struct hp_written hp_iteration_key(uint64_t number, uint64_t height, uint8_t *out, size_t out_len);
+/* The revision number and height of an iteration key: 15. */
+struct hp_pair hp_read_iteration_key(const uint8_t *key, size_t key_len);
+/* The first key above number and height in a block of iteration keys that stand one after the other and rise. 16 for a
+ * length that is no multiple of 38, for a piece that is no key, and for keys out of order or equal: 16, 12. */
+struct hp_pair hp_first_above(const uint8_t *block, size_t block_len, uint64_t number, uint64_t height);
+/* The last key below number and height in such a block: 16, 12. */
+struct hp_pair hp_last_below(const uint8_t *block, size_t block_len, uint64_t number, uint64_t height);
 
 /* Texts above and below a path. */
 

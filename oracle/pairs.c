@@ -5,6 +5,30 @@
 
 /* Below, made by bin/interface: wide calls. */
 
+void inner_hp_read_iteration_key(struct hp_pair *answer, const uint8_t *key, size_t key_len);
+
+struct hp_pair hp_read_iteration_key(const uint8_t *key, size_t key_len) {
+    struct hp_pair answer;
+    inner_hp_read_iteration_key(&answer, key, key_len);
+    return answer;
+}
+
+void inner_hp_first_above(struct hp_pair *answer, const uint8_t *block, size_t block_len, uint64_t number, uint64_t height);
+
+struct hp_pair hp_first_above(const uint8_t *block, size_t block_len, uint64_t number, uint64_t height) {
+    struct hp_pair answer;
+    inner_hp_first_above(&answer, block, block_len, number, height);
+    return answer;
+}
+
+void inner_hp_last_below(struct hp_pair *answer, const uint8_t *block, size_t block_len, uint64_t number, uint64_t height);
+
+struct hp_pair hp_last_below(const uint8_t *block, size_t block_len, uint64_t number, uint64_t height) {
+    struct hp_pair answer;
+    inner_hp_last_below(&answer, block, block_len, number, height);
+    return answer;
+}
+
 void inner_hp_book_oldest(struct hp_pair *answer, const uint8_t *book, size_t book_len, const uint8_t *client, size_t client_len);
 
 struct hp_pair hp_book_oldest(const uint8_t *book, size_t book_len, const uint8_t *client, size_t client_len) {

@@ -9,15 +9,16 @@ use Rattle.text.specs.Part.{same}
 use Rattle.text.specs.Refusal.{badBook, noRecord}
 use Rattle.identifiers.specs.Check.{checkOf}
 use Rattle.identifiers.specs.Check as check
+use Rattle.path.specs.declared.Pair.{Pair}
 use Rattle.path.specs.declared.Reading.{Reading}
 use Rattle.path.specs.declared.Reading.the-variants.{Read, Refused}
+use Rattle.path.specs.Pair.{pair}
 use Rattle.path.specs.Read.{readPath}
 use Rattle.path.specs.Text.{shownOf}
 use Rattle.path.specs.View.{kindOf, carriedOf}
 use Rattle.keys.specs.Act.{Rec}
 use Rattle.book.specs.declared.oldest.StateAnswer.{StateAnswer}
 use Rattle.book.specs.declared.oldest.StateAnswer.the-variants.{State, Nothing}
-use Rattle.book.specs.declared.oldest.Pair.{Pair}
 use Rattle.form.specs.Form.{Form}
 use Rattle.book.specs.Book.{Book}
 
@@ -36,9 +37,6 @@ orElse Nothing x = x
 unfoldable pub firstState : List ℕ → List Rec → StateAnswer
 firstState client [] = Nothing
 firstState client (r ∷ rs) = orElse (stateOf client (r .0)) (firstState client rs)
-
-abbrev pub pair : ℕ → ℕ → ℕ → Pair
-pair r m h = record { refusal = r; number = m; height = h }
 
 abbrev pub pairOf : StateAnswer → Pair
 pairOf (State m h) = pair 0 m h

@@ -12,11 +12,13 @@ use borrow.Author.Tests.{eq-eqb, ne-eqb}
 use Rattle.text.specs.Part.{same}
 use Rattle.identifiers.specs.Check.{checkOf}
 use Rattle.identifiers.specs.Check as check
+use Rattle.path.specs.declared.Pair.{Pair}
 use Rattle.path.specs.declared.Path.{Path}
 use Rattle.path.specs.declared.PathView.{PathView}
 use Rattle.path.specs.declared.Refusal.{Refusal}
 use Rattle.path.specs.declared.Reading.{Reading}
 use Rattle.path.specs.declared.Reading.the-variants.{Read, Refused}
+use Rattle.path.specs.Pair.{pair}
 use Rattle.path.specs.Read.{readPath}
 use Rattle.path.specs.Text.{shownOf}
 use Rattle.path.specs.View.{kindOf, carriedOf, viewOf}
@@ -27,10 +29,9 @@ use Rattle.form.specs.Form.{Form, place, keyAt}
 use Rattle.form.specs.FormLaws.{Lawful}
 use Rattle.book.specs.declared.oldest.StateAnswer.{StateAnswer}
 use Rattle.book.specs.declared.oldest.StateAnswer.the-variants.{State, Nothing}
-use Rattle.book.specs.declared.oldest.Pair.{Pair}
 use Rattle.book.specs.Book.{Book, Counts}
 use Rattle.book.specs.BookLaws.{one-book, key-is}
-use Rattle.book.specs.Oldest.{stateBy, stateOf, orElse, firstState, pair, pairOf, oldestIn, Oldest, FirstIs}
+use Rattle.book.specs.Oldest.{stateBy, stateOf, orElse, firstState, pairOf, oldestIn, Oldest, FirstIs}
 use Rattle.book.specs.Oldest as o
 
 -- ---- one key

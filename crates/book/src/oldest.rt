@@ -2,6 +2,7 @@
 use crate::check::BookAnswer;
 use crate::check::check_book;
 use form::key_at;
+use path::Pair;
 use path::Reading;
 use text::refusal::ABSENT;
 use text::refusal::BAD_BOOK;
@@ -12,13 +13,6 @@ ghost use Rattle.book.specs.Oldest.{stateOf, FirstIs, Oldest};
 pub enum StateAnswer {
     State(u64, u64),
     Nothing,
-}
-
-#[repr(C)]
-pub struct Pair {
-    pub refusal: u8,
-    pub number: u64,
-    pub height: u64,
 }
 
 // The revision number and height in a key, where it is a state of the client.

@@ -21,8 +21,9 @@ use Rattle.book.specs.Book.{Current, fullIn}
 use Rattle.book.specs.Outcome.{Outcome, no-book, this-book, Changed, Found, Looked, Made, no-size, new-book}
 use Rattle.book.specs.declared.oldest.StateAnswer.{StateAnswer}
 use Rattle.book.specs.declared.oldest.StateAnswer.the-variants.{State, Nothing}
-use Rattle.book.specs.declared.oldest.Pair.{Pair}
-use Rattle.book.specs.Oldest.{firstState, pair, pairOf, oldestIn, Oldest}
+use Rattle.path.specs.declared.Pair.{Pair}
+use Rattle.path.specs.Pair.{pair}
+use Rattle.book.specs.Oldest.{firstState, pairOf, oldestIn, Oldest}
 use Rattle.book.specs.Oldest as oldest
 use Rattle.demands.specs.KeepsLaws.{made-keeps, changed-keeps, found-keeps}
 use Rattle.demands.specs.Shape.{Listed, AllZero, Demand1}

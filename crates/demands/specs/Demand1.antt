@@ -13,15 +13,20 @@ use Rattle.path.specs.Kinds.{word, carried}
 use Rattle.path.specs.Read.{renderOf, keyOf, readingBytes}
 use Rattle.path.specs.Parents.{textOf, consensusParent, consensusLeaf, packetsPath}
 use Rattle.keys.specs.Calls.{write, remove}
-use Rattle.render.specs.Iteration.{iterationKey}
+use Rattle.iteration.specs.Block.{blockOf, firstAbove, lastBelow, scanned}
+use Rattle.iteration.specs.Key.{iterationKey, revision, keyIn, answered}
 use Rattle.demands.specs.Shape.{Listed, Demand1}
 use Rattle.demands.specs.ShapeLaws.{writes, writes-number, checks, readings, key-wants, reading-wants, renderings, render-wants, clients, client-wants, channel-wants, leaf-wants, update-wants, parent-wants, ends, packets-wants, plain-of, indexed-of, chars-number, length-number, prefix-number, named-index-number}
+use Rattle.demands.specs.IterationLaws.{pairs, key-refuses, scan-refuses}
 use Rattle.demands.specs.BookNumberLaws.{writeNumbers, removeNumbers, lookNumbers, write-listed, remove-listed, provable-demand, made-demand, changed-demand, found-demand, oldest-demand}
 use Rattle.hostpath.proofs.hp_client_id_new.Reads as hp-client-id-new
 use Rattle.hostpath.proofs.hp_channel_id_new.Reads as hp-channel-id-new
 use Rattle.hostpath.proofs.hp_key.Reads as hp-key
 use Rattle.hostpath.proofs.hp_render.Reads as hp-render
 use Rattle.hostpath.proofs.hp_iteration_key.Reads as hp-iteration-key
+use Rattle.hostpath.proofs.hp_read_iteration_key.Reads as hp-read-iteration-key
+use Rattle.hostpath.proofs.hp_first_above.Reads as hp-first-above
+use Rattle.hostpath.proofs.hp_last_below.Reads as hp-last-below
 use Rattle.hostpath.proofs.hp_client_state_prefix.Reads as hp-client-state-prefix
 use Rattle.hostpath.proofs.hp_client_state_leaf.Reads as hp-client-state-leaf
 use Rattle.hostpath.proofs.hp_consensus_state_parent.Reads as hp-consensus-state-parent
@@ -55,7 +60,7 @@ use Rattle.hostpath.proofs.hp_book_oldest.Reads as hp-book-oldest
 use Rattle.render.proofs.render.Reads as render
 use Rattle.key.proofs.write_key.Reads as write-key
 use Rattle.reader.proofs.write_reading.Reads as write-reading
-use Rattle.render.proofs.iteration.iteration_key.Reads as iteration-key
+use Rattle.iteration.proofs.iteration_key.Reads as iteration-key
 use Rattle.identifiers.proofs.client_id.write_client_id.Reads as write-client-id
 use Rattle.identifiers.proofs.channel_id.write_channel_id.Reads as write-channel-id
 use Rattle.render.proofs.texts.client_state_prefix.Reads as client-state-prefix
@@ -185,6 +190,16 @@ hp-book-lookup-holds = found-demand (λ κs a. tt) (λ κs r. r) (λ κs a. now 
 
 pub hp-book-oldest-holds : Demand1 hp-book-oldest.Pre hp-book-oldest.Post (9 ∷ 2 ∷ 5 ∷ 6 ∷ 12 ∷ []) (λ κs r. r .refusal) (λ κs r. r .number ∷ r .height ∷ []) (λ κs a. []) (λ κs s. [])
 hp-book-oldest-holds = oldest-demand (λ κs a. tt) (λ κs r. r) (λ κs a. now (a .0)) (λ κs a. now (a .1 .0)) (λ κs a r s p. p)
+
+-- ---- calls that answer a revision number and a height
+pub hp-read-iteration-key-holds : Demand1 hp-read-iteration-key.Pre hp-read-iteration-key.Post (15 ∷ []) (λ κs r. r .refusal) (λ κs r. r .number ∷ r .height ∷ []) (λ κs a. []) (λ κs s. [])
+hp-read-iteration-key-holds = pairs (15 ∷ []) refl (λ κs a. tt) (λ κs r. r) (λ κs a. answered 15 (keyIn (now (a .0)))) (λ κs a. key-refuses (keyIn (now (a .0)))) (λ κs a r s p. p)
+
+pub hp-first-above-holds : Demand1 hp-first-above.Pre hp-first-above.Post (16 ∷ 12 ∷ []) (λ κs r. r .refusal) (λ κs r. r .number ∷ r .height ∷ []) (λ κs a. []) (λ κs s. [])
+hp-first-above-holds = pairs (16 ∷ 12 ∷ []) refl (λ κs a. tt) (λ κs r. r) (λ κs a. scanned (firstAbove (revision (a .1 .0) (a .1 .1 .0))) (blockOf (now (a .0)))) (λ κs a. scan-refuses (firstAbove (revision (a .1 .0) (a .1 .1 .0))) (blockOf (now (a .0)))) (λ κs a r s p. p)
+
+pub hp-last-below-holds : Demand1 hp-last-below.Pre hp-last-below.Post (16 ∷ 12 ∷ []) (λ κs r. r .refusal) (λ κs r. r .number ∷ r .height ∷ []) (λ κs a. []) (λ κs s. [])
+hp-last-below-holds = pairs (16 ∷ 12 ∷ []) refl (λ κs a. tt) (λ κs r. r) (λ κs a. scanned (lastBelow (revision (a .1 .0) (a .1 .1 .0))) (blockOf (now (a .0)))) (λ κs a. scan-refuses (lastBelow (revision (a .1 .0) (a .1 .1 .0))) (blockOf (now (a .0)))) (λ κs a r s p. p)
 
 -- ---- the functions that a Rattle caller writes with
 pub render-holds : Demand1 render.Pre render.Post renderings (λ κs r. r .refusal) (λ κs r. r .length ∷ []) (λ κs a. now (a .1 .1 .1 .1 .1 .0)) (λ κs s. now (s .1 .1 .1 .1 .1 .0))

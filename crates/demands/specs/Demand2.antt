@@ -26,8 +26,8 @@ use Rattle.path.specs.Reads.{Has, Reads, kindAt}
 use Rattle.path.specs.ReadLaws as reads
 use Rattle.path.specs.BackLaws.{rendered-valid}
 use Rattle.path.specs.LengthLaws.{longest}
-use Rattle.render.specs.Iteration.{iterationKey}
-use Rattle.render.specs.IterationLaws.{key-compare}
+use Rattle.iteration.specs.Key.{iterationKey}
+use Rattle.iteration.specs.KeyLaws.{key-compare}
 use Rattle.demands.specs.PathCalls.{ReadCall, KeyCall, RenderCall, IterationKeyCall, reading, keying, rendering, iterating}
 use Rattle.demands.specs.Told.{Told, told, toldOf}
 use Rattle.demands.specs.Demand2Laws as laws
@@ -40,7 +40,7 @@ use Rattle.hostpath.proofs.hp_validate_channel_identifier.Reads as hp-validate-
 use Rattle.reader.proofs.read_path.Reads as read-path
 use Rattle.render.proofs.render.Reads as render
 use Rattle.key.proofs.write_key.Reads as write-key
-use Rattle.render.proofs.iteration.iteration_key.Reads as iteration-key
+use Rattle.iteration.proofs.iteration_key.Reads as iteration-key
 
 -- ---- "Rendering a valid typed path of at most 4,096 bytes and reading it gives that path back."
 module _ (kind : ℕ) (one two : List ℕ) (a b : ℕ) where

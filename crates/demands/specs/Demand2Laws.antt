@@ -33,8 +33,8 @@ use Rattle.path.specs.ReadLaws.{kinds-apart, read-has, is-reads}
 use Rattle.path.specs.BackLaws.{valid-rendered, rendered-back, read-again, key-exact}
 use Rattle.path.specs.BackLaws as back
 use Rattle.path.specs.LengthLaws.{rendering-short}
-use Rattle.render.specs.Iteration.{iterationKey}
-use Rattle.render.specs.IterationLaws.{key-length}
+use Rattle.iteration.specs.Key.{iterationKey}
+use Rattle.iteration.specs.KeyLaws.{key-length}
 use Rattle.demands.specs.Told.{Told, told, toldOf}
 use Rattle.demands.specs.ToldLaws.{bytes26, told-back, length26}
 use Rattle.demands.specs.Written.{Done, Back, NoKind, WhenRead}
@@ -135,10 +135,10 @@ no-kind t h e m = go (fitsKind e t) refl
 some-kind : (t : List ℕ) (p : Path) → readFirst kinds t ≡ Found p → NoKind t → ⊥
 some-kind t p h n = let r = is-reads t p h in let f = n (r .kind) (r .listed) in let g = r .fitting in clash (let z : _≡_ {A = ℕ} 0 1 = cc in z)
 
-iff-yes : {P Q : Type 0} → P → Q → P ↔ Q
+pub iff-yes : {P Q : Type 0} → P → Q → P ↔ Q
 iff-yes p q = (λ x. q, λ x. p)
 
-iff-no : {P Q : Type 0} → (P → ⊥) → (Q → ⊥) → P ↔ Q
+pub iff-no : {P Q : Type 0} → (P → ⊥) → (Q → ⊥) → P ↔ Q
 iff-no p q = (λ x. absurd (p x), λ x. absurd (q x))
 
 -- the text is read

@@ -1,4 +1,5 @@
--- The demands as theorems over the contracts that the sources have. Demand 1 is `Demand1`, by `Shape`; demand 2 is `Demand2`, in the words of `PathCalls`, `Told` and `Written`; demand 3 is `Demand3`, in
+-- The demands as theorems over the contracts that the sources have. Demand 1 is `Demand1`, by `Shape`; demand 2 is `Demand2`, in the words of `PathCalls`, `Told` and `Written`; the keys of request L1 are in `Iteration`, in
+-- the words of `KeyCalls` and `Scanned`; demand 3 is `Demand3`, in
 -- the words of `Held`, `Refusals` and `BookCalls`; `Useless` shows which line each useless book breaks. Files that end in `Laws` may be
 -- skipped.
 pub mod Shape
@@ -12,6 +13,10 @@ pub mod ToldLaws
 pub mod Written
 pub mod Demand2Laws
 pub mod Demand2
+pub mod KeyCalls
+pub mod Scanned
+pub mod IterationLaws
+pub mod Iteration
 pub mod Cases
 pub mod Held
 pub mod HeldLaws

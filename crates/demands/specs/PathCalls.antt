@@ -14,7 +14,7 @@ use Rattle.text.specs.declared.Written.{Written}
 use Rattle.text.specs.Put.{text, answer, left}
 use Rattle.path.specs.Read.{readingBytes, keyOf, renderOf}
 use Rattle.path.specs.Kinds.{carried}
-use Rattle.render.specs.Iteration.{iterationKey}
+use Rattle.iteration.specs.Key.{iterationKey}
 use Rattle.hostpath.proofs.hp_read as r
 use Rattle.hostpath.proofs.hp_read.Kinds as rk
 use Rattle.hostpath.proofs.hp_read.Reads as rr

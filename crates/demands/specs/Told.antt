@@ -1,20 +1,13 @@
 -- The 26 bytes of a reading taken apart.
 -- Assumes nothing.
-use Prim.Native.Nat.{ℕ, _+_, _*_}
+use Prim.Native.Nat.{ℕ}
 use mathlib.Core.Bool.{Bool, cond}
-use mathlib.Core.List.{List, [], _∷_}
-use lib.ListN.{getD, take, drop}
+use mathlib.Core.List.{List}
+use lib.ListN.{getD}
+use Rattle.text.specs.Number.{bigAt}
 use Rattle.path.specs.declared.Place.{Place}
 use Rattle.path.specs.declared.Path.{Path}
 use Rattle.path.specs.View.{kindOf, carriedOf}
-
--- the number that some bytes are, high byte first, behind the digits v
-unfoldable pub bigFrom : ℕ → List ℕ → ℕ
-bigFrom v [] = v
-bigFrom v (b ∷ bs) = bigFrom (v * 256 + b) bs
-
-abbrev pub bigAt : ℕ → ℕ → List ℕ → ℕ
-bigAt at n bs = bigFrom 0 (take n (drop at bs))
 
 -- kind; 1 exact or 0 loose; start and length of the first identifier and of the second; two numbers
 pub record Told : Type 0 where

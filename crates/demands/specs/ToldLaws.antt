@@ -1,15 +1,13 @@
 -- Nothing is lost in the 26 bytes of a reading.
 -- Assumes nothing.
-use Prim.Native.Nat.{ℕ, zero, suc, _+_, _*_, _/_, _%_, _^_, _<_, _≤_}
-use mathlib.Core.Path.{_≡_, refl, sym, ap, _∙_}
+use Prim.Native.Nat.{ℕ, _^_, _<_, _≤_}
+use mathlib.Core.Path.{_≡_, refl}
 use mathlib.Core.Bool.{Bool, cond}
 use mathlib.Core.List.{List, [], _∷_, _++_, append-assoc, append-nil}
-use native.Mathlib.Nat.{pow-suc}
 use native.Mathlib.Omega.{arith}
-use lib.ListN.{length, take, drop, length-append}
-use lib.Seq.{take-at, drop-at, drop-drop}
-use Rattle.text.specs.Number.{bigEndian}
-use Rattle.text.specs.NumberLaws.{length-big}
+use lib.ListN.{length, length-append}
+use Rattle.text.specs.Number.{bigEndian, bigAt}
+use Rattle.text.specs.NumberLaws.{length-big, big-at}
 use Rattle.path.specs.declared.Place.{Place}
 use Rattle.path.specs.declared.Path.{Path}
 use Rattle.path.specs.declared.Reading.the-variants.{Read}
@@ -18,33 +16,11 @@ use Rattle.path.specs.PlaceLaws.{read-lies}
 use Rattle.path.specs.Read.{placeBytes, readPath}
 use Rattle.path.specs.View.{kindOf, carriedOf}
 use Rattle.path.specs.BackLaws.{read-reads, read-short, read-valid}
-use Rattle.demands.specs.Told.{bigFrom, bigAt, Told, told, toldOf}
-
--- ---- numbers, high byte first
-big-append : (v : ℕ) (xs ys : List ℕ) → bigFrom v (xs ++ ys) ≡ bigFrom (bigFrom v xs) ys
-unfolding bigFrom
-big-append v [] ys = refl
-big-append v (x ∷ xs) ys = big-append (v * 256 + x) xs ys
-
-pub big-back : (n v : ℕ) → v < 256 ^ n → bigFrom 0 (bigEndian n v) ≡ v
-unfolding bigFrom bigEndian
-big-back zero v h = let z : 256 ^ 0 ≡ 1 = refl in omega (arith, h, z)
-big-back (suc n) v h =
-    big-append 0 (bigEndian n (v / 256)) (v % 256 ∷ [])
-    ∙ ap (λ (m : ℕ). m * 256 + v % 256) (big-back n (v / 256) (omega (arith, h, pow-suc 256 n)))
-    ∙ omega arith
+use Rattle.demands.specs.Told.{Told, told, toldOf}
 
 -- ---- the 26 bytes
 abbrev pub bytes26 : Path → Bool → List ℕ
 bytes26 p e = kindOf p ∷ cond e 1 0 ∷ (placeBytes (carriedOf p .first) ++ (placeBytes (carriedOf p .second) ++ (bigEndian 8 (carriedOf p .a) ++ bigEndian 8 (carriedOf p .b))))
-
--- a number of n bytes that stands behind others
-big-at : (pre post : List ℕ) (at n v : ℕ) (bs : List ℕ) → bs ≡ pre ++ (bigEndian n v ++ post) → length pre ≡ at → v < 256 ^ n → bigAt at n bs ≡ v
-big-at pre post at n v bs e l h =
-    ap (λ (x : List ℕ). bigFrom 0 (take n (drop at x))) e
-    ∙ ap (λ (x : List ℕ). bigFrom 0 (take n x)) (drop-at pre (bigEndian n v ++ post) at l)
-    ∙ ap (bigFrom 0) (take-at (bigEndian n v) post n (length-big n v))
-    ∙ big-back n v h
 
 module _ (t : List ℕ) (p : Path) (e : Bool) (h : readPath t ≡ Read p e) where
   c : Carried Place

@@ -8,14 +8,20 @@ use native.Mathlib.Omega.{arith}
 use lib.Dec.{eqb}
 use lib.ListN.{length, take, drop, getD, length-append, length-drop, List·getD-append, getD-replicate}
 use lib.Seq.{take-at, drop-at, drop-drop, length-take-le, take-add, take-suc, getD-take, getD-drop, getD-append-add}
+use Rattle.text.specs.Number.{bigAt}
+use Rattle.text.specs.NumberLaws.{big-none, big-more}
 use Rattle.text.specs.Part.{every}
 use Rattle.text.specs.Put.{put}
 use Rattle.keys.specs.Act.{Rec}
 use Rattle.form.specs.Form.{zeros, SlotOk}
 use Rattle.form.specs.FormLaws.{Lawful, length-zeros, all-zero, blank-zeros, zeros-blank}
 use Rattle.form.specs.MovesLaws.{over-join}
-use Rattle.form.specs.V1.{V1, Fit, padded, slot, header, recordOf, stored}
+use Rattle.form.specs.V1.{V1, Fit, padded, slot, header, countIn, recordOf, stored}
 use Rattle.form.specs.Tells.{Tells, tells-true, tells-false}
+
+-- the count, as the code reads it
+pub count-read : (b : List ℕ) → 8 ≤ length b → bigAt 5 2 b ≡ countIn b
+count-read b h = big-more 0 2 1 5 b refl (omega arith) ∙ big-more (0 * 256 + getD b 5 0) 1 0 6 b refl (omega arith) ∙ big-none ((0 * 256 + getD b 5 0) * 256 + getD b 6 0) 0 7 b refl ∙ omega arith
 
 pub length-padded : (k : List ℕ) → length k ≤ 255 → length (padded k) ≡ 255
 unfolding padded

@@ -7,15 +7,12 @@ use native.Mathlib.Decide.{decLt}
 use native.Mathlib.Omega.{arith}
 use borrow.Author.Count.{below-more}
 use lib.ListN.{length, getD}
+use Rattle.text.specs.Number.{Bytes}
 use Rattle.text.specs.Order.{cmp}
 use Rattle.text.specs.OrderLaws.{Tri, below, equal, above, tri}
 use Rattle.form.specs.V1.{stored}
 use Rattle.form.specs.Compare.{code, Agree, Alike, highSum, lowSum}
 use Rattle.form.specs.CompareLaws.{length-stored, getD-stored, agree-rest, alike-agree, out-lt, out-gt}
-
--- each is a byte
-abbrev pub Bytes : List ℕ → Type 0
-Bytes s = (i : ℕ) → getD s i 0 < 256
 
 -- the first n digits as a number to base 256, the first highest
 unfoldable pub number : (ℕ → ℕ) → ℕ → ℕ

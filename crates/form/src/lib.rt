@@ -222,7 +222,7 @@ pub fn count_of(book: &[u8]) -> usize
     requires { do ⌜ 8 ≤ (← ⟦book.len()⟧) ⌝ }
     ensures { λ r. ⌜ r ≡ countIn (now (book .entry)) ⌝ }
 {
-    256 * wide(book[5]) + wide(book[6])
+    text::read_big_endian(book, 5, 2) as usize
 }
 
 // The key in the slot at `at`, as a part of the book.

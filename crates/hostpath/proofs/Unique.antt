@@ -24,6 +24,9 @@ use Rattle.hostpath.proofs.hp_key.Reads as hp-key
 use Rattle.hostpath.proofs.hp_render.Reads as hp-render
 use Rattle.hostpath.proofs.hp_is_provable.Reads as hp-is-provable
 use Rattle.hostpath.proofs.hp_iteration_key.Reads as hp-iteration-key
+use Rattle.hostpath.proofs.hp_read_iteration_key.Reads as hp-read-iteration-key
+use Rattle.hostpath.proofs.hp_first_above.Reads as hp-first-above
+use Rattle.hostpath.proofs.hp_last_below.Reads as hp-last-below
 use Rattle.hostpath.proofs.hp_client_state_prefix.Reads as hp-client-state-prefix
 use Rattle.hostpath.proofs.hp_client_state_leaf.Reads as hp-client-state-leaf
 use Rattle.hostpath.proofs.hp_consensus_state_parent.Reads as hp-consensus-state-parent
@@ -91,6 +94,15 @@ one-hp-is-provable κs a r₁ r₂ s₁ s₂ p q = p ∙ sym q
 
 pub one-hp-iteration-key : OneWith hp-iteration-key.Post (λ κs s. now (s .1 .1 .0))
 one-hp-iteration-key κs a r₁ r₂ s₁ s₂ p q = agree p q
+
+pub one-hp-read-iteration-key : One hp-read-iteration-key.Post
+one-hp-read-iteration-key κs a r₁ r₂ s₁ s₂ p q = p ∙ sym q
+
+pub one-hp-first-above : One hp-first-above.Post
+one-hp-first-above κs a r₁ r₂ s₁ s₂ p q = p ∙ sym q
+
+pub one-hp-last-below : One hp-last-below.Post
+one-hp-last-below κs a r₁ r₂ s₁ s₂ p q = p ∙ sym q
 
 pub one-hp-client-state-prefix : OneWith hp-client-state-prefix.Post (λ κs s. now (s .0))
 one-hp-client-state-prefix κs a r₁ r₂ s₁ s₂ p q = agree p q

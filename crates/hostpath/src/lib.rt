@@ -13,13 +13,16 @@
 // BAD_BOOK: the buffer holds no book: make a new one in it, or lend the bytes that a book left
 // KEY_TOO_LONG: the path's key has more than the 255 bytes that a book keeps: shorten its upgrade path
 // FULL: every slot of the book holds another key: remove a record, or take a book of more slots
-// ABSENT: the book holds no such record: ask for the key of the text to see which record was looked for
+// ABSENT: the book holds no such record, or the block no such key: ask for the key of the text to see which record was looked for
 // BAD_SEGMENT: the upgrade path has a slash: give it as one piece, such as upgradedIBCState
 // BAD_KIND: the kind is not a number from 1 to 19: take it from the table of kinds
-use book::oldest::Pair;
+// BAD_ITER_KEY: the bytes are not iterateConsensusStates and 16 more, 38 in all: give one whole iteration key
+// BAD_BLOCK: the block is not whole iteration keys that rise, no two the same: put them in order and take out what is no key
 use identifiers::channel_id::write_channel_id;
 use identifiers::client_id::write_client_id;
 use identifiers::validate;
+use iteration::Revision;
+use path::Pair;
 use path::RevisionHeight;
 use path::RevisionNumber;
 use path::provable::Flag;
@@ -29,13 +32,15 @@ ghost use mathlib.Core.List.{_∷_, []};
 ghost use lib.ListN.{length};
 ghost use Rattle.text.specs.Bytes.{bytes};
 ghost use Rattle.text.specs.Put.{text, answer, left};
+ghost use Rattle.text.specs.Refusal.{badIterKey};
 ghost use Rattle.identifiers.specs.Check.{charsOf, lengthOf, prefixLengthOf, namedIndexOf, checkOf, client, clientType, connection, port, channel};
 ghost use Rattle.identifiers.specs.Owned.{newClient, newChannel};
 ghost use Rattle.path.specs.Kinds.{word, carried};
 ghost use Rattle.path.specs.Parents.{textOf, consensusParent, consensusLeaf, packetsPath};
 ghost use Rattle.path.specs.Read.{readingBytes, keyOf, renderOf};
 ghost use Rattle.path.specs.View.{provableFlag};
-ghost use Rattle.render.specs.Iteration.{iterationKey};
+ghost use Rattle.iteration.specs.Block.{blockOf, firstAbove, lastBelow, scanned};
+ghost use Rattle.iteration.specs.Key.{iterationKey, revision, keyIn, answered, pairOf};
 ghost use Rattle.book.specs.Book.{Current};
 ghost use Rattle.book.specs.Outcome.{Wrote, Removed, Looked, Made};
 ghost use Rattle.book.specs.Oldest.{Oldest};
@@ -186,7 +191,40 @@ pub extern "C" fn hp_iteration_key(number: u64, height: u64, out: &mut [u8]) -> 
     ensures { λ r. ⌜ r ≡ answer (text (iterationKey number height)) (length (now (out .entry))) ⌝ }
     ensures { λ _. ⌜ now (out .exit) ≡ left (text (iterationKey number height)) (now (out .entry)) ⌝ }
 {
-    render::iteration::iteration_key(RevisionNumber(number), RevisionHeight(height), out)
+    iteration::iteration_key(RevisionNumber(number), RevisionHeight(height), out)
+}
+
+// The revision number and height of an iteration key: 15.
+#[no_mangle]
+pub extern "C" fn hp_read_iteration_key(key: &[u8]) -> Pair
+    ensures { λ r. ⌜ r ≡ pairOf (answered badIterKey (keyIn (now (key .entry)))) ⌝ }
+{
+    iteration::pair_of(iteration::read_iteration_key(key))
+}
+
+// The first key above number and height in a block of iteration keys that stand one after the other and rise. 16 for a
+// length that is no multiple of 38, for a piece that is no key, and for keys out of order or equal: 16, 12.
+#[no_mangle]
+pub extern "C" fn hp_first_above(block: &[u8], number: u64, height: u64) -> Pair
+    ensures { λ r. ⌜ r ≡ pairOf (scanned (firstAbove (revision number height)) (blockOf (now (block .entry)))) ⌝ }
+{
+    let pair = Revision {
+        number: RevisionNumber(number),
+        height: RevisionHeight(height),
+    };
+    iteration::pair_of(iteration::block::first_above(block, pair))
+}
+
+// The last key below number and height in such a block: 16, 12.
+#[no_mangle]
+pub extern "C" fn hp_last_below(block: &[u8], number: u64, height: u64) -> Pair
+    ensures { λ r. ⌜ r ≡ pairOf (scanned (lastBelow (revision number height)) (blockOf (now (block .entry)))) ⌝ }
+{
+    let pair = Revision {
+        number: RevisionNumber(number),
+        height: RevisionHeight(height),
+    };
+    iteration::pair_of(iteration::block::last_below(block, pair))
 }
 
 // Texts above and below a path.

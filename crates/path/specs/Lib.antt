@@ -7,6 +7,7 @@ pub mod Kinds
 pub mod Length
 pub mod LengthLaws
 pub mod MeasureLaws
+pub mod Pair
 pub mod Parents
 pub mod PlaceLaws
 pub mod Read

@@ -24,6 +24,14 @@ pub struct RevisionHeight(pub u64);
 
 pub struct Sequence(pub u64);
 
+// A revision number and height as they cross to C: 0 and the two, or a refusal and zeros.
+#[repr(C)]
+pub struct Pair {
+    pub refusal: u8,
+    pub number: u64,
+    pub height: u64,
+}
+
 pub struct NoPlaces {}
 
 pub struct ClientPlaces {

@@ -5,7 +5,6 @@ use Rattle.text.specs.Outcome.{OneWith}
 use Rattle.text.specs.OutcomeLaws.{agree}
 use Rattle.render.proofs.render.Reads as render
 use Rattle.render.proofs.fit.fit_kind.Reads as fit-kind
-use Rattle.render.proofs.iteration.iteration_key.Reads as iteration-key
 use Rattle.render.proofs.texts.client_state_prefix.Reads as client-state-prefix
 use Rattle.render.proofs.texts.client_state_leaf.Reads as client-state-leaf
 use Rattle.render.proofs.texts.consensus_state_parent.Reads as consensus-state-parent
@@ -26,9 +25,6 @@ one-render κs a r₁ r₂ s₁ s₂ p q = agree p q
 
 pub one-fit-kind : OneWith fit-kind.Post (λ κs s. now (s .0))
 one-fit-kind κs a r₁ r₂ s₁ s₂ p q = agree p q
-
-pub one-iteration-key : OneWith iteration-key.Post (λ κs s. now (s .1 .1 .0))
-one-iteration-key κs a r₁ r₂ s₁ s₂ p q = agree p q
 
 pub one-client-state-prefix : OneWith client-state-prefix.Post (λ κs s. now (s .0))
 one-client-state-prefix κs a r₁ r₂ s₁ s₂ p q = agree p q

@@ -1,6 +1,4 @@
 -- What the contracts of `render` cite. Files that end in `Laws` hold consequences, which a reader may skip.
-pub mod Iteration
-pub mod IterationLaws
 pub mod ParentLaws
 pub mod Render
 pub mod RenderLaws

@@ -1,6 +1,5 @@
 // Rendering: checks of the identifiers, the room, then the writers.
 pub mod fit;
-pub mod iteration;
 pub mod texts;
 
 use path::name::Name;

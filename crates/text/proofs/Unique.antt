@@ -8,6 +8,7 @@ use Rattle.text.proofs.read_number.Reads as read-number
 use Rattle.text.proofs.number_width.Reads as number-width
 use Rattle.text.proofs.write_number.Reads as write-number
 use Rattle.text.proofs.write_big_endian.Reads as write-big-endian
+use Rattle.text.proofs.read_big_endian.Reads as read-big-endian
 use Rattle.text.proofs.part.larger.Reads as larger
 use Rattle.text.proofs.part.largest.Reads as largest
 use Rattle.text.proofs.part.all_ascii.Reads as all-ascii
@@ -28,6 +29,9 @@ one-write-number κs a r₁ r₂ s₁ s₂ p q = agree p q
 
 pub one-write-big-endian : OneWith write-big-endian.Post (λ κs s. now (s .0))
 one-write-big-endian κs a r₁ r₂ s₁ s₂ p q = agree p q
+
+pub one-read-big-endian : One read-big-endian.Post
+one-read-big-endian κs a r₁ r₂ s₁ s₂ p q = p ∙ sym q
 
 pub one-larger : One larger.Post
 one-larger κs a r₁ r₂ s₁ s₂ p q = p ∙ sym q

@@ -9,11 +9,11 @@ use native.Mathlib.Numerals.{add-one}
 use native.Mathlib.Omega.{arith}
 use mathlib.Core.List.{List, [], _∷_, _++_, append-assoc, append-nil}
 use lib.Dec.{ltb, leb, eqb}
-use lib.ListN.{length, getD, length-append, List·getD-append}
-use lib.Seq.{getD-at}
+use lib.ListN.{length, take, drop, getD, length-append, List·getD-append}
+use lib.Seq.{getD-at, drop-cons, take-at, drop-at}
 use borrow.Author.Tests.{lt-ltb, le-ltb, le-leb, lt-leb, ne-eqb, ltb-true, leb-true}
 use Rattle.text.specs.PartLaws.{and-left, and-right}
-use Rattle.text.specs.Number.{numeralOf, digitsAt, digitsFrom, isDigit, withDigit, width, widthBy, digits, decimal, bigEndian, lowBytes}
+use Rattle.text.specs.Number.{numeralOf, digitsAt, digitsFrom, isDigit, withDigit, width, widthBy, digits, decimal, bigEndian, lowBytes, bigFrom, bigAt, Bytes}
 use Rattle.text.specs.declared.Numeral.{Numeral}
 use Rattle.text.specs.declared.Numeral.the-variants.{Value, NoDigits, NotADigit, TooLarge}
 
@@ -225,3 +225,61 @@ pub length-low : (n v : ℕ) → length (lowBytes n v) ≡ n
 unfolding lowBytes
 length-low zero v = refl
 length-low (suc n) v = rw (length-low n (v / 256))
+
+-- ---- and read back: the bytes of a number are that number
+big-append : (v : ℕ) (xs ys : List ℕ) → bigFrom v (xs ++ ys) ≡ bigFrom (bigFrom v xs) ys
+unfolding bigFrom
+big-append v [] ys = refl
+big-append v (x ∷ xs) ys = big-append (v * 256 + x) xs ys
+
+pub big-back : (n v : ℕ) → v < 256 ^ n → bigFrom 0 (bigEndian n v) ≡ v
+unfolding bigFrom bigEndian
+big-back zero v h = let z : 256 ^ 0 ≡ 1 = refl in omega (arith, h, z)
+big-back (suc n) v h =
+    big-append 0 (bigEndian n (v / 256)) (v % 256 ∷ [])
+    ∙ ap (λ (m : ℕ). m * 256 + v % 256) (big-back n (v / 256) (omega (arith, h, pow-suc 256 n)))
+    ∙ omega arith
+
+-- the same of a number of n bytes that stands behind others
+pub big-at : (pre post : List ℕ) (at n v : ℕ) (bs : List ℕ) → bs ≡ pre ++ (bigEndian n v ++ post) → length pre ≡ at → v < 256 ^ n → bigAt at n bs ≡ v
+big-at pre post at n v bs e l h =
+    ap (λ (x : List ℕ). bigFrom 0 (take n (drop at x))) e
+    ∙ ap (λ (x : List ℕ). bigFrom 0 (take n x)) (drop-at pre (bigEndian n v ++ post) at l)
+    ∙ ap (bigFrom 0) (take-at (bigEndian n v) post n (length-big n v))
+    ∙ big-back n v h
+
+-- the number that bytes are has these bytes
+big-after : (k v : ℕ) (s : List ℕ) → Bytes s → bigEndian (k + length s) (bigFrom v s) ≡ bigEndian k v ++ s
+unfolding bigFrom bigEndian
+big-after k v [] h = rw (add-zero, append-nil)
+big-after k v (b ∷ s) h =
+    let byte : b < 256 = h 0 in
+    let low : (v * 256 + b) % 256 ≡ b = omega arith in
+    let high : (v * 256 + b) / 256 ≡ v = omega arith in
+    let more : suc k + length s ≡ k + suc (length s) = omega arith in
+    rw (more, low, high, append-assoc) at (big-after (suc k) (v * 256 + b) s (λ i. h (suc i)))
+
+pub big-forth : (s : List ℕ) → Bytes s → bigEndian (length s) (bigFrom 0 s) ≡ s
+unfolding bigEndian
+big-forth s h = rw zero-add at (big-after 0 0 s h)
+
+-- and fits them
+big-fits : (k v : ℕ) (s : List ℕ) → Bytes s → v < 256 ^ k → bigFrom v s < 256 ^ (k + length s)
+unfolding bigFrom
+big-fits k v [] h l = rw add-zero l
+big-fits k v (b ∷ s) h l =
+    let byte : b < 256 = h 0 in
+    let more : suc k + length s ≡ k + suc (length s) = omega arith in
+    rw more at (big-fits (suc k) (v * 256 + b) s (λ i. h (suc i)) (rw pow-suc (omega arith)))
+
+pub big-below : (s : List ℕ) → Bytes s → bigFrom 0 s < 256 ^ length s
+big-below s h = rw zero-add at (big-fits 0 0 s h (omega arith))
+
+-- one turn of a loop that reads n bytes from place p on
+pub big-none : (v n p : ℕ) (s : List ℕ) → n ≡ 0 → bigFrom v (take n (drop p s)) ≡ v
+unfolding bigFrom
+big-none v n p s e = rw e
+
+pub big-more : (v n m p : ℕ) (s : List ℕ) → n ≡ suc m → p < length s → bigFrom v (take n (drop p s)) ≡ bigFrom (v * 256 + getD s p 0) (take m (drop (p + 1) s))
+unfolding bigFrom
+big-more v n m p s e h = rw (e, drop-cons s p 0 h, add-one)

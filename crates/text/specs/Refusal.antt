@@ -57,3 +57,11 @@ badSegment = 13
 -- a kind that is not from 1 to 19
 abbrev pub badKind : ℕ
 badKind = 14
+
+-- a text that is no iteration key
+abbrev pub badIterKey : ℕ
+badIterKey = 15
+
+-- bytes that are not iteration keys one after the other, each above the one before it
+abbrev pub badBlock : ℕ
+badBlock = 16

@@ -7,7 +7,7 @@ ghost use mathlib.Core.Path.{_≡_};
 ghost use mathlib.Core.Bool.{true, false};
 ghost use Prim.Native.Nat.{_+_, _*_, _≤_, _<_};
 ghost use lib.ListN.{length, drop};
-ghost use Rattle.text.specs.Number.{numeralOf, digitsAt, width, decimal, bigEndian, lowBytes};
+ghost use Rattle.text.specs.Number.{numeralOf, digitsAt, width, decimal, bigEndian, lowBytes, bigAt};
 ghost use Rattle.text.specs.Put.{put};
 
 // What a text says as a number. A fault names its place in the text.
@@ -160,4 +160,25 @@ pub fn write_big_endian(out: &mut [u8], at: usize, v: u64, width: usize) -> usiz
         m = m / 256;
     }
     at + width
+}
+
+// A byte as a wider number.
+fn wide(b: u8) -> u64
+    ensures { λ r. ⌜ r ≡ b ⌝ }
+{
+    b as u64
+}
+
+// The number that `width` bytes from s[at] on are, high byte first.
+pub fn read_big_endian(s: &[u8], at: usize, width: usize) -> u64
+    requires { ⌜ (at + width ≤ length (now s)) × (width ≤ 8) ⌝ }
+    ensures { λ r. ⌜ r ≡ bigAt at width (now (s .entry)) ⌝ }
+{
+    let mut v: u64 = 0;
+    let mut i: usize = 0;
+    while i < width {
+        v = v * 256 + wide(s[at + i]);
+        i += 1;
+    }
+    v
 }

@@ -28,3 +28,7 @@ pub const ABSENT: u8 = 12;
 pub const BAD_SEGMENT: u8 = 13;
 
 pub const BAD_KIND: u8 = 14;
+
+pub const BAD_ITER_KEY: u8 = 15;
+
+pub const BAD_BLOCK: u8 = 16;

@@ -1,6 +1,7 @@
 //! Three voices on the same questions: the library over its C interface, the original as it runs,
 //! and the model of document 01. The library equals the model always; the original equals it
-//! wherever docs/DIFFERENCES.md lists no difference. Of books the original knows nothing.
+//! wherever docs/DIFFERENCES.md lists no difference. Of books and of blocks of keys the original
+//! knows nothing.
 pub mod batch;
 pub mod beside;
 pub mod books;
@@ -8,6 +9,7 @@ pub mod call;
 #[rustfmt::skip]
 pub mod dispatch;
 pub mod identifiers;
+pub mod iteration;
 pub mod library;
 pub mod no_books;
 pub mod original;
@@ -46,6 +48,7 @@ pub const FAMILIES: &[Sets] = &[
     paths::SETS,
     typed::SETS,
     renderings::SETS,
+    iteration::SETS,
     books::SETS,
     no_books::SETS,
 ];

@@ -20,6 +20,9 @@ const PANICS: &[u8] = b"clients";
 pub fn says(call: &Call) -> Theirs<Text> {
     match call.function {
         function if function.has_book() => Theirs::Silent("no book"),
+        Function::ReadIterationKey | Function::FirstAbove | Function::LastBelow => {
+            Theirs::Silent("no reader")
+        }
         Function::Read => reads(call.texts[0], |path, _| Bytes(vec![terms::parts(path).kind])),
         Function::Key => reads(call.texts[0], |_, key| Bytes(key.into())),
         Function::Render => renders(call),

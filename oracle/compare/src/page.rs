@@ -190,7 +190,7 @@ impl Default for Page {
     fn default() -> Self {
         let said = |cell: &'static str| match cell {
             "panics" => Ok(PANICKED),
-            "no str" | "no kind" | "no book" => Err(cell),
+            "no str" | "no kind" | "no book" | "no reader" => Err(cell),
             cell => Ok(cell.parse().unwrap_or(0)),
         };
         let mut page = Self(BTreeMap::new());

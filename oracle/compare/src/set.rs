@@ -51,7 +51,7 @@ pub struct Set<'a> {
     last: u64,
     shown: Vec<String>,
     listed: [u64; REASONS.len()],
-    /// How often each refusal, or 0, is the answer of a call on a book.
+    /// How often each refusal, or 0, is the answer of a call that the original does not know.
     answers: [u64; 256],
 }
 
@@ -99,6 +99,17 @@ impl<'a> Set<'a> {
         self.checks += 1;
         self.ask(call, 0, returned, b"");
         self.agree(theirs, &model.map(|value| Bytes(vec![value.into()])), call);
+    }
+
+    /// A check of a call whose answer is a pair of numbers, of which the original knows nothing.
+    pub fn pair(&mut self, call: Call, model: Result<(u64, u64), u8>) {
+        let returned = match model {
+            Ok((a, b)) => Returned { refusal: 0, numbers: [a, b] },
+            Err(refusal) => Returned::new(refusal, 0),
+        };
+        self.checks += 1;
+        self.answers[usize::from(returned.refusal)] += 1;
+        self.ask(call, 0, returned, b"");
     }
 
     /// A check of a call that writes a text, with buffers of the sizes that tell.

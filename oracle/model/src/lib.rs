@@ -1,7 +1,8 @@
-//! Document 01 as a program, written from the document and from neither the original nor the port,
+//! Document 01 as a program, with the requests that landed, written from the documents and from neither the original nor the port,
 //! and pools of texts to try all three on. Plain and slow on purpose.
 pub mod book;
 pub mod identifier;
+pub mod iteration;
 pub mod path;
 pub mod pool;
 pub mod random;
@@ -25,6 +26,8 @@ pub const FULL: Refusal = 11;
 pub const ABSENT: Refusal = 12;
 pub const BAD_SEGMENT: Refusal = 13;
 pub const BAD_KIND: Refusal = 14;
+pub const BAD_ITER_KEY: Refusal = 15;
+pub const BAD_BLOCK: Refusal = 16;
 
 /// A number text: an optional `+`, then digits, at most 18446744073709551615.
 pub fn number(text: &[u8]) -> Option<u64> {

@@ -1,5 +1,5 @@
 //! The record book in a lent buffer.
-use crate::{done, raw, Refusal};
+use crate::{done, pair, raw, Refusal};
 
 /// The bytes before a book's slots.
 pub const BOOK_HEAD: usize = 8;
@@ -72,8 +72,6 @@ impl<'a> Book<'a> {
     /// Revision number and height of a client's first consensus state in byte order of key, in which
     /// 10 stands before 9. 9, the client's 2, 5, 6; then 12.
     pub fn oldest(&self, client_id: &[u8]) -> Result<(u64, u64), Refusal> {
-        let answer = raw::book_oldest(self.0, client_id);
-        done(answer.refusal)?;
-        Ok((answer.number, answer.height))
+        pair(raw::book_oldest(self.0, client_id))
     }
 }

@@ -38,6 +38,7 @@
 
 mod book;
 mod identifiers;
+mod iteration;
 mod path;
 #[rustfmt::skip]
 pub mod raw;
@@ -47,6 +48,7 @@ mod texts;
 
 pub use book::*;
 pub use identifiers::*;
+pub use iteration::*;
 pub use path::*;
 pub use refusal::Refusal;
 pub use texts::*;
@@ -61,6 +63,12 @@ fn done(number: u8) -> Result<(), Refusal> {
         None if number == 0 => Ok(()),
         None => unreachable!("refusal {number}: this crate and the library are of two versions"),
     }
+}
+
+/// A revision number and height.
+fn pair(answer: raw::Pair) -> Result<(u64, u64), Refusal> {
+    done(answer.refusal)?;
+    Ok((answer.number, answer.height))
 }
 
 /// What a call wrote into a buffer.

@@ -79,6 +79,12 @@ pub mod c {
         pub fn hp_is_provable(kind: u8) -> Flag;
         /// [`iteration_key`] on pointers.
         pub fn hp_iteration_key(number: u64, height: u64, out: *mut u8, out_len: usize) -> Written;
+        /// [`read_iteration_key`] on pointers.
+        pub fn hp_read_iteration_key(key: *const u8, key_len: usize) -> Pair;
+        /// [`first_above`] on pointers.
+        pub fn hp_first_above(block: *const u8, block_len: usize, number: u64, height: u64) -> Pair;
+        /// [`last_below`] on pointers.
+        pub fn hp_last_below(block: *const u8, block_len: usize, number: u64, height: u64) -> Pair;
         /// [`client_state_prefix`] on pointers.
         pub fn hp_client_state_prefix(out: *mut u8, out_len: usize) -> Written;
         /// [`client_state_leaf`] on pointers.
@@ -218,6 +224,25 @@ pub fn is_provable(kind: u8) -> Flag {
 pub fn iteration_key(number: u64, height: u64, out: &mut [u8]) -> Written {
     // SAFETY: each pointer and count are those of one live slice.
     unsafe { c::hp_iteration_key(number, height, out.as_mut_ptr(), out.len()) }
+}
+
+/// The revision number and height of an iteration key: 15.
+pub fn read_iteration_key(key: &[u8]) -> Pair {
+    // SAFETY: each pointer and count are those of one live slice.
+    unsafe { c::hp_read_iteration_key(key.as_ptr(), key.len()) }
+}
+
+/// The first key above number and height in a block of iteration keys that stand one after the other and rise. 16 for a
+/// length that is no multiple of 38, for a piece that is no key, and for keys out of order or equal: 16, 12.
+pub fn first_above(block: &[u8], number: u64, height: u64) -> Pair {
+    // SAFETY: each pointer and count are those of one live slice.
+    unsafe { c::hp_first_above(block.as_ptr(), block.len(), number, height) }
+}
+
+/// The last key below number and height in such a block: 16, 12.
+pub fn last_below(block: &[u8], number: u64, height: u64) -> Pair {
+    // SAFETY: each pointer and count are those of one live slice.
+    unsafe { c::hp_last_below(block.as_ptr(), block.len(), number, height) }
 }
 
 /// `clients`: 4.

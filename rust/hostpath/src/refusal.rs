@@ -29,12 +29,16 @@ pub enum Refusal {
     KeyTooLong = 10,
     /// 11: every slot of the book holds another key: remove a record, or take a book of more slots.
     Full = 11,
-    /// 12: the book holds no such record: ask for the key of the text to see which record was looked for.
+    /// 12: the book holds no such record, or the block no such key: ask for the key of the text to see which record was looked for.
     Absent = 12,
     /// 13: the upgrade path has a slash: give it as one piece, such as upgradedIBCState.
     BadSegment = 13,
     /// 14: the kind is not a number from 1 to 19: take it from the table of kinds.
     BadKind = 14,
+    /// 15: the bytes are not iterateConsensusStates and 16 more, 38 in all: give one whole iteration key.
+    BadIterKey = 15,
+    /// 16: the block is not whole iteration keys that rise, no two the same: put them in order and take out what is no key.
+    BadBlock = 16,
     // Above, made by bin/interface.
 }
 
@@ -57,6 +61,8 @@ impl Refusal {
             12 => Self::Absent,
             13 => Self::BadSegment,
             14 => Self::BadKind,
+            15 => Self::BadIterKey,
+            16 => Self::BadBlock,
             // Above, made by bin/interface.
             _ => return None,
         })
@@ -82,9 +88,11 @@ impl Refusal {
             Self::BadBook => "the buffer holds no book: make a new one in it, or lend the bytes that a book left",
             Self::KeyTooLong => "the path's key has more than the 255 bytes that a book keeps: shorten its upgrade path",
             Self::Full => "every slot of the book holds another key: remove a record, or take a book of more slots",
-            Self::Absent => "the book holds no such record: ask for the key of the text to see which record was looked for",
+            Self::Absent => "the book holds no such record, or the block no such key: ask for the key of the text to see which record was looked for",
             Self::BadSegment => "the upgrade path has a slash: give it as one piece, such as upgradedIBCState",
             Self::BadKind => "the kind is not a number from 1 to 19: take it from the table of kinds",
+            Self::BadIterKey => "the bytes are not iterateConsensusStates and 16 more, 38 in all: give one whole iteration key",
+            Self::BadBlock => "the block is not whole iteration keys that rise, no two the same: put them in order and take out what is no key",
             // Above, made by bin/interface.
         }
     }

@@ -1,41 +1,5 @@
-//! Texts above and below a path, and iteration keys.
-use crate::{done, raw, written, ChannelId, ClientId, PortId, Refusal};
-
-/// An iteration key's bytes.
-pub const ITERATION_KEY: usize = 38;
-
-/// `iterateConsensusStates`, a revision number and a revision height: keys compare as the pairs of
-/// numbers compare.
-///
-/// ```
-/// use hostpath::{IterationKey, Refusal};
-///
-/// assert!(IterationKey::new(7, 2)? < IterationKey::new(10, 2)?);
-/// assert_eq!(IterationKey::new(7, 2)?.as_bytes()[..22], *b"iterateConsensusStates");
-/// # Ok::<(), Refusal>(())
-/// ```
-#[derive(Clone, Copy, Debug, PartialEq, Eq, PartialOrd, Ord, Hash)]
-pub struct IterationKey([u8; ITERATION_KEY]);
-
-impl IterationKey {
-    /// The key of a revision number and height; it has room, so nothing is refused.
-    pub fn new(revision_number: u64, revision_height: u64) -> Result<Self, Refusal> {
-        let mut key = [0; ITERATION_KEY];
-        done(raw::iteration_key(revision_number, revision_height, &mut key).refusal)?;
-        Ok(Self(key))
-    }
-
-    /// Its bytes.
-    pub const fn as_bytes(&self) -> &[u8; ITERATION_KEY] {
-        &self.0
-    }
-}
-
-impl AsRef<[u8]> for IterationKey {
-    fn as_ref(&self) -> &[u8] {
-        &self.0
-    }
-}
+//! Texts above and below a path.
+use crate::{raw, written, ChannelId, ClientId, PortId, Refusal};
 
 /// Writes `clients`. 4.
 pub fn client_state_prefix(out: &mut [u8]) -> Result<&str, Refusal> {

@@ -40,6 +40,17 @@ fn paths() {
 }
 
 #[test]
+fn iteration_keys() {
+    let pair = |refusal| Pair { refusal, number: 0, height: 0 };
+    unsafe {
+        assert_eq!(hp_iteration_key(7, 2, null_mut(), 0), refused(4));
+        assert_eq!(hp_read_iteration_key(null(), 0), pair(15));
+        assert_eq!(hp_first_above(null(), 0, 0, 0), pair(12));
+        assert_eq!(hp_last_below(null(), 0, u64::MAX, u64::MAX), pair(12));
+    }
+}
+
+#[test]
 fn books() {
     let (port, size) = (PORT.as_ptr(), PORT.len());
     let mut out = [0; BOOK_VALUE];

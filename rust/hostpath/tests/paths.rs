@@ -83,7 +83,7 @@ fn refusals() {
     assert_eq!((all[0], Refusal::of(0)), (Refusal::TooLong, None));
     assert_eq!(
         Refusal::Absent.to_string(),
-        "refusal 12: the book holds no such record: ask for the key of the text to see which record \
-         was looked for"
+        "refusal 12: the book holds no such record, or the block no such key: ask for the key of the \
+         text to see which record was looked for"
     );
 }

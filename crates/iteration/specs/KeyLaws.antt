@@ -2,7 +2,7 @@
 -- Assumes nothing.
 use mathlib.Core.Path.{_≡_, refl, sym, _∙_}
 use mathlib.Core.List.{[], _∷_, _++_}
-use Prim.Native.Nat.{ℕ, zero, suc, _+_, _/_, _%_, _^_, _<_, compare, Ordering, Ordering·lt, Ordering·eq, Ordering·gt}
+use Prim.Native.Nat.{ℕ, zero, suc, _/_, _%_, _^_, _<_, compare, Ordering, Ordering·lt, Ordering·eq, Ordering·gt}
 use native.Mathlib.Nat.{pow-suc}
 use native.Mathlib.Omega.{arith}
 use lib.ListN.{length, length-append}
@@ -11,7 +11,7 @@ use Rattle.text.specs.Order.{then, cmp}
 use Rattle.text.specs.OrderLaws.{compare-lt, compare-gt, compare-same, Tri, below, equal, above, tri, cmp-self, cmp-append}
 use Rattle.text.specs.Number.{bigEndian}
 use Rattle.text.specs.NumberLaws.{length-big}
-use Rattle.render.specs.Iteration.{iterationKey}
+use Rattle.iteration.specs.Key.{iterationKey}
 
 -- a number is compared by its high part first
 digits-compare : (x y : ℕ) → then (compare (x / 256) (y / 256)) (compare (x % 256) (y % 256)) ≡ compare x y

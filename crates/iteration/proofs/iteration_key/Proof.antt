@@ -3,12 +3,12 @@ use Rattle.text.specs.Number.{bigEndian}
 use Rattle.text.specs.NumberLaws.{length-big}
 use Rattle.text.specs.Put.{Wrote}
 use Rattle.text.specs.PutLaws.{both, gives-short, gives-text}
-use Rattle.render.specs.Iteration.{iterationKey}
-use Rattle.render.specs.IterationLaws.{key-length}
+use Rattle.iteration.specs.Key.{iterationKey}
+use Rattle.iteration.specs.KeyLaws.{key-length}
 use native.Mathlib.Omega.{arith}
 use borrow.Author.Needs.{needs}
-use Rattle.render.proofs.iteration.iteration_key.Statement.{statement}
-use Rattle.render.proofs.iteration.iteration_key.Tie as tie
+use Rattle.iteration.proofs.iteration_key.Statement.{statement}
+use Rattle.iteration.proofs.iteration_key.Tie as tie
 
 returns : tie.Need-returns
 returns c =
