@@ -9,7 +9,7 @@ use borrow.Author.Needs.{needs}
 use lib.ListN.{take, drop}
 use Rattle.text.specs.Number.{bigFrom, bigAt}
 use Rattle.text.specs.NumberLaws.{big-none, big-more}
-use Rattle.text.proofs.Steps.{turn-room}
+use Rattle.text.specs.WordLaws.{byte-room}
 use Rattle.text.proofs.read_big_endian.Statement.{statement}
 use Rattle.text.proofs.read_big_endian.Tie as tie
 
@@ -27,13 +27,13 @@ loop-holds c =
     (search needs, rw (add-zero, whole))
 
 mul-v : tie.Need-mul-v Inv-loop μ-loop
-mul-v c = let l = c .before .loop in let small = turn-room (l .i) (l .v) (omega arith) (l .inv .0 .1) in search needs
+mul-v c = let l = c .before .loop in let small = byte-room (l .i) (l .v) (omega arith) (l .inv .0 .1) in search needs
 
 add-v : tie.Need-add-v Inv-loop μ-loop
 add-v c =
     let l = c .before .before .before .loop in
     let x = c .before .before .before .before .before .args in
-    let small = turn-room (l .i) (l .v) (omega arith) (l .inv .0 .1) in
+    let small = byte-room (l .i) (l .v) (omega arith) (l .inv .0 .1) in
     omega (arith, c .before .shared-slice-known2 .given (x .at + l .i))
 
 loop-again : tie.Need-loop-again Inv-loop μ-loop
