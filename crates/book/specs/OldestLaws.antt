@@ -4,6 +4,7 @@ use mathlib.Core.Path.{_≡_, refl, sym, ap, _∙_}
 use mathlib.Core.Bool.{Bool, true, false, cond, _&&_}
 use mathlib.Core.List.{List, [], _∷_, _++_, append-assoc}
 use mathlib.Core.Option.{some}
+use mathlib.Core.Logic.{_⊎_, inl, inr, ⊎-elim}
 use Prim.Native.Nat.{ℕ, zero, suc, _+_, _*_, _<_, _≤_, compare, Ordering, Ordering·lt, Ordering·eq, Ordering·gt}
 use native.Mathlib.Nat.{zero-add, suc-add}
 use native.Mathlib.Decide.{decLt}
@@ -274,6 +275,78 @@ module _ (F : Form) (L : Lawful F) (b : List ℕ) (n : ℕ) (h : Counts F b n) (
             let o : length s ≤ length s = omega arith in
             let none : oldestState client s ≡ Nothing = skip-none client s (length s) (λ j r u e. none-at x (i + j) r (sym (drop-elem (x .records) i j) ∙ e) (later g f x (i + j) r (omega arith) (sym (drop-elem (x .records) i j) ∙ e))) ∙ ap (oldestState client) (drop-of-length-le s o) in
             sym (inv x ∙ ap (older best) none ∙ older-none best)
+
+-- ---- what is answered is a state, and none is older
+same-pair : {m h n k : ℕ} → State m h ≡ State n k → (m ∷ h ∷ []) ≡ (n ∷ k ∷ [])
+same-pair e = cc
+
+older-nothing : (x y : StateAnswer) → older x y ≡ Nothing → (x ≡ Nothing) × (y ≡ Nothing)
+older-nothing Nothing y e = (refl, e)
+older-nothing (State m h) Nothing e = absurd (let z : _≡_ {A = ℕ} 0 1 = cc in let w : ⊥ = omega arith in w)
+older-nothing (State m h) (State n k) e = go (before? (n ∷ k ∷ []) (m ∷ h ∷ []))
+  where
+    go : Dec (order n k m h ≡ Ordering·lt) → (State m h ≡ Nothing) × (State n k ≡ Nothing)
+    go (yes p) = absurd (let q = sym (older-second m h n k p) ∙ e in let z : _≡_ {A = ℕ} 0 1 = cc in let w : ⊥ = omega arith in w)
+    go (no p) = absurd (let q = sym (older-first m h n k p) ∙ e in let z : _≡_ {A = ℕ} 0 1 = cc in let w : ⊥ = omega arith in w)
+
+older-one : (x y : StateAnswer) (m h : ℕ) → older x y ≡ State m h → (x ≡ State m h) ⊎ (y ≡ State m h)
+older-one Nothing y m h e = inr e
+older-one (State u v) Nothing m h e = inl e
+older-one (State u v) (State n k) m h e = go (before? (n ∷ k ∷ []) (u ∷ v ∷ []))
+  where
+    go : Dec (order n k u v ≡ Ordering·lt) → (State u v ≡ State m h) ⊎ (State n k ≡ State m h)
+    go (yes p) = inr (sym (older-second u v n k p) ∙ e)
+    go (no p) = inl (sym (older-first u v n k p) ∙ e)
+
+-- neither of the two is older than the older one
+low-first : (y : StateAnswer) (n k m h : ℕ) → older (State n k) y ≡ State m h → Before (n ∷ k ∷ []) (m ∷ h ∷ []) → ⊥
+low-first Nothing n k m h e b = before-not-same (n ∷ k ∷ []) (m ∷ h ∷ []) b (same-pair e)
+low-first (State u v) n k m h e b = go (before? (u ∷ v ∷ []) (n ∷ k ∷ []))
+  where
+    go : Dec (order u v n k ≡ Ordering·lt) → ⊥
+    go (yes p) =
+        let q : (u ∷ v ∷ []) ≡ (m ∷ h ∷ []) = same-pair (sym (older-second n k u v p) ∙ e) in
+        before-not-same (n ∷ k ∷ []) (n ∷ k ∷ []) (before-trans (n ∷ k ∷ []) (m ∷ h ∷ []) (n ∷ k ∷ []) b (rw q at p)) refl
+    go (no p) = before-not-same (n ∷ k ∷ []) (m ∷ h ∷ []) b (same-pair (sym (older-first n k u v p) ∙ e))
+
+low-second : (x : StateAnswer) (u v m h : ℕ) → older x (State u v) ≡ State m h → Before (u ∷ v ∷ []) (m ∷ h ∷ []) → ⊥
+low-second Nothing u v m h e b = before-not-same (u ∷ v ∷ []) (m ∷ h ∷ []) b (same-pair e)
+low-second (State n k) u v m h e b = go (before? (u ∷ v ∷ []) (n ∷ k ∷ []))
+  where
+    go : Dec (order u v n k ≡ Ordering·lt) → ⊥
+    go (yes p) = before-not-same (u ∷ v ∷ []) (m ∷ h ∷ []) b (same-pair (sym (older-second n k u v p) ∙ e))
+    go (no p) = let q : (n ∷ k ∷ []) ≡ (m ∷ h ∷ []) = same-pair (sym (older-first n k u v p) ∙ e) in p (rw q b)
+
+module _ (client : List ℕ) where
+  pub oldest-nothing : (s : List Rec) → oldestState client s ≡ Nothing → (j : ℕ) (r : Rec) → getElem? s j ≡ some r → stateOf client (r .0) ≡ Nothing
+  unfolding oldestState
+  oldest-nothing [] e j r f = absurd (let z : _≡_ {A = ℕ} 0 1 = cc in let w : ⊥ = omega arith in w)
+  oldest-nothing (q ∷ s) e zero r f = let p : q ≡ r = cc in rw (← p) (older-nothing (stateOf client (q .0)) (oldestState client s) e .0)
+  oldest-nothing (q ∷ s) e (suc j) r f = oldest-nothing s (older-nothing (stateOf client (q .0)) (oldestState client s) e .1) j r f
+
+  -- the answer is the pair of a record
+  pub oldest-held : (s : List Rec) (m h : ℕ) → oldestState client s ≡ State m h → (j : ℕ) × (r : Rec) × (getElem? s j ≡ some r) × (stateOf client (r .0) ≡ State m h)
+  unfolding oldestState
+  oldest-held [] m h e = absurd (let z : _≡_ {A = ℕ} 0 1 = cc in let w : ⊥ = omega arith in w)
+  oldest-held (q ∷ s) m h e = ⊎-elim (λ f. (0, q, refl, f)) (λ f. let t = oldest-held s m h f in (suc (t .0), t .1, t .2, t .3)) (older-one (stateOf client (q .0)) (oldestState client s) m h e)
+
+  -- and no record has a smaller one
+  pub oldest-least : (s : List Rec) (m h : ℕ) → oldestState client s ≡ State m h → (j : ℕ) (r : Rec) (n k : ℕ) → getElem? s j ≡ some r → stateOf client (r .0) ≡ State n k → Before (n ∷ k ∷ []) (m ∷ h ∷ []) → ⊥
+  unfolding oldestState
+  oldest-least [] m h e j r n k f g b = let z : _≡_ {A = ℕ} 0 1 = cc in omega arith
+  oldest-least (q ∷ s) m h e zero r n k f g b =
+      let p : q ≡ r = cc in
+      let a : stateOf client (q .0) ≡ State n k = ap (λ (t : Rec). stateOf client (t .0)) p ∙ g in
+      low-first (oldestState client s) n k m h (ap (λ (t : StateAnswer). older t (oldestState client s)) (sym a) ∙ e) b
+  oldest-least (q ∷ s) m h e (suc j) r n k f g b = go (oldestState client s) refl (oldest-least s)
+    where
+      go : (o : StateAnswer) → oldestState client s ≡ o
+          → ((m h : ℕ) → oldestState client s ≡ State m h → (j : ℕ) (r : Rec) (n k : ℕ) → getElem? s j ≡ some r → stateOf client (r .0) ≡ State n k → Before (n ∷ k ∷ []) (m ∷ h ∷ []) → ⊥) → ⊥
+      go Nothing o ih = let c : stateOf client (r .0) ≡ Nothing = oldest-nothing s o j r f in let z : _≡_ {A = ℕ} 0 1 = cc in omega arith
+      go (State u v) o ih =
+          not-through (n ∷ k ∷ []) (m ∷ h ∷ []) (u ∷ v ∷ []) b
+          (low-second (stateOf client (q .0)) u v m h (ap (older (stateOf client (q .0))) (sym o) ∙ e))
+          (ih u v o j r n k f g)
 
 -- ---- the call
 module _ (F : Form) (b client : List ℕ) (n : ℕ) (h : Counts F b n) (f : ℕ) (ef : f ≡ checkOf check.client client) where

@@ -25,3 +25,5 @@ pub mod Demand3Laws
 pub mod Useless
 pub mod BookCalls
 pub mod ExistsLaws
+pub mod OldestCall
+pub mod OldestCallLaws
