@@ -216,8 +216,8 @@ uint8_t hp_book_remove(uint8_t *book, size_t book_len, const uint8_t *text, size
 /* What the rendering of the text holds, in 32 bytes; wants that room even where it holds nothing:
  * 9, 1, 2, 3, 10, 4, 12. */
 uint8_t hp_book_lookup(const uint8_t *book, size_t book_len, const uint8_t *text, size_t text_len, uint8_t *out, size_t out_len);
-/* Revision number and height of the client's first record `clients/C/consensusStates/R-h` in byte order of key, in
- * which 10 stands before 9: 9, the client's 2, 5, 6; then 12. */
+/* The smallest pair of revision number and height among the client's records `clients/C/consensusStates/R-h`: 9, the
+ * client's 2, 5, 6; then 12. */
 struct hp_pair hp_book_oldest(const uint8_t *book, size_t book_len, const uint8_t *client, size_t client_len);
 /* Above, made by bin/interface. */
 

@@ -10,5 +10,6 @@ pub mod CheckV1Laws
 pub mod Find
 pub mod FindLaws
 pub mod RecordLaws
+pub mod PrefixLaws
 pub mod Oldest
 pub mod OldestLaws

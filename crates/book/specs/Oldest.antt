@@ -1,11 +1,12 @@
--- The oldest state of a client: revision number and height of its first record of kind 5, in key order.
+-- The oldest state of a client: the smallest (revision number, revision height) pair among its records of kind 5.
 -- Assumes nothing.
 use mathlib.Core.Path.{_≡_}
 use mathlib.Core.Bool.{cond, _&&_}
 use mathlib.Core.List.{List, [], _∷_}
-use Prim.Native.Nat.{ℕ}
+use Prim.Native.Nat.{ℕ, Ordering}
 use lib.Dec.{eqb}
 use Rattle.text.specs.Part.{same}
+use Rattle.text.specs.Order.{by, cmp}
 use Rattle.text.specs.Refusal.{badBook, noRecord}
 use Rattle.identifiers.specs.Check.{checkOf}
 use Rattle.identifiers.specs.Check as check
@@ -30,13 +31,19 @@ stateBy client k (Refused r) = Nothing
 unfoldable pub stateOf : List ℕ → List ℕ → StateAnswer
 stateOf client k = stateBy client k (readPath k)
 
-abbrev pub orElse : StateAnswer → StateAnswer → StateAnswer
-orElse (State m h) x = State m h
-orElse Nothing x = x
+-- pairs compare as lists of two numbers do: by revision number, and then by revision height
+abbrev pub order : ℕ → ℕ → ℕ → ℕ → Ordering
+order m h n k = cmp (m ∷ h ∷ []) (n ∷ k ∷ [])
 
-unfoldable pub firstState : List ℕ → List Rec → StateAnswer
-firstState client [] = Nothing
-firstState client (r ∷ rs) = orElse (stateOf client (r .0)) (firstState client rs)
+-- the one with the smaller pair, where there are two
+abbrev pub older : StateAnswer → StateAnswer → StateAnswer
+older Nothing y = y
+older (State m h) Nothing = State m h
+older (State m h) (State n k) = by (order n k m h) (State n k) (State m h) (State m h)
+
+unfoldable pub oldestState : List ℕ → List Rec → StateAnswer
+oldestState client [] = Nothing
+oldestState client (r ∷ rs) = older (stateOf client (r .0)) (oldestState client rs)
 
 abbrev pub pairOf : StateAnswer → Pair
 pairOf (State m h) = pair 0 m h
@@ -44,12 +51,12 @@ pairOf Nothing = pair noRecord 0 0
 
 -- the client checks, then 12
 unfoldable pub oldestIn : List ℕ → List Rec → Pair
-oldestIn client s = cond (eqb (checkOf check.client client) 0) (pairOf (firstState client s)) (pair (checkOf check.client client) 0 0)
+oldestIn client s = cond (eqb (checkOf check.client client) 0) (pairOf (oldestState client s)) (pair (checkOf check.client client) 0 0)
 
 pub data Oldest (F : Form) (b client : List ℕ) (r : Pair) : Type 0 where
   no-book : (Book F b → ⊥) → r ≡ pair badBook 0 0 → Oldest F b client r
   this-book : (x : Book F b) → r ≡ oldestIn client (x .records) → Oldest F b client r
 
--- an answer is the first state of the client in the book b
-abbrev pub FirstIs : Form → List ℕ → List ℕ → StateAnswer → Type 0
-FirstIs F b client r = (x : Book F b) → r ≡ firstState client (x .records)
+-- an answer is the oldest state of the client in the book b
+abbrev pub OldestIs : Form → List ℕ → List ℕ → StateAnswer → Type 0
+OldestIs F b client r = (x : Book F b) → r ≡ oldestState client (x .records)

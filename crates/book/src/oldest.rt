@@ -1,14 +1,20 @@
 // The oldest state of a client.
 use crate::check::BookAnswer;
 use crate::check::check_book;
+use crate::find::place;
 use form::key_at;
 use path::Pair;
 use path::Reading;
+use text::part::same_at;
 use text::refusal::ABSENT;
 use text::refusal::BAD_BOOK;
+use writers::parents::write_consensus_parent;
 ghost use mathlib.Core.Path.{_≡_};
+ghost use Prim.Native.Nat.{_≤_};
+ghost use lib.ListN.{length};
+ghost use Rattle.writers.specs.Texts.{parentText};
 ghost use Rattle.book.specs.Book.{Current, Counts};
-ghost use Rattle.book.specs.Oldest.{stateOf, FirstIs, Oldest};
+ghost use Rattle.book.specs.Oldest.{stateOf, older, OldestIs, Oldest};
 
 pub enum StateAnswer {
     State(u64, u64),
@@ -33,19 +39,52 @@ pub(crate) fn state_in(key: &[u8], client: &[u8]) -> StateAnswer
     StateAnswer::State(v.a, v.b)
 }
 
-// The first state of the client in a book with n records.
-pub(crate) fn first_state(book: &[u8], n: usize, client: &[u8]) -> StateAnswer
-    requires { ⌜ Counts Current (now book) n ⌝ }
-    ensures { λ r. ⌜ FirstIs Current (now (book .entry)) (now (client .entry)) r ⌝ }
+// The one with the smaller pair, where there are two.
+fn older(x: StateAnswer, y: StateAnswer) -> StateAnswer
+    ensures { λ r. ⌜ r ≡ older x y ⌝ }
 {
-    let mut i = 0;
-    while i < n {
-        if let StateAnswer::State(number, height) = state_in(key_at(book, 8 + 288 * i), client) {
-            return StateAnswer::State(number, height);
-        }
+    let StateAnswer::State(m, h) = x else {
+        return y;
+    };
+    let StateAnswer::State(n, k) = y else {
+        return x;
+    };
+    if n < m {
+        return y;
+    }
+    if m < n {
+        return x;
+    }
+    if k < h {
+        return y;
+    }
+    x
+}
+
+// The oldest state of the client in a book with n records. All its states stand below `parent`, so together in key order.
+fn oldest_below(book: &[u8], n: usize, client: &[u8], parent: &[u8]) -> StateAnswer
+    requires { ⌜ Counts Current (now book) n ⌝ }
+    requires { ⌜ now parent ≡ parentText (now client) ⌝ }
+    ensures { λ r. ⌜ OldestIs Current (now (book .entry)) (now (client .entry)) r ⌝ }
+{
+    let mut best = StateAnswer::Nothing;
+    let mut i = place(book, n, parent);
+    while i < n && same_at(key_at(book, 8 + 288 * i), 0, parent) {
+        best = older(best, state_in(key_at(book, 8 + 288 * i), client));
         i += 1;
     }
-    StateAnswer::Nothing
+    best
+}
+
+// The same, for a client of at most 64 bytes.
+pub(crate) fn oldest_state(book: &[u8], n: usize, client: &[u8]) -> StateAnswer
+    requires { ⌜ Counts Current (now book) n ⌝ }
+    requires { ⌜ length (now client) ≤ 64 ⌝ }
+    ensures { λ r. ⌜ OldestIs Current (now (book .entry)) (now (client .entry)) r ⌝ }
+{
+    let mut field = [0; 88];
+    let end = write_consensus_parent(&mut field, 0, client);
+    oldest_below(book, n, client, &field[0..end])
 }
 
 // The oldest state of a client: 9, the client checks, 12.
@@ -67,7 +106,7 @@ pub fn oldest(book: &[u8], client: &[u8]) -> Pair
             height: 0,
         };
     }
-    let StateAnswer::State(number, height) = first_state(book, n, client) else {
+    let StateAnswer::State(number, height) = oldest_state(book, n, client) else {
         return Pair {
             refusal: ABSENT,
             number: 0,

@@ -23,7 +23,7 @@ use Rattle.book.specs.declared.oldest.StateAnswer.{StateAnswer}
 use Rattle.book.specs.declared.oldest.StateAnswer.the-variants.{State, Nothing}
 use Rattle.path.specs.declared.Pair.{Pair}
 use Rattle.path.specs.Pair.{pair}
-use Rattle.book.specs.Oldest.{firstState, pairOf, oldestIn, Oldest}
+use Rattle.book.specs.Oldest.{oldestState, pairOf, oldestIn, Oldest}
 use Rattle.book.specs.Oldest as oldest
 use Rattle.demands.specs.KeepsLaws.{made-keeps, changed-keeps, found-keeps}
 use Rattle.demands.specs.Shape.{Listed, AllZero, Demand1}
@@ -111,8 +111,8 @@ in-records c s = pick (eqb (checkOf check.client c) 0)
     state (State m h) = record { listed = refl; zeros = λ n. absurd (n refl) }
     state Nothing = record { listed = refl; zeros = λ n. (refl, (refl, tt)) }
 
-    pick : (v : Bool) → Told (cond v (pairOf (firstState c s)) (pair (checkOf check.client c) 0 0))
-    pick true = state (firstState c s)
+    pick : (v : Bool) → Told (cond v (pairOf (oldestState c s)) (pair (checkOf check.client c) 0 0))
+    pick true = state (oldestState c s)
     pick false = record { listed = plain-of (Listed (9 ∷ 2 ∷ 5 ∷ 6 ∷ 12 ∷ [])) refl refl refl refl 9 64 c; zeros = λ n. (refl, (refl, tt)) }
 
 flag-told : (k : ℕ) → Listed (14 ∷ []) (provableFlag k .refusal) × ((provableFlag k .refusal ≡ 0 → ⊥) → AllZero (provableFlag k .value ∷ []))

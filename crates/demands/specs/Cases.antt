@@ -15,23 +15,30 @@ use Rattle.path.specs.declared.Path.the-variants.{ClientState, ClientConsensusS
 use Rattle.path.specs.declared.Refusal.the-variants.{NotAPath}
 use Rattle.path.specs.declared.Reading.{Reading}
 use Rattle.path.specs.declared.Reading.the-variants.{Read, Refused}
-use Rattle.path.specs.Text.{cutAt, joinBy, placesFrom}
+use Rattle.path.specs.Text.{cutAt, joinBy, placesFrom, shownOf}
 use Rattle.path.specs.Kinds.{kinds}
+use Rattle.path.specs.declared.Pair.{Pair}
+use Rattle.path.specs.Pair.{pair}
+use Rattle.book.specs.Oldest.{stateOf, oldestState, oldestIn}
+use Rattle.text.specs.Order.{cmp}
 use Rattle.path.specs.Read.{nameFault, fits, fitsKind, readKind, readFirst, readPath, show, render, partsOf, renderPath}
 
--- what is asked: to read a text, or to check an identifier
+-- what is asked: to read a text, to check an identifier, or for the oldest state of a client in a book with these keys
 pub data Question : Type 0 where
   reading : List ℕ → Question
   checking : Rule → List ℕ → Question
+  seeking : List ℕ → List (List ℕ) → Question
 
--- what is answered: a reading, or a refusal number
+-- what is answered: a reading, a refusal number, or a pair
 pub data Outcome : Type 0 where
   gives : Reading → Outcome
   says : ℕ → Outcome
+  finds : Pair → Outcome
 
 abbrev pub answerOf : Question → Outcome
 answerOf (reading t) = gives (readPath t)
 answerOf (checking r s) = says (checkOf r s)
+answerOf (seeking c ks) = finds (oldestIn c (map (λ k. (k, [])) ks))
 
 pub record Case : Type 0 where
   pub question : Question
@@ -42,6 +49,9 @@ read t r = record { question = reading t; outcome = gives r }
 
 abbrev check : Rule → List ℕ → ℕ → Case
 check r s n = record { question = checking r s; outcome = says n }
+
+abbrev seek : List ℕ → List (List ℕ) → Pair → Case
+seek c ks p = record { question = seeking c ks; outcome = finds p }
 
 abbrev at : ℕ → ℕ → Place
 at s n = record { start = s; len = n }
@@ -89,8 +99,11 @@ cases =
     ∷ check port (bytes "a/b") 5
     ∷ check port (replicate 128 97) 0
     ∷ check port (replicate 129 97) 6
+    -- as text `10-2` comes before `7-2`, and `07-tendermint-4` begins `07-tendermint-40`
+    ∷ seek (bytes "07-tendermint-4") (bytes "clients/07-tendermint-4/consensusStates/10-2" ∷ bytes "clients/07-tendermint-4/consensusStates/7-2" ∷ []) (pair 0 7 2)
+    ∷ seek (bytes "07-tendermint-4") (bytes "clients/07-tendermint-40/consensusStates/7-2" ∷ []) (pair 12 0 0)
     ∷ []
 
 pub cases-hold : map (λ c. answerOf (c .question)) cases ≡ map (λ c. c .outcome) cases
-unfolding numeralOf digitsAt digitsFrom decimal digits width widthBy every ascii startsWith same among identifierByte charsOf within indexOf namedOf checkOf cutAt joinBy placesFrom kinds nameFault fits fitsKind readKind readFirst readPath show render partsOf renderPath
+unfolding numeralOf digitsAt digitsFrom decimal digits width widthBy every ascii startsWith same among identifierByte charsOf within indexOf namedOf checkOf cutAt joinBy placesFrom kinds nameFault fits fitsKind readKind readFirst readPath show render partsOf renderPath cmp shownOf stateOf oldestState oldestIn
 cases-hold = refl

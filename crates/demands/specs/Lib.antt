@@ -30,3 +30,5 @@ pub mod Demand3Laws
 pub mod Useless
 pub mod BookCalls
 pub mod ExistsLaws
+pub mod OldestCall
+pub mod OldestCallLaws

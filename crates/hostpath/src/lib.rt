@@ -390,8 +390,8 @@ pub extern "C" fn hp_book_lookup(book: &[u8], text: &[u8], out: &mut [u8]) -> u8
     book::lookup(book, text, out)
 }
 
-// Revision number and height of the client's first record `clients/C/consensusStates/R-h` in byte order of key, in
-// which 10 stands before 9: 9, the client's 2, 5, 6; then 12.
+// The smallest pair of revision number and height among the client's records `clients/C/consensusStates/R-h`: 9, the
+// client's 2, 5, 6; then 12.
 #[no_mangle]
 pub extern "C" fn hp_book_oldest(book: &[u8], client: &[u8]) -> Pair
     ensures { λ r. ⌜ Oldest Current (now (book .entry)) (now (client .entry)) r ⌝ }

@@ -71,7 +71,7 @@ impl Book {
             let state = reading.kind == STATE && reading.first.of(key) == client;
             state.then_some(reading.numbers)
         };
-        self.records.keys().find_map(heights).ok_or(ABSENT)
+        self.records.keys().filter_map(heights).min().ok_or(ABSENT)
     }
 
     /// Header, a slot for each record in byte order of key, and zeros.

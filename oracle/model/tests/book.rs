@@ -65,11 +65,12 @@ fn ten_is_judged_on_the_rendering() {
 }
 
 #[test]
-fn oldest_is_first_in_byte_order() {
-    let mut book = Book::empty(3);
+fn oldest_has_the_smallest_pair() {
+    let mut book = Book::empty(4);
     for text in [
-        "clients/07-tendermint-4/consensusStates/9-1",
-        "clients/07-tendermint-4/consensusStates/10-3",
+        "clients/07-tendermint-4/consensusStates/10-2",
+        "clients/07-tendermint-4/consensusStates/7-2",
+        "clients/07-tendermint-40/consensusStates/6-2",
     ] {
         assert_eq!(book.write(text.as_bytes(), &ONE), Ok(()));
     }
@@ -77,7 +78,7 @@ fn oldest_is_first_in_byte_order() {
         book.write(b"clients/07-tendermint-4/consensusStates/1-1/processedTime", &ONE),
         Ok(())
     );
-    assert_eq!(book.oldest(b"07-tendermint-4"), Ok([10, 3]));
+    assert_eq!(book.oldest(b"07-tendermint-4"), Ok([7, 2]));
     assert_eq!(book.oldest(b"07-tendermint-"), Err(ABSENT));
 }
 

@@ -69,8 +69,8 @@ impl<'a> Book<'a> {
         Ok(value)
     }
 
-    /// Revision number and height of a client's first consensus state in byte order of key, in which
-    /// 10 stands before 9. 9, the client's 2, 5, 6; then 12.
+    /// The smallest pair of revision number and height among a client's consensus states: of `10-2` and
+    /// `7-2` the second, though it is the last in byte order of key. 9, the client's 2, 5, 6; then 12.
     pub fn oldest(&self, client_id: &[u8]) -> Result<(u64, u64), Refusal> {
         pair(raw::book_oldest(self.0, client_id))
     }

@@ -354,8 +354,8 @@ pub fn book_lookup(book: &[u8], text: &[u8], out: &mut [u8]) -> u8 {
     unsafe { c::hp_book_lookup(book.as_ptr(), book.len(), text.as_ptr(), text.len(), out.as_mut_ptr(), out.len()) }
 }
 
-/// Revision number and height of the client's first record `clients/C/consensusStates/R-h` in byte order of key, in
-/// which 10 stands before 9: 9, the client's 2, 5, 6; then 12.
+/// The smallest pair of revision number and height among the client's records `clients/C/consensusStates/R-h`: 9, the
+/// client's 2, 5, 6; then 12.
 pub fn book_oldest(book: &[u8], client: &[u8]) -> Pair {
     // SAFETY: each pointer and count are those of one live slice.
     unsafe { c::hp_book_oldest(book.as_ptr(), book.len(), client.as_ptr(), client.len()) }
