@@ -88,9 +88,9 @@ fn block(pairs: &[Pair]) -> Vec<u8> {
     pairs.iter().copied().flat_map(iteration::write).collect()
 }
 
-/// The sizes of the blocks to try.
-fn counts(size: Size) -> Vec<usize> {
-    size.pick(vec![0, 1, 2, 3, 4, 7, 16, 33, MOST], (0..=MOST).collect())
+/// The sizes of the blocks to try: each, some times.
+fn counts(size: Size) -> impl Iterator<Item = usize> {
+    (0..size.pick(1, 20)).flat_map(|_| 0..=MOST)
 }
 
 /// Pairs at, between and beyond the keys.
