@@ -4,16 +4,6 @@
 # Last line: 'N passed, M failed'.
 . "$(dirname "$0")/lib/start.sh"
 
-# check NAME EXPECTED GOT
-check() {
-    if [ "$2" = "$3" ]; then
-        passed=$((passed + 1))
-    else
-        echo "askpath: $1: '$3' in place of '$2'"
-        failed=$((failed + 1))
-    fi
-}
-
 mkdir -p "$work/bin" "$work/crates" "$work/tools"
 cp bin/askpath "$work/bin"
 : >"$work/crates.txt"

@@ -9,16 +9,6 @@ if [ ! -x target/bin/askpath ]; then
     exit
 fi
 
-# check NAME EXPECTED GOT
-check() {
-    if [ "$2" = "$3" ]; then
-        passed=$((passed + 1))
-    else
-        echo "askpath: $1: '$3' in place of '$2'"
-        failed=$((failed + 1))
-    fi
-}
-
 # Waits until as many lines are answered, ten seconds at most.
 answered() {
     tries=0

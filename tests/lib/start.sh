@@ -17,3 +17,8 @@ holds() {
         failed=$((failed + 1))
     fi
 }
+
+# Counts what was got, which has to be what was expected: check NAME EXPECTED GOT.
+check() {
+    holds "$1: '$3' in place of '$2'" test "$2" = "$3"
+}
