@@ -9,22 +9,16 @@ shown() {
     sed -n "/^## $1/,/^## /s/^    //p" README.md
 }
 
-if [ ! -x target/bin/askpath ]; then
-    echo 'readme: LEFT OUT, the program is not built: what README asks it'
-elif [ "$(shown 'Ask it' | sed -n 1p | sh)" = "$(shown 'Ask it' | tail -n +2)" ]; then
-    passed=$((passed + 1))
+if [ -x target/bin/askpath ]; then
+    check 'what askpath answers' "$(shown 'Ask it' | tail -n +2)" "$(shown 'Ask it' | sed -n 1p | sh)"
 else
-    echo 'readme: askpath answers otherwise'
-    failed=$((failed + 1))
+    echo 'readme: LEFT OUT, the program is not built: what README asks it'
 fi
 
-if [ ! -f target/staticlib/libhostpath.a ] || [ "$(uname -m)" != x86_64 ] || ! command -v cc >/dev/null 2>&1; then
-    echo 'readme: LEFT OUT, no archive for this processor or no C compiler: how README links the library'
-elif [ "$(shown 'Link it' | sed -n 1p | sh)" = "$(cat examples/path.out)" ]; then
-    passed=$((passed + 1))
+if [ -f target/staticlib/libhostpath.a ] && [ "$(uname -m)" = x86_64 ] && command -v cc >/dev/null 2>&1; then
+    check 'what the C example prints' "$(cat examples/path.out)" "$(shown 'Link it' | sed -n 1p | sh)"
 else
-    echo 'readme: the C example is not built or prints otherwise'
-    failed=$((failed + 1))
+    echo 'readme: LEFT OUT, no archive for this processor or no C compiler: how README links the library'
 fi
 
 echo "$passed passed, $failed failed"
