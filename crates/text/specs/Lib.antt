@@ -1,5 +1,7 @@
 -- What the contracts of `text` cite. Files that end in `Laws` hold consequences, which a reader may skip.
 pub mod Bytes
+pub mod Fault
+pub mod FaultLaws
 pub mod Number
 pub mod NumberLaws
 pub mod Order

@@ -1,4 +1,5 @@
--- The refusal numbers of the whole library, by name; `text::refusal` has them for code. 0 is no refusal.
+-- The refusal numbers of the whole library, by name; `text::refusal` has them for code. 0 is no refusal, and
+-- 8 is given no more: 17 to 19 stand in its place.
 -- Assumes nothing.
 use Prim.Native.Nat.{ℕ}
 
@@ -29,10 +30,6 @@ badLength = 6
 -- not the name and `-`, or a leading zero after them
 abbrev pub badPrefix : ℕ
 badPrefix = 7
-
--- no number text after them
-abbrev pub badNumber : ℕ
-badNumber = 8
 
 -- the buffer is no book
 abbrev pub badBook : ℕ
@@ -65,3 +62,15 @@ badIterKey = 15
 -- bytes that are not iteration keys one after the other, each above the one before it
 abbrev pub badBlock : ℕ
 badBlock = 16
+
+-- a number text without digits
+abbrev pub noDigits : ℕ
+noDigits = 17
+
+-- a byte of a number text that is no digit
+abbrev pub notADigit : ℕ
+notADigit = 18
+
+-- a number above 18446744073709551615
+abbrev pub tooLarge : ℕ
+tooLarge = 19

@@ -3,11 +3,15 @@ pub mod part;
 pub mod put;
 pub mod refusal;
 
+use crate::refusal::NO_DIGITS;
+use crate::refusal::NOT_A_DIGIT;
+use crate::refusal::TOO_LARGE;
 ghost use mathlib.Core.Path.{_≡_};
 ghost use mathlib.Core.Bool.{true, false};
-ghost use Prim.Native.Nat.{_+_, _*_, _≤_, _<_};
+ghost use Prim.Native.Nat.{_+_, _*_, _^_, _≤_, _<_};
 ghost use lib.ListN.{length, drop};
 ghost use Rattle.text.specs.Number.{numeralOf, digitsAt, width, decimal, bigEndian, lowBytes, bigAt};
+ghost use Rattle.text.specs.Fault.{fault, numeralFault, numeralPlace};
 ghost use Rattle.text.specs.Put.{put};
 
 // What a text says as a number. A fault names its place in the text.
@@ -23,6 +27,14 @@ pub enum Numeral {
 pub struct Written {
     pub refusal: u8,
     pub length: u64,
+}
+
+// What a check answers: a refusal number, 0 where there is none, and where the fault stands. Only a number's faults have a
+// place; of all else it is 0.
+#[repr(C)]
+pub struct Fault {
+    pub refusal: u8,
+    pub place: u64,
 }
 
 // Whether v with the digit d after it is more than a u64 has. Most numbers are told by the first test.
@@ -78,6 +90,31 @@ pub fn read_number(s: &[u8]) -> Numeral
         digits_at(s, 1)
     } else {
         digits_at(s, 0)
+    }
+}
+
+// What is wrong with a number text whose first byte stands at `at`.
+pub fn number_fault(n: Numeral, at: usize) -> Fault
+    requires { ⌜ at + numeralPlace n < 2 ^ 64 ⌝ }
+    ensures { λ r. ⌜ r ≡ fault (numeralFault n) (at + numeralPlace n) ⌝ }
+{
+    match n {
+        Numeral::Value(_) => Fault {
+            refusal: 0,
+            place: 0,
+        },
+        Numeral::NoDigits(i) => Fault {
+            refusal: NO_DIGITS,
+            place: (at + i) as u64,
+        },
+        Numeral::NotADigit(i) => Fault {
+            refusal: NOT_A_DIGIT,
+            place: (at + i) as u64,
+        },
+        Numeral::TooLarge(i) => Fault {
+            refusal: TOO_LARGE,
+            place: (at + i) as u64,
+        },
     }
 }
 

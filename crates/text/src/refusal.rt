@@ -1,4 +1,4 @@
-// The refusal numbers of the whole library. 0 is no refusal.
+// The refusal numbers of the whole library. 0 is no refusal, and 8 is given no more: 17 to 19 stand in its place.
 pub const DONE: u8 = 0;
 
 pub const TOO_LONG: u8 = 1;
@@ -15,8 +15,6 @@ pub const BAD_LENGTH: u8 = 6;
 
 pub const BAD_PREFIX: u8 = 7;
 
-pub const BAD_NUMBER: u8 = 8;
-
 pub const BAD_BOOK: u8 = 9;
 
 pub const KEY_TOO_LONG: u8 = 10;
@@ -32,3 +30,9 @@ pub const BAD_KIND: u8 = 14;
 pub const BAD_ITER_KEY: u8 = 15;
 
 pub const BAD_BLOCK: u8 = 16;
+
+pub const NO_DIGITS: u8 = 17;
+
+pub const NOT_A_DIGIT: u8 = 18;
+
+pub const TOO_LARGE: u8 = 19;
