@@ -8,7 +8,9 @@ use lib.ListN.{length, drop}
 use Rattle.text.specs.Bytes.{bytes}
 use Rattle.text.specs.Number.{isDigit, numeralOf}
 use Rattle.text.specs.Part.{every, ascii, startsWith}
-use Rattle.text.specs.Refusal.{notAscii, badChar, badLength, badPrefix, badNumber}
+use Rattle.text.specs.Fault.{fault, numeralFault, numeralPlace}
+use Rattle.text.specs.Refusal.{notAscii, badChar, badLength, badPrefix}
+use Rattle.text.specs.declared.Fault.{Fault}
 use Rattle.text.specs.declared.Numeral.{Numeral}
 use Rattle.text.specs.declared.Numeral.the-variants.{Value, NoDigits, NotADigit, TooLarge}
 
@@ -36,10 +38,6 @@ isValue (NoDigits i) = false
 isValue (NotADigit i) = false
 isValue (TooLarge i) = false
 
--- the refusal of a number text
-abbrev pub numeralFault : Numeral → ℕ
-numeralFault x = unless badNumber (isValue x)
-
 -- 2, then 5
 unfoldable pub charsOf : List ℕ → ℕ
 charsOf s = first (unless notAscii (ascii s)) (unless badChar (every identifierByte s))
@@ -48,7 +46,7 @@ charsOf s = first (unless notAscii (ascii s)) (unless badChar (every identifierB
 unfoldable pub within : ℕ → ℕ → ℕ → ℕ
 within least most n = unless badLength (leb least n && leb n most)
 
--- 7, then 8: an index is a number text that does not begin with `0` unless it is `0` itself
+-- 7, then 17, 18 or 19: an index is a number text that does not begin with `0` unless it is `0` itself
 unfoldable pub indexOf : List ℕ → ℕ
 indexOf s = first (unless badPrefix (not (startsWith (bytes "0") s && ltb 1 (length s)))) (numeralFault (numeralOf s))
 
@@ -97,9 +95,25 @@ abbrev pub formOf : Form → List ℕ → ℕ
 formOf plain s = 0
 formOf (indexed name) s = namedOf name s
 
--- ASCII, bytes, length, prefix, number: 2, 5, 6, 7, 8
+-- ASCII, bytes, length, prefix, number: 2, 5, 6, 7, then 17, 18 or 19
 unfoldable pub checkOf : Rule → List ℕ → ℕ
 checkOf r s = first (charsOf s) (first (within (r .least) (r .most) (length s)) (formOf (r .form) s))
+
+-- ---- where the number is wrong
+-- the place of the index's fault, counted from the identifier's start
+abbrev pub indexPlace : List ℕ → List ℕ → ℕ
+indexPlace name s = length name + 1 + numeralPlace (numeralOf (drop (length name + 1) s))
+
+abbrev pub formPlace : Form → List ℕ → ℕ
+formPlace plain s = 0
+formPlace (indexed name) s = indexPlace name s
+
+-- the checks with their place
+unfoldable pub namedIndexFault : List ℕ → List ℕ → Fault
+namedIndexFault s name = fault (namedIndexOf s name) (indexPlace name s)
+
+unfoldable pub faultOf : Rule → List ℕ → Fault
+faultOf r s = fault (checkOf r s) (formPlace (r .form) s)
 
 -- ---- the checks as the Rust composes them, out of the general ones
 abbrev pub generalForm : Form → List ℕ → ℕ

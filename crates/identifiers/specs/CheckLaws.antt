@@ -11,10 +11,11 @@ use lib.ListN.{length, drop, getD, length-drop, drop-of-length-le}
 use lib.Seq.{getD-drop}
 use borrow.Author.Tests.{lt-ltb, le-ltb, le-leb, lt-leb, eq-eqb, ne-eqb, eqb-true, eqb-false, ltb-true, leb-true}
 use Rattle.text.specs.Bytes.{bytes}
+use Rattle.text.specs.Fault.{numeralFault}
 use Rattle.text.specs.Number.{numeralOf}
 use Rattle.text.specs.Part.{every, ascii, startsWith}
 use Rattle.text.specs.PartLaws.{and-left, and-right, every-at, starts-append, starts-byte}
-use Rattle.identifiers.specs.Check.{first, unless, among, identifierByte, charsOf, isValue, within, indexOf, namedOf, lengthOf, prefixLengthOf, namedIndexOf, Form, plain, indexed, Rule, client, clientType, formOf, checkOf, generalForm, generalOf}
+use Rattle.identifiers.specs.Check.{first, unless, among, identifierByte, charsOf, within, indexOf, namedOf, lengthOf, prefixLengthOf, namedIndexOf, Form, plain, indexed, Rule, client, clientType, formOf, checkOf, generalForm, generalOf}
 
 -- ---- of two checks, and of a test
 pub first-zero : (a b : ℕ) → first a b ≡ 0 → (a ≡ 0) × (b ≡ 0)
@@ -113,14 +114,14 @@ module _ (s : List ℕ) where
   index-zero h e = let p : 0 < length s = omega arith in rw (starts-byte 48 s p, eq-eqb (getD s 0 0) 48 e, lt-ltb 1 (length s) h)
 
   -- else the number decides
-  index-number : (startsWith (bytes "0") s && ltb 1 (length s)) ≡ false → indexOf s ≡ unless 8 (isValue (numeralOf s))
+  index-number : (startsWith (bytes "0") s && ltb 1 (length s)) ≡ false → indexOf s ≡ numeralFault (numeralOf s)
   unfolding indexOf
   index-number h = rw h
 
-  pub index-short : length s ≤ 1 → indexOf s ≡ unless 8 (isValue (numeralOf s))
+  pub index-short : length s ≤ 1 → indexOf s ≡ numeralFault (numeralOf s)
   index-short h = index-number (rw (le-ltb 1 (length s) h) (and-false (startsWith (bytes "0") s)))
 
-  pub index-other : 0 < length s → (getD s 0 0 ≡ 48 → ⊥) → indexOf s ≡ unless 8 (isValue (numeralOf s))
+  pub index-other : 0 < length s → (getD s 0 0 ≡ 48 → ⊥) → indexOf s ≡ numeralFault (numeralOf s)
   index-other h e = index-number (rw (starts-byte 48 s h, ne-eqb (getD s 0 0) 48 e))
 
 -- ---- a name and an index

@@ -9,10 +9,12 @@ use lib.Dec.{eqb, ltb, leb}
 use lib.ListN.{length, drop, length-append}
 use borrow.Author.Tests.{eqb-true}
 use Rattle.text.specs.Bytes.{bytes}
+use Rattle.text.specs.Fault.{numeralFault}
 use Rattle.text.specs.Number.{isDigit, withDigit, digitsFrom, digitsAt, numeralOf}
 use Rattle.text.specs.Part.{every, startsWith}
 use Rattle.text.specs.PartLaws.{and-left, and-right, every-append}
-use Rattle.text.specs.declared.Numeral.the-variants.{NotADigit, TooLarge}
+use Rattle.text.specs.declared.Numeral.{Numeral}
+use Rattle.text.specs.declared.Numeral.the-variants.{Value, NoDigits, NotADigit, TooLarge}
 use Rattle.identifiers.specs.Check.{unless, among, identifierByte, isValue, within, indexOf, namedOf, indexed, checkOf}
 use Rattle.identifiers.specs.CheckLaws.{first-zero, first-last, unless-zero, bytes-chars}
 
@@ -70,9 +72,15 @@ dash-byte : every identifierByte (bytes "-") ≡ true
 unfolding identifierByte among every
 dash-byte = refl
 
+value-is : (x : Numeral) → numeralFault x ≡ 0 → isValue x ≡ true
+value-is (Value n) h = refl
+value-is (NoDigits i) h = absurd (omega arith)
+value-is (NotADigit i) h = absurd (omega arith)
+value-is (TooLarge i) h = absurd (omega arith)
+
 index-value : (t : List ℕ) → indexOf t ≡ 0 → isValue (numeralOf t) ≡ true
 unfolding indexOf
-index-value t h = unless-zero 8 _ (omega arith) (first-zero (unless 7 (not (startsWith (bytes "0") t && ltb 1 (length t)))) _ h .1)
+index-value t h = value-is (numeralOf t) (first-zero (unless 7 (not (startsWith (bytes "0") t && ltb 1 (length t)))) _ h .1)
 
 module _ (name s : List ℕ) (ok : every identifierByte name ≡ true) (is : namedOf name s ≡ 0) where
   tests : (unless 7 (startsWith (name ++ bytes "-") s) ≡ 0) × (indexOf (drop (length name + 1) s) ≡ 0)

@@ -56,11 +56,12 @@ zeros n = replicate n 0
 unfoldable pub madeClient : Wanted → MadeClientId
 madeClient w = let a = answer w 64 in record { refusal = a .refusal; id = record { bytes = left w (zeros 64); len = a .length } }
 
-unfoldable pub madeConnection : Wanted → MadeConnectionId
-madeConnection w = let a = answer w 64 in record { refusal = a .refusal; id = record { bytes = left w (zeros 64); len = a .length } }
+-- where the check of an index can refuse, with the place of its fault
+unfoldable pub madeConnection : Wanted → ℕ → MadeConnectionId
+madeConnection w p = let a = answer w 64 in record { refusal = a .refusal; place = p; id = record { bytes = left w (zeros 64); len = a .length } }
 
-unfoldable pub madeChannel : Wanted → MadeChannelId
-madeChannel w = let a = answer w 64 in record { refusal = a .refusal; id = record { bytes = left w (zeros 64); len = a .length } }
+unfoldable pub madeChannel : Wanted → ℕ → MadeChannelId
+madeChannel w p = let a = answer w 64 in record { refusal = a .refusal; place = p; id = record { bytes = left w (zeros 64); len = a .length } }
 
 unfoldable pub madePort : Wanted → MadePortId
 madePort w = let a = answer w 128 in record { refusal = a .refusal; id = record { bytes = left w (zeros 128); len = a .length } }

@@ -13,13 +13,14 @@ use lib.ListN.{length, take, drop, getD, length-append, length-replicate, drop-o
 use lib.Seq.{drop-cons, take-suc}
 use borrow.Author.Tests.{le-leb, eq-eqb, ne-eqb, eqb-true}
 use Rattle.text.specs.Bytes.{bytes}
+use Rattle.text.specs.Fault.{numeralFault}
 use Rattle.text.specs.Number.{width, numeralOf, decimal}
 use Rattle.text.specs.NumberLaws.{by-tens, width-small, width-pos, width-u64, length-decimal, length-decimal-some, length-decimal-u64, decimal-small, decimal-more, Digit, decimal-first, read-decimal}
 use Rattle.text.specs.Part.{every, ascii, startsWith}
 use Rattle.text.specs.PartLaws.{every-append}
 use Rattle.text.specs.Put.{refused, text, refusal, done, answer, left, accepted}
 use Rattle.text.specs.PutLaws.{put-zero, answer-fits, left-fits}
-use Rattle.identifiers.specs.Check.{first, unless, among, identifierByte, isValue, indexOf, namedOf, Rule, checkOf, client, clientType, channel}
+use Rattle.identifiers.specs.Check.{first, unless, among, identifierByte, indexOf, namedOf, Rule, checkOf, client, clientType, channel}
 use Rattle.identifiers.specs.CheckLaws.{first-zero, index-short, index-other, accepted-bytes, accepted-length, accepted-by}
 use Rattle.identifiers.specs.Owned.{asWritten, blank, trimStart, keep, trimEnd, trim, newClient, zeros}
 
@@ -133,7 +134,7 @@ decimal-bytes =
 decimal-index : (n : ℕ) → n < 2 ^ 64 → indexOf (decimal n) ≡ 0
 decimal-index n h = go (decLt n 10) ∙ rw (read-decimal n h)
   where
-    go : Dec (n < 10) → indexOf (decimal n) ≡ unless 8 (isValue (numeralOf (decimal n)))
+    go : Dec (n < 10) → indexOf (decimal n) ≡ numeralFault (numeralOf (decimal n))
     go (yes k) = index-short (decimal n) (omega (arith, length-decimal n, width-small n k))
     go (no k) =
         let p : 48 < getD (decimal n) 0 0 = decimal-first n (omega arith) in

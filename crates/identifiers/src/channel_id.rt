@@ -4,7 +4,7 @@ use text::Written;
 ghost use mathlib.Core.Path.{_≡_};
 ghost use lib.ListN.{length};
 ghost use Rattle.text.specs.Put.{answer, left};
-ghost use Rattle.identifiers.specs.Check.{channel};
+ghost use Rattle.identifiers.specs.Check.{channel, faultOf};
 ghost use Rattle.identifiers.specs.Owned.{asWritten, newChannel, madeChannel};
 
 // An owned channel identifier: its bytes, zero after the last, and their number.
@@ -13,9 +13,10 @@ pub struct ChannelId {
     pub len: usize,
 }
 
-// A channel identifier, or a refusal number beside an empty one.
+// A channel identifier, or a refusal number and the place of its fault beside an empty one.
 pub struct MadeChannelId {
     pub refusal: u8,
+    pub place: u64,
     pub id: ChannelId,
 }
 
@@ -30,12 +31,14 @@ pub fn write_channel_id(counter: u64, out: &mut [u8]) -> Written
 impl ChannelId {
     // The channel identifier that the text is.
     pub fn from_str(s: &[u8]) -> MadeChannelId
-        ensures { λ r. ⌜ r ≡ madeChannel (asWritten channel (now (s .entry))) ⌝ }
+        ensures { λ r. ⌜ r ≡ madeChannel (asWritten channel (now (s .entry))) (faultOf channel (now (s .entry)) .place) ⌝ }
     {
         let mut bytes = [0u8; 64];
-        let made = crate::write_accepted(validate_channel_identifier(s), s, &mut bytes);
+        let fault = validate_channel_identifier(s);
+        let made = crate::write_accepted(fault.refusal, s, &mut bytes);
         MadeChannelId {
             refusal: made.refusal,
+            place: fault.place,
             id: ChannelId {
                 bytes,
                 len: made.length as usize,
@@ -45,7 +48,7 @@ impl ChannelId {
 
     // The channel identifier of that number.
     pub fn new(counter: u64) -> ChannelId
-        ensures { λ r. ⌜ r ≡ madeChannel (newChannel counter) .id ⌝ }
+        ensures { λ r. ⌜ r ≡ madeChannel (newChannel counter) 0 .id ⌝ }
     {
         let mut bytes = [0u8; 64];
         let made = write_channel_id(counter, &mut bytes);

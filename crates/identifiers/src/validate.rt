@@ -1,15 +1,18 @@
-// The checks of identifiers. Each answers a refusal number: 0, 2, 5, 6, 7 or 8.
-use text::Numeral;
+// The checks of identifiers. Each answers a refusal number: 0, 2, 5, 6, 7, 17, 18 or 19. A check that can give one of the
+// last three answers its place too.
+use text::Fault;
 use text::refusal::BAD_CHAR;
 use text::refusal::BAD_LENGTH;
-use text::refusal::BAD_NUMBER;
 use text::refusal::BAD_PREFIX;
 use text::refusal::NOT_ASCII;
 ghost use mathlib.Core.Path.{_≡_};
 ghost use mathlib.Core.Bool.{true};
-ghost use Prim.Native.Nat.{max, _-_};
+ghost use Prim.Native.Nat.{max, _+_, _-_, _≤_};
+ghost use lib.ListN.{length, drop};
+ghost use Rattle.text.specs.Fault.{fault, numeralPlace};
+ghost use Rattle.text.specs.Number.{numeralOf};
 ghost use Rattle.text.specs.Part.{every};
-ghost use Rattle.identifiers.specs.Check.{identifierByte, charsOf, within, indexOf, namedOf, lengthOf, prefixLengthOf, namedIndexOf, plain, indexed, checkOf, client, clientType, connection, port, channel};
+ghost use Rattle.identifiers.specs.Check.{identifierByte, charsOf, within, indexOf, namedOf, lengthOf, prefixLengthOf, namedIndexFault, indexPlace, plain, indexed, checkOf, faultOf, client, clientType, connection, port, channel};
 
 // Which bytes may stand in an identifier, a bit each: of those from 0 to 63 (`#`, `+`, `-`, `.`, digits, `<`, `>`), and of
 // those from 64 to 96 (A to Z, `[`, `]`, `_`).
@@ -60,37 +63,42 @@ fn length_within(n: u64, least: u64, most: u64) -> u8
     0
 }
 
-// Whether the text is an index: a number text that does not begin with `0` unless it is `0` itself.
-fn check_index(index: &[u8]) -> u8
-    ensures { λ r. ⌜ r ≡ indexOf (now (index .entry)) ⌝ }
+// A refusal without a place.
+fn placeless(refusal: u8) -> Fault
+    ensures { λ r. ⌜ r ≡ record { refusal = refusal; place = 0 } ⌝ }
 {
+    Fault { refusal, place: 0 }
+}
+
+// Whether the text is an index from `start` on: a number text that does not begin with `0` unless it is `0` itself.
+fn check_index(id: &[u8], start: usize) -> Fault
+    requires { ⌜ start ≤ length (now id) ⌝ }
+    ensures { λ r. ⌜ r ≡ fault (indexOf (drop start (now (id .entry)))) (start + numeralPlace (numeralOf (drop start (now (id .entry))))) ⌝ }
+{
+    let index = &id[start..];
     if 1 < index.len() {
         if index[0] == b'0' {
-            return BAD_PREFIX;
+            return placeless(BAD_PREFIX);
         }
     }
-    let Numeral::Value(_) = text::read_number(index) else {
-        return BAD_NUMBER;
-    };
-    0
+    text::number_fault(text::read_number(index), start)
 }
 
 // Whether the text is the name, `-` and an index.
-fn check_named(id: &[u8], name: &[u8]) -> u8
-    ensures { λ r. ⌜ r ≡ namedOf (now (name .entry)) (now (id .entry)) ⌝ }
+fn check_named(id: &[u8], name: &[u8]) -> Fault
+    ensures { λ r. ⌜ r ≡ fault (namedOf (now (name .entry)) (now (id .entry))) (indexPlace (now (name .entry)) (now (id .entry))) ⌝ }
 {
     if !text::part::same_at(id, 0, name) {
-        return BAD_PREFIX;
+        return placeless(BAD_PREFIX);
     }
     let at = name.len();
     if id.len() <= at {
-        return BAD_PREFIX;
+        return placeless(BAD_PREFIX);
     }
     if id[at] != b'-' {
-        return BAD_PREFIX;
+        return placeless(BAD_PREFIX);
     }
-    let start = at + 1;
-    check_index(&id[start..])
+    check_index(id, at + 1)
 }
 
 // The larger of two limits.
@@ -125,14 +133,14 @@ pub fn validate_prefix_length(prefix: &[u8], min: u64, max: u64) -> u8
 }
 
 // Whether the text is `{name}-{index}`.
-pub fn validate_named_u64_index(id: &[u8], name: &[u8]) -> u8
-    ensures { λ r. ⌜ r ≡ namedIndexOf (now (id .entry)) (now (name .entry)) ⌝ }
+pub fn validate_named_u64_index(id: &[u8], name: &[u8]) -> Fault
+    ensures { λ r. ⌜ r ≡ namedIndexFault (now (id .entry)) (now (name .entry)) ⌝ }
 {
     if !text::part::all_ascii(id) {
-        return NOT_ASCII;
+        return placeless(NOT_ASCII);
     }
     if !text::part::all_ascii(name) {
-        return NOT_ASCII;
+        return placeless(NOT_ASCII);
     }
     check_named(id, name)
 }
@@ -150,17 +158,17 @@ fn check_plain(id: &[u8], least: u64, most: u64) -> u8
 
 // The same, then the name and an index. A text that is the name and an index has only identifier bytes, so that no more than its
 // length is left to check.
-fn check_indexed(id: &[u8], least: u64, most: u64, name: &[u8]) -> u8
+fn check_indexed(id: &[u8], least: u64, most: u64, name: &[u8]) -> Fault
     requires { ⌜ every identifierByte (now name) ≡ true ⌝ }
-    ensures { λ r. ⌜ r ≡ checkOf (record { least = least; most = most; form = indexed (now (name .entry)) }) (now (id .entry)) ⌝ }
+    ensures { λ r. ⌜ r ≡ faultOf (record { least = least; most = most; form = indexed (now (name .entry)) }) (now (id .entry)) ⌝ }
 {
     let named = check_named(id, name);
-    if named == 0 {
-        return length_within(id.len() as u64, least, most);
+    if named.refusal == 0 {
+        return placeless(length_within(id.len() as u64, least, most));
     }
-    let fault = check_plain(id, least, most);
-    if fault != 0 {
-        return fault;
+    let plain = check_plain(id, least, most);
+    if plain != 0 {
+        return placeless(plain);
     }
     named
 }
@@ -178,8 +186,8 @@ pub fn validate_client_identifier(id: &[u8]) -> u8
     check_plain(id, 9, 64)
 }
 
-pub fn validate_connection_identifier(id: &[u8]) -> u8
-    ensures { λ r. ⌜ r ≡ checkOf connection (now (id .entry)) ⌝ }
+pub fn validate_connection_identifier(id: &[u8]) -> Fault
+    ensures { λ r. ⌜ r ≡ faultOf connection (now (id .entry)) ⌝ }
 {
     check_indexed(id, 10, 64, b"connection")
 }
@@ -190,8 +198,8 @@ pub fn validate_port_identifier(id: &[u8]) -> u8
     check_plain(id, 2, 128)
 }
 
-pub fn validate_channel_identifier(id: &[u8]) -> u8
-    ensures { λ r. ⌜ r ≡ checkOf channel (now (id .entry)) ⌝ }
+pub fn validate_channel_identifier(id: &[u8]) -> Fault
+    ensures { λ r. ⌜ r ≡ faultOf channel (now (id .entry)) ⌝ }
 {
     check_indexed(id, 8, 64, b"channel")
 }

@@ -12,7 +12,7 @@ use Rattle.text.specs.Number.{isDigit, withDigit, digitsFrom, digitsAt, 
 use Rattle.text.specs.declared.Numeral.{Numeral}
 use Rattle.text.specs.declared.Numeral.the-variants.{Value, NoDigits, NotADigit, TooLarge}
 use Rattle.text.specs.Refusal.{noDigits}
-use Rattle.text.specs.Fault.{numeralFault, numeralPlace, IsNumber, Mends}
+use Rattle.text.specs.Fault.{fault, hasPlace, numeralFault, numeralPlace, IsNumber, Mends}
 
 -- a numeral is a fault
 abbrev Faulty : Numeral → Type 0
@@ -133,3 +133,7 @@ number-place c = go (numeralOf c) refl
     go (NoDigits i) e = let k : i ≤ length c = rw e at (number-mends c (rw e (λ h. omega arith)) .inside) in k
     go (NotADigit i) e = let k : i ≤ length c = rw e at (number-mends c (rw e (λ h. omega arith)) .inside) in k
     go (TooLarge i) e = let k : i ≤ length c = rw e at (number-mends c (rw e (λ h. omega arith)) .inside) in k
+
+-- ---- a refusal without a place
+pub refuses : (n m p : ℕ) → m ≡ n → hasPlace n ≡ false → record { refusal = n; place = 0 } ≡ fault m p
+refuses n m p e h = rw (e, h)

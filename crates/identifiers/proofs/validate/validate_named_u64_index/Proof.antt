@@ -1,22 +1,25 @@
 -- `identifiers::validate::validate_named_u64_index` meets its contract.
 -- Assumes nothing.
-use mathlib.Core.Path.{sym, _∙_}
+use mathlib.Core.Path.{refl, sym, _∙_}
 use borrow.Author.Tests.{not-true, not-false}
 use borrow.Author.Needs.{needs}
-use Rattle.identifiers.specs.Check.{namedIndexOf}
+use Rattle.text.specs.FaultLaws.{refuses}
+use Rattle.identifiers.specs.Check.{namedIndexOf, namedIndexFault}
 use Rattle.identifiers.proofs.validate.validate_named_u64_index.Statement.{statement}
 use Rattle.identifiers.proofs.validate.validate_named_u64_index.Tie as tie
 
 returns : tie.Need-returns
-unfolding namedIndexOf
-returns c = rw (sym (c .before .all-ascii .ensures) ∙ not-true _ (c .if1 .taken))
+unfolding namedIndexOf namedIndexFault
+returns c = c .placeless .ensures ∙ rw (sym (c .before .before .all-ascii .ensures) ∙ not-true _ (c .before .if1 .taken))
 
 returns-2 : tie.Need-returns-2
-unfolding namedIndexOf
-returns-2 c = let b = c .before .before in rw (sym (b .before .all-ascii .ensures) ∙ not-false _ (b .if1 .left), sym (c .before .all-ascii2 .ensures) ∙ not-true _ (c .if2 .taken))
+unfolding namedIndexOf namedIndexFault
+returns-2 c =
+    let b = c .before .before .before in
+    c .placeless2 .ensures ∙ rw (sym (b .before .all-ascii .ensures) ∙ not-false _ (b .if1 .left), sym (c .before .before .all-ascii2 .ensures) ∙ not-true _ (c .before .if2 .taken))
 
 returns-3 : tie.Need-returns-3
-unfolding namedIndexOf
+unfolding namedIndexOf namedIndexFault
 returns-3 c = let b = c .before .before .before in rw (sym (b .before .all-ascii .ensures) ∙ not-false _ (b .if1 .left), sym (c .before .before .all-ascii2 .ensures) ∙ not-false _ (c .before .if2 .left)) (c .check-named .ensures)
 
 pub validate-named-u64-index-spec : {M : Type 1} → statement M
@@ -24,7 +27,9 @@ validate-named-u64-index-spec =
     tie.close
     (tie.spec
     (λ c κs. search needs)
+    (λ c κs. search needs)
     returns
+    (λ c κs. search needs)
     (λ c κs. search needs)
     returns-2
     (λ c κs. search needs)

@@ -1,15 +1,16 @@
 -- `identifiers::connection_id::ConnectionId::from_str` meets its contract.
 -- Assumes nothing.
 use borrow.Author.Needs.{needs}
+use Rattle.identifiers.specs.Check.{faultOf}
 use Rattle.identifiers.specs.Owned.{asWritten, madeConnection}
 use Rattle.identifiers.proofs.connection_id.ConnectionId.from_str.Statement.{statement}
 use Rattle.identifiers.proofs.connection_id.ConnectionId.from_str.Tie as tie
 
 returns : tie.Need-returns
-unfolding asWritten madeConnection
+unfolding asWritten madeConnection faultOf
 returns c =
     let w = c .before .write-accepted .ensures in
-    rw (← c .before .before .before .validate-connection-identifier .ensures, ← w .0, ← w .1)
+    rw (w .0, w .1, c .before .before .before .validate-connection-identifier .ensures)
 
 pub from-str-spec : {M : Type 1} → statement M
 from-str-spec =
