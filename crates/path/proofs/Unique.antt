@@ -4,7 +4,7 @@ use mathlib.Core.Path.{sym, _∙_}
 use Rattle.text.specs.Outcome.{One}
 use Rattle.path.proofs.view.Reads as view
 use Rattle.path.proofs.provable.is_provable.Reads as is-provable
-use Rattle.path.proofs.refusal_number.Reads as refusal-number
+use Rattle.path.proofs.fault_of.Reads as fault-of
 use Rattle.path.proofs.measure.render_length.Reads as render-length
 use Rattle.path.proofs.name.name_fault.Reads as name-fault
 use Rattle.path.proofs.refusal_of.Reads as refusal-of
@@ -16,8 +16,8 @@ one-view κs a r₁ r₂ s₁ s₂ p q = p ∙ sym q
 pub one-is-provable : One is-provable.Post
 one-is-provable κs a r₁ r₂ s₁ s₂ p q = p ∙ sym q
 
-pub one-refusal-number : One refusal-number.Post
-one-refusal-number κs a r₁ r₂ s₁ s₂ p q = p ∙ sym q
+pub one-fault-of : One fault-of.Post
+one-fault-of κs a r₁ r₂ s₁ s₂ p q = p ∙ sym q
 
 pub one-render-length : One render-length.Post
 one-render-length κs a r₁ r₂ s₁ s₂ p q = p ∙ sym q

@@ -8,8 +8,9 @@ use lib.ListN.{length, getD}
 use Rattle.text.specs.Bytes.{bytes}
 use Rattle.text.specs.Number.{numeralOf, decimal, bigEndian}
 use Rattle.text.specs.Part.{every, ascii, same}
-use Rattle.text.specs.Refusal.{tooLong, notAscii, notAPath, badSegment, badKind}
-use Rattle.text.specs.Put.{Wanted, refused, text, accepted}
+use Rattle.text.specs.Refusal.{tooLong, notAscii, notAPath, badSegment, badKind, noDigits, notADigit, tooLarge}
+use Rattle.text.specs.Put.{Wanted, refused, text, accepted, answer}
+use Rattle.text.specs.declared.Fault.{Fault}
 use Rattle.text.specs.declared.Numeral.{Numeral}
 use Rattle.text.specs.declared.Numeral.the-variants.{Value, NoDigits, NotADigit, TooLarge}
 use Rattle.identifiers.specs.Check.{first, unless, isValue, checkOf}
@@ -19,7 +20,7 @@ use Rattle.path.specs.declared.Path.{Path}
 use Rattle.path.specs.declared.PathAnswer.{PathAnswer}
 use Rattle.path.specs.declared.PathAnswer.the-variants.{Found, Nothing}
 use Rattle.path.specs.declared.Refusal.{Refusal}
-use Rattle.path.specs.declared.Refusal.the-variants.{TooLong, NotAscii, NotAPath}
+use Rattle.path.specs.declared.Refusal.the-variants.{TooLong, NotAscii, NotAPath, NoDigits as WithoutDigits, NotADigit as WithoutDigit, TooLarge as AboveAll}
 use Rattle.path.specs.declared.Reading.{Reading}
 use Rattle.path.specs.declared.Reading.the-variants.{Read, Refused}
 use Rattle.path.specs.Text.{components, component, cutAt, join, placeAt, nowhere, partOf}
@@ -72,14 +73,17 @@ adds (name n) c p v = setName n p v
 adds count c p v = carried (v .first) (v .second) (numberIn c) (v .b)
 adds pair c p v = carried (v .first) (v .second) (numberIn (getD (cutAt 45 c) 0 [])) (numberIn (getD (cutAt 45 c) 1 []))
 
--- what the components from the k-th on carry, and whether each is what its part asks for
+-- what the components from the k-th on carry, and whether each passes a test of its part
 abbrev pub carriedFrom : ℕ → List Part → List ℕ → Carried Place
 carriedFrom k [] t = carried nowhere nowhere 0 0
 carriedFrom k (p ∷ ps) t = adds p (component t k) (placeAt t k) (carriedFrom (k + 1) ps t)
 
+abbrev pub allFrom : (Part → List ℕ → Bool) → ℕ → List Part → List ℕ → Bool
+allFrom f k [] t = true
+allFrom f k (p ∷ ps) t = f p (component t k) && allFrom f (k + 1) ps t
+
 abbrev pub fitFrom : ℕ → List Part → List ℕ → Bool
-fitFrom k [] t = true
-fitFrom k (p ∷ ps) t = fits p (component t k) && fitFrom (k + 1) ps t
+fitFrom k ps t = allFrom fits k ps t
 
 abbrev pub componentCount : List ℕ → ℕ
 componentCount t = length (components t)
@@ -99,6 +103,56 @@ orElse Nothing x = x
 unfoldable pub readFirst : List Kind → List ℕ → PathAnswer
 readFirst [] t = Nothing
 readFirst (e ∷ es) t = orElse (readKind e t) (readFirst es t)
+
+-- ---- what was wrong with the number
+-- a component is what the part asks for, or the part is a number
+unfoldable pub suits : Part → List ℕ → Bool
+suits (word w) c = fits (word w) c
+suits (name n) c = fits (name n) c
+suits count c = true
+suits pair c = true
+
+-- every part but the numbers fits
+unfoldable pub suitsKind : Kind → List ℕ → Bool
+suitsKind e t = eqb (componentCount t) (length (e .parts)) && allFrom suits 0 (e .parts) t
+
+-- the fault of a number text whose first byte stands at i, if it has one
+abbrev pub numeralFaults : ℕ → Numeral → List Refusal
+numeralFaults i (Value n) = []
+numeralFaults i (NoDigits j) = WithoutDigits (i + j) ∷ []
+numeralFaults i (NotADigit j) = WithoutDigit (i + j) ∷ []
+numeralFaults i (TooLarge j) = AboveAll (i + j) ∷ []
+
+-- those of R-h, where there is exactly one dash
+abbrev pub pairFaults : ℕ → List (List ℕ) → List Refusal
+pairFaults i [] = []
+pairFaults i (r ∷ []) = []
+pairFaults i (r ∷ (h ∷ [])) = numeralFaults i (numeralOf r) ++ numeralFaults (i + length r + 1) (numeralOf h)
+pairFaults i (r ∷ (h ∷ (x ∷ xs))) = []
+
+-- those of a component whose first byte stands at i
+unfoldable pub partFaults : Part → ℕ → List ℕ → List Refusal
+partFaults (word w) i c = []
+partFaults (name n) i c = []
+partFaults count i c = numeralFaults i (numeralOf c)
+partFaults pair i c = pairFaults i (cutAt 45 c)
+
+-- those of the components from the k-th on, in their order
+abbrev pub faultsFrom : ℕ → List Part → List ℕ → List Refusal
+faultsFrom k [] t = []
+faultsFrom k (p ∷ ps) t = partFaults p (placeAt t k .start) (component t k) ++ faultsFrom (k + 1) ps t
+
+-- those of a text as a path of that kind, and of these kinds. (A text suits one kind at most: ReadLaws)
+unfoldable pub kindFaults : Kind → List ℕ → List Refusal
+kindFaults e t = cond (suitsKind e t) (faultsFrom 0 (e .parts) t) []
+
+unfoldable pub faultsAs : List Kind → List ℕ → List Refusal
+faultsAs [] t = []
+faultsAs (e ∷ es) t = kindFaults e t ++ faultsAs es t
+
+-- why no kind fits the text: its first bad number, or all else
+unfoldable pub whyNot : List ℕ → Refusal
+whyNot t = getD (faultsAs kinds t) 0 NotAPath
 
 -- ---- rendering
 unfoldable pub show : Part → Carried (List ℕ) → List ℕ
@@ -148,6 +202,20 @@ abbrev pub refusalOf : Refusal → ℕ
 refusalOf TooLong = tooLong
 refusalOf NotAscii = notAscii
 refusalOf NotAPath = notAPath
+refusalOf (WithoutDigits i) = noDigits
+refusalOf (WithoutDigit i) = notADigit
+refusalOf (AboveAll i) = tooLarge
+
+abbrev pub placeOf : Refusal → ℕ
+placeOf TooLong = 0
+placeOf NotAscii = 0
+placeOf NotAPath = 0
+placeOf (WithoutDigits i) = i
+placeOf (WithoutDigit i) = i
+placeOf (AboveAll i) = i
+
+abbrev pub faultOf : Refusal → Fault
+faultOf w = record { refusal = refusalOf w; place = placeOf w }
 
 abbrev pub numberOf : Reading → ℕ
 numberOf (Read p e) = 0
@@ -156,7 +224,7 @@ numberOf (Refused w) = refusalOf w
 -- a reading is exact where its rendering is the text
 abbrev pub readingOf : List ℕ → PathAnswer → Reading
 readingOf t (Found p) = Read p (same t (renderPath t p))
-readingOf t Nothing = Refused NotAPath
+readingOf t Nothing = Refused (whyNot t)
 
 unfoldable pub readPath : List ℕ → Reading
 readPath t = cond (ltb 4096 (length t)) (Refused TooLong) (cond (ascii t) (readingOf t (readFirst kinds t)) (Refused NotAscii))
@@ -179,3 +247,11 @@ bytesBy (Refused r) = refused (refusalOf r)
 
 unfoldable pub readingBytes : List ℕ → Wanted
 readingBytes t = bytesBy (readPath t)
+
+-- what the reader for the node answers, where its buffer has that much room
+abbrev pub readPlace : Reading → ℕ
+readPlace (Read p e) = 0
+readPlace (Refused w) = placeOf w
+
+unfoldable pub readFault : List ℕ → ℕ → Fault
+readFault t room = record { refusal = answer (readingBytes t) room .refusal; place = readPlace (readPath t) }

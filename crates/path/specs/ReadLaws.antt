@@ -5,6 +5,7 @@ use mathlib.Core.Path.{_≡_, refl, sym, ap, _∙_}
 use mathlib.Core.List.{List, [], _∷_, map}
 use mathlib.Core.Option.{Option, none, some}
 use mathlib.Core.Bool.{Bool, true, false, not, cond, _&&_, _||_, and-false}
+use native.Mathlib.Decide.{decLt}
 use native.Mathlib.Omega.{arith}
 use native.Mathlib.Numerals.{add-one}
 use lib.Dec.{eqb, leb}
@@ -19,36 +20,47 @@ use Rattle.path.specs.declared.Path.the-variants.{NextClientSequence, Ne
 use Rattle.path.specs.declared.PathAnswer.the-variants.{Found, Nothing}
 use Rattle.path.specs.Text.{components}
 use Rattle.path.specs.Kinds.{Part, word, name, count, pair, Carried, Kind, kinds, kind1}
-use Rattle.path.specs.Read.{fits, carriedFrom, fitFrom, componentCount, fitsKind, readKind, orElse, readFirst, partsOf}
+use Rattle.path.specs.Read.{fits, suits, carriedFrom, allFrom, componentCount, fitsKind, suitsKind, readKind, orElse, readFirst, partsOf}
 use Rattle.path.specs.Reads.{Has, here, later, Reads, kindAt}
 use Rattle.path.specs.View.{kindOf, carriedOf}
 
--- ---- a text fits a kind where its components, one by one, fit the parts
+-- ---- a text passes a test of each part of a kind where its components, one by one, pass it
+abbrev pub allOf : (Part → List ℕ → Bool) → List Part → List (List ℕ) → Bool
+allOf f [] [] = true
+allOf f [] (c ∷ cs) = false
+allOf f (p ∷ ps) [] = false
+allOf f (p ∷ ps) (c ∷ cs) = f p c && allOf f ps cs
+
 abbrev pub fitAll : List Part → List (List ℕ) → Bool
-fitAll [] [] = true
-fitAll [] (c ∷ cs) = false
-fitAll (p ∷ ps) [] = false
-fitAll (p ∷ ps) (c ∷ cs) = fits p c && fitAll ps cs
+fitAll ps cs = allOf fits ps cs
 
-fit-length : (ps : List Part) (cs : List (List ℕ)) → (length cs ≡ length ps → ⊥) → fitAll ps cs ≡ false
-fit-length [] [] h = absurd (h refl)
-fit-length [] (c ∷ cs) h = refl
-fit-length (p ∷ ps) [] h = refl
-fit-length (p ∷ ps) (c ∷ cs) h = rw (fit-length ps cs (λ e. h (ap suc e))) (and-false (fits p c))
+module _ (f : Part → List ℕ → Bool) where
+  all-length : (ps : List Part) (cs : List (List ℕ)) → (length cs ≡ length ps → ⊥) → allOf f ps cs ≡ false
+  all-length [] [] h = absurd (h refl)
+  all-length [] (c ∷ cs) h = refl
+  all-length (p ∷ ps) [] h = refl
+  all-length (p ∷ ps) (c ∷ cs) h = rw (all-length ps cs (λ e. h (ap suc e))) (and-false (f p c))
 
-fit-from : (k : ℕ) (ps : List Part) (t : List ℕ) → k + length ps ≡ componentCount t → fitFrom k ps t ≡ fitAll ps (drop k (components t))
-fit-from k [] t h = let l : componentCount t ≤ k = omega arith in rw (drop-of-length-le (components t) l)
-fit-from k (p ∷ ps) t h =
-    let l : k < componentCount t = omega arith in
-    rw (drop-cons (components t) k [] l, fit-from (k + 1) ps t (omega arith), add-one)
+  all-from : (k : ℕ) (ps : List Part) (t : List ℕ) → k + length ps ≡ componentCount t → allFrom f k ps t ≡ allOf f ps (drop k (components t))
+  all-from k [] t h = let l : componentCount t ≤ k = omega arith in rw (drop-of-length-le (components t) l)
+  all-from k (p ∷ ps) t h =
+      let l : k < componentCount t = omega arith in
+      rw (drop-cons (components t) k [] l, all-from (k + 1) ps t (omega arith), add-one)
+
+  all-kind : (e : Kind) (t : List ℕ) → (eqb (componentCount t) (length (e .parts)) && allFrom f 0 (e .parts) t) ≡ allOf f (e .parts) (components t)
+  all-kind e t = go (eqb (componentCount t) (length (e .parts))) refl
+    where
+      go : (v : Bool) → eqb (componentCount t) (length (e .parts)) ≡ v → (v && allFrom f 0 (e .parts) t) ≡ allOf f (e .parts) (components t)
+      go true h = all-from 0 (e .parts) t (omega (arith, eqb-true (componentCount t) (length (e .parts)) h))
+      go false h = sym (all-length (e .parts) (components t) (eqb-false (componentCount t) (length (e .parts)) h))
 
 pub kind-fits : (e : Kind) (t : List ℕ) → fitsKind e t ≡ fitAll (e .parts) (components t)
 unfolding fitsKind
-kind-fits e t = go (eqb (componentCount t) (length (e .parts))) refl
-  where
-    go : (v : Bool) → eqb (componentCount t) (length (e .parts)) ≡ v → (v && fitFrom 0 (e .parts) t) ≡ fitAll (e .parts) (components t)
-    go true h = fit-from 0 (e .parts) t (omega (arith, eqb-true (componentCount t) (length (e .parts)) h))
-    go false h = sym (fit-length (e .parts) (components t) (eqb-false (componentCount t) (length (e .parts)) h))
+kind-fits e t = all-kind fits e t
+
+pub kind-suits : (e : Kind) (t : List ℕ) → suitsKind e t ≡ allOf suits (e .parts) (components t)
+unfolding suitsKind
+kind-suits e t = all-kind suits e t
 
 -- ---- two lists of parts that no text fits: another number of parts, or two different words at one place
 abbrev wordOf : Part → Option (List ℕ)
@@ -69,40 +81,49 @@ clash [] (q ∷ qs) = true
 clash (p ∷ ps) [] = true
 clash (p ∷ ps) (q ∷ qs) = differBy (wordOf p) (wordOf q) || clash ps qs
 
-word-fits : (p : Part) (w c : List ℕ) → wordOf p ≡ some w → fits p c ≡ true → c ≡ w
+-- a test that asks of a word to be that word
+module _ (f : Part → List ℕ → Bool) (words : (w c : List ℕ) → f (word w) c ≡ same c w) where
+  word-is : (p : Part) (w c : List ℕ) → wordOf p ≡ some w → f p c ≡ true → c ≡ w
+  word-is (word v) w c e g = let z : v ≡ w = cc in same-is c v (sym (words v c) ∙ g) ∙ z
+  word-is (name n) w c e g = let z : _≡_ {A = ℕ} 0 1 = cc in absurd (omega arith)
+  word-is count w c e g = let z : _≡_ {A = ℕ} 0 1 = cc in absurd (omega arith)
+  word-is pair w c e g = let z : _≡_ {A = ℕ} 0 1 = cc in absurd (omega arith)
+
+  differ-both : (p q : Part) (c : List ℕ) → differBy (wordOf p) (wordOf q) ≡ true → f p c ≡ true → f q c ≡ true → ⊥
+  differ-both p q c d g h = go (wordOf p) refl (wordOf q) refl d
+    where
+      go : (x : Option (List ℕ)) → wordOf p ≡ x → (y : Option (List ℕ)) → wordOf q ≡ y → differBy x y ≡ true → ⊥
+      go (some v) e (some w) i k =
+          let one : v ≡ w = sym (word-is p v c e g) ∙ word-is q w c i h in
+          let n : same v w ≡ false = not-true (same v w) k in
+          let y : same v w ≡ true = rw one (same-refl w) in
+          let z : _≡_ {A = ℕ} 0 1 = cc in omega arith
+      go (some v) e none i k = let z : _≡_ {A = ℕ} 0 1 = cc in omega arith
+      go none e (some w) i k = let z : _≡_ {A = ℕ} 0 1 = cc in omega arith
+      go none e none i k = let z : _≡_ {A = ℕ} 0 1 = cc in omega arith
+
+  clash-both : (ps qs : List Part) (cs : List (List ℕ)) → clash ps qs ≡ true → allOf f ps cs ≡ true → allOf f qs cs ≡ true → ⊥
+  clash-both [] [] cs d g h = let z : _≡_ {A = ℕ} 0 1 = cc in omega arith
+  clash-both [] (q ∷ qs) [] d g h = let z : _≡_ {A = ℕ} 0 1 = cc in omega arith
+  clash-both [] (q ∷ qs) (c ∷ cs) d g h = let z : _≡_ {A = ℕ} 0 1 = cc in omega arith
+  clash-both (p ∷ ps) [] [] d g h = let z : _≡_ {A = ℕ} 0 1 = cc in omega arith
+  clash-both (p ∷ ps) [] (c ∷ cs) d g h = let z : _≡_ {A = ℕ} 0 1 = cc in omega arith
+  clash-both (p ∷ ps) (q ∷ qs) [] d g h = let z : _≡_ {A = ℕ} 0 1 = cc in omega arith
+  clash-both (p ∷ ps) (q ∷ qs) (c ∷ cs) d g h =
+      go (differBy (wordOf p) (wordOf q)) refl d
+      (λ i. clash-both ps qs cs i (and-right (f p c) (allOf f ps cs) g) (and-right (f q c) (allOf f qs cs) h))
+    where
+      go : (v : Bool) → differBy (wordOf p) (wordOf q) ≡ v → (v || clash ps qs) ≡ true → (clash ps qs ≡ true → ⊥) → ⊥
+      go true e i k = differ-both p q c e (and-left (f p c) (allOf f ps cs) g) (and-left (f q c) (allOf f qs cs) h)
+      go false e i k = k i
+
+fits-word : (w c : List ℕ) → fits (word w) c ≡ same c w
 unfolding fits
-word-fits (word v) w c e f = let z : v ≡ w = cc in same-is c v f ∙ z
-word-fits (name n) w c e f = let z : _≡_ {A = ℕ} 0 1 = cc in absurd (omega arith)
-word-fits count w c e f = let z : _≡_ {A = ℕ} 0 1 = cc in absurd (omega arith)
-word-fits pair w c e f = let z : _≡_ {A = ℕ} 0 1 = cc in absurd (omega arith)
+fits-word w c = refl
 
-differ-fits : (p q : Part) (c : List ℕ) → differBy (wordOf p) (wordOf q) ≡ true → fits p c ≡ true → fits q c ≡ true → ⊥
-differ-fits p q c d f g = go (wordOf p) refl (wordOf q) refl d
-  where
-    go : (x : Option (List ℕ)) → wordOf p ≡ x → (y : Option (List ℕ)) → wordOf q ≡ y → differBy x y ≡ true → ⊥
-    go (some v) e (some w) h k =
-        let one : v ≡ w = sym (word-fits p v c e f) ∙ word-fits q w c h g in
-        let n : same v w ≡ false = not-true (same v w) k in
-        let y : same v w ≡ true = rw one (same-refl w) in
-        let z : _≡_ {A = ℕ} 0 1 = cc in omega arith
-    go (some v) e none h k = let z : _≡_ {A = ℕ} 0 1 = cc in omega arith
-    go none e (some w) h k = let z : _≡_ {A = ℕ} 0 1 = cc in omega arith
-    go none e none h k = let z : _≡_ {A = ℕ} 0 1 = cc in omega arith
-
-clash-fits : (ps qs : List Part) (cs : List (List ℕ)) → clash ps qs ≡ true → fitAll ps cs ≡ true → fitAll qs cs ≡ true → ⊥
-clash-fits [] [] cs d f g = let z : _≡_ {A = ℕ} 0 1 = cc in omega arith
-clash-fits [] (q ∷ qs) [] d f g = let z : _≡_ {A = ℕ} 0 1 = cc in omega arith
-clash-fits [] (q ∷ qs) (c ∷ cs) d f g = let z : _≡_ {A = ℕ} 0 1 = cc in omega arith
-clash-fits (p ∷ ps) [] [] d f g = let z : _≡_ {A = ℕ} 0 1 = cc in omega arith
-clash-fits (p ∷ ps) [] (c ∷ cs) d f g = let z : _≡_ {A = ℕ} 0 1 = cc in omega arith
-clash-fits (p ∷ ps) (q ∷ qs) [] d f g = let z : _≡_ {A = ℕ} 0 1 = cc in omega arith
-clash-fits (p ∷ ps) (q ∷ qs) (c ∷ cs) d f g =
-    go (differBy (wordOf p) (wordOf q)) refl d
-    (λ h. clash-fits ps qs cs h (and-right (fits p c) (fitAll ps cs) f) (and-right (fits q c) (fitAll qs cs) g))
-  where
-    go : (v : Bool) → differBy (wordOf p) (wordOf q) ≡ v → (v || clash ps qs) ≡ true → (clash ps qs ≡ true → ⊥) → ⊥
-    go true e h k = differ-fits p q c e (and-left (fits p c) (fitAll ps cs) f) (and-left (fits q c) (fitAll qs cs) g)
-    go false e h k = k h
+suits-word : (w c : List ℕ) → suits (word w) c ≡ same c w
+unfolding suits fits
+suits-word w c = refl
 
 -- ---- the whole table: each kind clashes with each later one
 abbrev clashAll : Kind → List Kind → Bool
@@ -132,7 +153,7 @@ read-has t (later {e} {x} {es} m) a f =
         → orElse (cond v (Found (x .make (carriedFrom 0 (x .parts) t))) Nothing) (readFirst es t) ≡ Found (e .make (carriedFrom 0 (e .parts) t))
     go true g ih =
         let d = clash-has x m (and-left (clashAll x es) (apartAll es) a) in
-        absurd (clash-fits (x .parts) (e .parts) (components t) d (sym (kind-fits x t) ∙ g) (sym (kind-fits e t) ∙ f))
+        absurd (clash-both fits fits-word (x .parts) (e .parts) (components t) d (sym (kind-fits x t) ∙ g) (sym (kind-fits e t) ∙ f))
     go false g ih = ih
 
 -- ---- the relation and the function
@@ -259,10 +280,29 @@ path-made (Receipt x) = refl
 path-made (UpgradeClientState x) = refl
 path-made (UpgradeConsensusState x) = refl
 
--- no text fits two kinds
+-- ---- no text passes such a test of two kinds
+at-apart : (es : List Kind) → apartAll es ≡ true → (i j : ℕ) → i < j → j < length es → clash (getD es i kind1 .parts) (getD es j kind1 .parts) ≡ true
+at-apart [] a i j h l = absurd (omega arith)
+at-apart (e ∷ es) a i zero h l = absurd (omega arith)
+at-apart (e ∷ es) a zero (suc j) h l = clash-has e (has-at es j (omega arith)) (and-left (clashAll e es) (apartAll es) a)
+at-apart (e ∷ es) a (suc i) (suc j) h l = at-apart es (and-right (clashAll e es) (apartAll es) a) i j (omega arith) (omega arith)
+
+module _ (f : Part → List ℕ → Bool) (words : (w c : List ℕ) → f (word w) c ≡ same c w) (t : List ℕ) where
+  below : (j k : ℕ) → 1 ≤ j → j < k → k ≤ 19 → allOf f (kindAt j .parts) (components t) ≡ true → allOf f (kindAt k .parts) (components t) ≡ true → ⊥
+  below j k low h high a b =
+      clash-both f words (kindAt j .parts) (kindAt k .parts) (components t) (at-apart kinds kinds-apart (j - 1) (k - 1) (omega arith) (omega (arith, kinds-count))) a b
+
+  one-kind : (j k : ℕ) → 1 ≤ j → j ≤ 19 → 1 ≤ k → k ≤ 19 → allOf f (kindAt j .parts) (components t) ≡ true → allOf f (kindAt k .parts) (components t) ≡ true → j ≡ k
+  one-kind j k a b c d g h = go (decLt j k) (decLt k j)
+    where
+      go : Dec (j < k) → Dec (k < j) → j ≡ k
+      go (yes l) m = absurd (below j k a l d g h)
+      go (no l) (yes m) = absurd (below k j c m b h g)
+      go (no l) (no m) = omega arith
+
 pub fits-one : (t : List ℕ) (j k : ℕ) → 1 ≤ j → j ≤ 19 → 1 ≤ k → k ≤ 19 → fitsKind (kindAt j) t ≡ true → fitsKind (kindAt k) t ≡ true → j ≡ k
-fits-one t j k a b c d f g =
-    let x = read-has t (kind-has j a b) kinds-apart f in
-    let y = read-has t (kind-has k c d) kinds-apart g in
-    let z : kindAt j .make (carriedFrom 0 (kindAt j .parts) t) ≡ kindAt k .make (carriedFrom 0 (kindAt k .parts) t) = cc in
-    sym (made-kind j a b (carriedFrom 0 (kindAt j .parts) t)) ∙ ap kindOf z ∙ made-kind k c d (carriedFrom 0 (kindAt k .parts) t)
+fits-one t j k a b c d g h = one-kind fits fits-word t j k a b c d (sym (kind-fits (kindAt j) t) ∙ g) (sym (kind-fits (kindAt k) t) ∙ h)
+
+-- and no text suits two
+pub suits-one : (t : List ℕ) (j k : ℕ) → 1 ≤ j → j ≤ 19 → 1 ≤ k → k ≤ 19 → suitsKind (kindAt j) t ≡ true → suitsKind (kindAt k) t ≡ true → j ≡ k
+suits-one t j k a b c d g h = one-kind suits suits-word t j k a b c d (sym (kind-suits (kindAt j) t) ∙ g) (sym (kind-suits (kindAt k) t) ∙ h)

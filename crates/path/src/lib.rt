@@ -4,11 +4,15 @@ pub mod measure;
 pub mod name;
 pub mod provable;
 
+use text::Fault;
+use text::refusal::NO_DIGITS;
+use text::refusal::NOT_A_DIGIT;
 use text::refusal::NOT_A_PATH;
 use text::refusal::NOT_ASCII;
+use text::refusal::TOO_LARGE;
 use text::refusal::TOO_LONG;
 ghost use mathlib.Core.Path.{_≡_};
-ghost use Rattle.path.specs.Read.{refusalOf, numberOf};
+ghost use Rattle.path.specs.Read.{faultOf, numberOf};
 ghost use Rattle.path.specs.View.{viewOf};
 
 // A part of the caller's text: where it starts, and its length.
@@ -102,10 +106,14 @@ pub enum PathAnswer {
     Nothing,
 }
 
+// Why a text is no path. The last three are of a text whose number alone is wrong, each with the place of its fault.
 pub enum Refusal {
     TooLong,
     NotAscii,
     NotAPath,
+    NoDigits(usize),
+    NotADigit(usize),
+    TooLarge(usize),
 }
 
 // What a text reads as; exact where its rendering is the text itself.
@@ -150,14 +158,35 @@ pub fn view(p: Path) -> PathView
     }
 }
 
-// The number of a refusal.
-pub fn refusal_number(why: Refusal) -> u8
-    ensures { λ r. ⌜ r ≡ refusalOf why ⌝ }
+// A refusal with its number and place.
+pub fn fault_of(why: Refusal) -> Fault
+    ensures { λ r. ⌜ r ≡ faultOf why ⌝ }
 {
     match why {
-        Refusal::TooLong => TOO_LONG,
-        Refusal::NotAscii => NOT_ASCII,
-        Refusal::NotAPath => NOT_A_PATH,
+        Refusal::TooLong => Fault {
+            refusal: TOO_LONG,
+            place: 0,
+        },
+        Refusal::NotAscii => Fault {
+            refusal: NOT_ASCII,
+            place: 0,
+        },
+        Refusal::NotAPath => Fault {
+            refusal: NOT_A_PATH,
+            place: 0,
+        },
+        Refusal::NoDigits(i) => Fault {
+            refusal: NO_DIGITS,
+            place: i as u64,
+        },
+        Refusal::NotADigit(i) => Fault {
+            refusal: NOT_A_DIGIT,
+            place: i as u64,
+        },
+        Refusal::TooLarge(i) => Fault {
+            refusal: TOO_LARGE,
+            place: i as u64,
+        },
     }
 }
 
@@ -168,5 +197,6 @@ pub fn refusal_of(reading: Reading) -> u8
     let Reading::Refused(why) = reading else {
         return 0;
     };
-    refusal_number(why)
+    let fault = fault_of(why);
+    fault.refusal
 }

@@ -50,9 +50,15 @@ pub fn name_fault(name: Name, id: &[u8]) -> u8
 {
     match name {
         Name::Client => validate::validate_client_identifier(id),
-        Name::Connection => validate::validate_connection_identifier(id),
+        Name::Connection => {
+            let fault = validate::validate_connection_identifier(id);
+            fault.refusal
+        }
         Name::Port => validate::validate_port_identifier(id),
-        Name::Channel => validate::validate_channel_identifier(id),
+        Name::Channel => {
+            let fault = validate::validate_channel_identifier(id);
+            fault.refusal
+        }
         Name::Upgrade => upgrade_fault(id),
     }
 }

@@ -45,7 +45,7 @@ digits-stop v i (b ∷ s) f = go (isDigit b) refl (ltb (withDigit v b) (2 ^ 64))
           place = rw (e, l) (omega (arith, x .place));
           before = (x .before .0, rw (e, l) (x .before .1));
           after = λ r. rw (e, l) (x .after r);
-          other = λ h. x .other (rw (e, l) at h)
+          other = λ h. x .other (rw (e, l) at h);
         }
     go true e false l g ih =
         record { n = 0; inside = omega arith; place = rw (e, l) (omega arith); before = (v, refl); after = λ r. rw (e, l); other = λ h. let k : _≡_ {A = ℕ} 19 17 = rw (e, l) at h in omega arith }
@@ -82,7 +82,7 @@ at-ends i (b ∷ s) f = go (digits-stop 0 i (b ∷ s) f)
           place = x .place;
           begun = start (x .n) (x .before .0) (x .before .1);
           ended = λ h. absurd (x .other h);
-          stuck = λ h. (x .inside, x .after)
+          stuck = λ h. (x .inside, x .after);
         }
 
 -- ---- the sign
@@ -112,7 +112,7 @@ number-mends (b ∷ s) f = go (eqb b 43) refl f
           inside = let h = x .inside in omega arith;
           begun = (x .begun .0, (x .begun .1, rw (p, e) (x .begun .2)));
           ended = λ h. let k = x .ended h in omega arith;
-          stuck = λ h. (let k = x .stuck h .0 in omega arith, λ r y. let k : digitsAt 1 (take (suc (x .n)) s ++ r) ≡ Value (y .0) = rw (p, e) at (y .1) in fault-value (digitsAt 1 s) (y .0) g (sym (x .stuck h .1 r) ∙ k))
+          stuck = λ h. (let k = x .stuck h .0 in omega arith, λ r y. let k : digitsAt 1 (take (suc (x .n)) s ++ r) ≡ Value (y .0) = rw (p, e) at (y .1) in fault-value (digitsAt 1 s) (y .0) g (sym (x .stuck h .1 r) ∙ k));
         }
     go false e g =
         let x = at-ends 0 (b ∷ s) g in
@@ -121,7 +121,7 @@ number-mends (b ∷ s) f = go (eqb b 43) refl f
           inside = let h = x .inside in omega arith;
           begun = (x .begun .0, (x .begun .1, rw p (plain-number (take (x .n) (b ∷ s) ++ x .begun .0) (x .begun .1) (x .begun .2))));
           ended = λ h. let k = x .ended h in omega arith;
-          stuck = λ h. (let k = x .stuck h .0 in omega arith, λ r y. let k : digitsAt 0 (b ∷ (take (x .n) s ++ r)) ≡ Value (y .0) = rw (p, e) at (y .1) in fault-value (digitsAt 0 (b ∷ s)) (y .0) g (sym (x .stuck h .1 r) ∙ k))
+          stuck = λ h. (let k = x .stuck h .0 in omega arith, λ r y. let k : digitsAt 0 (b ∷ (take (x .n) s ++ r)) ≡ Value (y .0) = rw (p, e) at (y .1) in fault-value (digitsAt 0 (b ∷ s)) (y .0) g (sym (x .stuck h .1 r) ∙ k));
         }
 
 -- the place of a number text, also of one without fault, is in the text or at its end
