@@ -95,8 +95,6 @@ enum hp_refusal {
     HP_BAD_LENGTH = 6,
     /* the identifier is not its name, a dash and a number without leading zeros: write it as in channel-7 */
     HP_BAD_PREFIX = 7,
-    /* after the dash stands no number from 0 to 18446744073709551615: write it as in channel-7 */
-    HP_BAD_NUMBER = 8,
     /* the buffer holds no book: make a new one in it, or lend the bytes that a book left */
     HP_BAD_BOOK = 9,
     /* the path's key has more than the 255 bytes that a book keeps: shorten its upgrade path */
@@ -112,12 +110,19 @@ enum hp_refusal {
     /* the bytes are not iterateConsensusStates and 16 more, 38 in all: give one whole iteration key */
     HP_BAD_ITER_KEY = 15,
     /* the block is not whole iteration keys that rise, no two the same: put them in order and take out what is no key */
-    HP_BAD_BLOCK = 16
+    HP_BAD_BLOCK = 16,
+    /* where a number should stand there is no digit: write one, from 0 to 18446744073709551615 */
+    HP_NO_DIGITS = 17,
+    /* a byte of the number is no digit: write it in the digits 0 to 9 alone */
+    HP_NOT_A_DIGIT = 18,
+    /* the number is above 18446744073709551615: write a smaller one */
+    HP_TOO_LARGE = 19
     /* Above, made by bin/interface. */
 };
 
 /* What calls answer: a refusal, or HP_DONE, and what they give, which is 0 where they refuse. */
 /* Below, made by bin/interface: answers in c. */
+struct hp_fault { uint8_t refusal; uint64_t place; };
 struct hp_written { uint8_t refusal; uint64_t length; };
 struct hp_flag { uint8_t refusal; uint8_t value; };
 struct hp_pair { uint8_t refusal; uint64_t number; uint64_t height; };
@@ -133,18 +138,21 @@ uint8_t hp_validate_identifier_chars(const uint8_t *id, size_t id_len);
 uint8_t hp_validate_identifier_length(const uint8_t *id, size_t id_len, uint64_t min, uint64_t max);
 /* The length is from min - 2, raised to 1, to max - 21, both stopping at 0: 2, 6. */
 uint8_t hp_validate_prefix_length(const uint8_t *prefix, size_t prefix_len, uint64_t min, uint64_t max);
-/* The name, `-` and an index; either text may give 2: 2, 7, 8. */
-uint8_t hp_validate_named_u64_index(const uint8_t *id, size_t id_len, const uint8_t *name, size_t name_len);
+/* The name, `-` and an index; either text may give 2. The place of 17, 18 and 19 is the byte of id where the fault
+ * stands: 2, 7, then 17, 18 or 19. */
+struct hp_fault hp_validate_named_u64_index(const uint8_t *id, size_t id_len, const uint8_t *name, size_t name_len);
 /* A client type of 7 to 43 bytes: 2, 5, 6. */
 uint8_t hp_validate_client_type(const uint8_t *id, size_t id_len);
 /* A client identifier of 9 to 64 bytes: 2, 5, 6. */
 uint8_t hp_validate_client_identifier(const uint8_t *id, size_t id_len);
-/* A connection identifier of 10 to 64 bytes, `connection-` and an index: 2, 5, 6, 7, 8. */
-uint8_t hp_validate_connection_identifier(const uint8_t *id, size_t id_len);
+/* A connection identifier of 10 to 64 bytes, `connection-` and an index, with the place as above: 2, 5, 6, 7, then 17,
+ * 18 or 19. */
+struct hp_fault hp_validate_connection_identifier(const uint8_t *id, size_t id_len);
 /* A port identifier of 2 to 128 bytes: 2, 5, 6. */
 uint8_t hp_validate_port_identifier(const uint8_t *id, size_t id_len);
-/* A channel identifier of 8 to 64 bytes, `channel-` and an index: 2, 5, 6, 7, 8. */
-uint8_t hp_validate_channel_identifier(const uint8_t *id, size_t id_len);
+/* A channel identifier of 8 to 64 bytes, `channel-` and an index, with the place as above: 2, 5, 6, 7, then 17,
+ * 18 or 19. */
+struct hp_fault hp_validate_channel_identifier(const uint8_t *id, size_t id_len);
 
 /* Identifiers from a counter. */
 
@@ -156,9 +164,10 @@ struct hp_written hp_channel_id_new(uint64_t counter, uint8_t *out, size_t out_l
 /* Paths. */
 
 /* The reading in 26 bytes, high bytes first: kind; 1 exact or 0 loose; start and length of the first identifier
- * and of the second, 2 bytes each; two numbers of 8 bytes. What the kind lacks is 0: 1, 2, 3, 4. */
-uint8_t hp_read(const uint8_t *text, size_t text_len, uint8_t *out, size_t out_len);
-/* The rendering of the text: 1, 2, 3, 4. */
+ * and of the second, 2 bytes each; two numbers of 8 bytes. What the kind lacks is 0. 17, 18 and 19 stand at 3's place, where
+ * a number alone is wrong, with the byte of the text where its fault stands: 1, 2, 3 (17, 18, 19), 4. */
+struct hp_fault hp_read(const uint8_t *text, size_t text_len, uint8_t *out, size_t out_len);
+/* The rendering of the text: 1, 2, 3 (17, 18, 19), 4. */
 struct hp_written hp_key(const uint8_t *text, size_t text_len, uint8_t *out, size_t out_len);
 /* The path of a kind; what the kind lacks has no influence: 14, first, second (an upgrade path: 2, 13), 1, 4. */
 struct hp_written hp_render(uint8_t kind, const uint8_t *first, size_t first_len, const uint8_t *second, size_t second_len, uint64_t a, uint64_t b, uint8_t *out, size_t out_len);
@@ -192,11 +201,14 @@ struct hp_written hp_update_height_leaf(uint64_t number, uint64_t height, uint8_
 struct hp_written hp_connection_prefix(uint8_t *out, size_t out_len);
 /* `channelEnds`: 4. */
 struct hp_written hp_channel_end_prefix(uint8_t *out, size_t out_len);
-/* `commitments/ports/P/channels/H/sequences`: the port's 2, 5, 6; the channel's 2, 5, 6, 7, 8; then 4. */
+/* `commitments/ports/P/channels/H/sequences`: the port's 2, 5, 6; the channel's 2, 5, 6, 7, then
+ * 17, 18 or 19; then 4. */
 struct hp_written hp_commitments_path(const uint8_t *port, size_t port_len, const uint8_t *channel, size_t channel_len, uint8_t *out, size_t out_len);
-/* `acks/ports/P/channels/H/sequences`: the port's 2, 5, 6; the channel's 2, 5, 6, 7, 8; then 4. */
+/* `acks/ports/P/channels/H/sequences`: the port's 2, 5, 6; the channel's 2, 5, 6, 7, then
+ * 17, 18 or 19; then 4. */
 struct hp_written hp_acks_path(const uint8_t *port, size_t port_len, const uint8_t *channel, size_t channel_len, uint8_t *out, size_t out_len);
-/* `receipts/ports/P/channels/H/sequences`: the port's 2, 5, 6; the channel's 2, 5, 6, 7, 8; then 4. */
+/* `receipts/ports/P/channels/H/sequences`: the port's 2, 5, 6; the channel's 2, 5, 6, 7, then
+ * 17, 18 or 19; then 4. */
 struct hp_written hp_receipts_path(const uint8_t *port, size_t port_len, const uint8_t *channel, size_t channel_len, uint8_t *out, size_t out_len);
 /* `commitments`: 4. */
 struct hp_written hp_commitment_prefix(uint8_t *out, size_t out_len);
@@ -209,12 +221,13 @@ struct hp_written hp_receipt_prefix(uint8_t *out, size_t out_len);
 
 /* Makes the buffer, whatever it holds, a book without records; its size alone is looked at: 9. */
 uint8_t hp_book_new(uint8_t *book, size_t book_len);
-/* The rendering of the text holds the value from now on, anew or in place of what it held: 9, 1, 2, 3, 10, 6, 11. */
+/* The rendering of the text holds the value from now on, anew or in place of what it held:
+ * 9, 1, 2, 3 (17, 18, 19), 10, 6, 11. */
 uint8_t hp_book_write(uint8_t *book, size_t book_len, const uint8_t *text, size_t text_len, const uint8_t *value, size_t value_len);
-/* The rendering of the text holds nothing from now on: 9, 1, 2, 3, 10, 12. */
+/* The rendering of the text holds nothing from now on: 9, 1, 2, 3 (17, 18, 19), 10, 12. */
 uint8_t hp_book_remove(uint8_t *book, size_t book_len, const uint8_t *text, size_t text_len);
 /* What the rendering of the text holds, in 32 bytes; wants that room even where it holds nothing:
- * 9, 1, 2, 3, 10, 4, 12. */
+ * 9, 1, 2, 3 (17, 18, 19), 10, 4, 12. */
 uint8_t hp_book_lookup(const uint8_t *book, size_t book_len, const uint8_t *text, size_t text_len, uint8_t *out, size_t out_len);
 /* The smallest pair of revision number and height among the client's records `clients/C/consensusStates/R-h`: 9, the
  * client's 2, 5, 6; then 12. */

@@ -9,7 +9,6 @@
 // BAD_CHAR: a byte is none of A-Z, a-z, 0-9 and . _ + - # [ ] < >, which identifiers are made of: take it out
 // BAD_LENGTH: the identifier is too short or too long, or the value is not of 32 bytes: give one of the right length
 // BAD_PREFIX: the identifier is not its name, a dash and a number without leading zeros: write it as in channel-7
-// BAD_NUMBER: after the dash stands no number from 0 to 18446744073709551615: write it as in channel-7
 // BAD_BOOK: the buffer holds no book: make a new one in it, or lend the bytes that a book left
 // KEY_TOO_LONG: the path's key has more than the 255 bytes that a book keeps: shorten its upgrade path
 // FULL: every slot of the book holds another key: remove a record, or take a book of more slots
@@ -18,6 +17,9 @@
 // BAD_KIND: the kind is not a number from 1 to 19: take it from the table of kinds
 // BAD_ITER_KEY: the bytes are not iterateConsensusStates and 16 more, 38 in all: give one whole iteration key
 // BAD_BLOCK: the block is not whole iteration keys that rise, no two the same: put them in order and take out what is no key
+// NO_DIGITS: where a number should stand there is no digit: write one, from 0 to 18446744073709551615
+// NOT_A_DIGIT: a byte of the number is no digit: write it in the digits 0 to 9 alone
+// TOO_LARGE: the number is above 18446744073709551615: write a smaller one
 use identifiers::channel_id::write_channel_id;
 use identifiers::client_id::write_client_id;
 use identifiers::validate;
@@ -26,6 +28,7 @@ use path::Pair;
 use path::RevisionHeight;
 use path::RevisionNumber;
 use path::provable::Flag;
+use text::Fault;
 use text::Written;
 ghost use mathlib.Core.Path.{_≡_};
 ghost use mathlib.Core.List.{_∷_, []};
@@ -33,11 +36,11 @@ ghost use lib.ListN.{length};
 ghost use Rattle.text.specs.Bytes.{bytes};
 ghost use Rattle.text.specs.Put.{text, answer, left};
 ghost use Rattle.text.specs.Refusal.{badIterKey};
-ghost use Rattle.identifiers.specs.Check.{charsOf, lengthOf, prefixLengthOf, namedIndexOf, checkOf, client, clientType, connection, port, channel};
+ghost use Rattle.identifiers.specs.Check.{charsOf, lengthOf, prefixLengthOf, namedIndexFault, checkOf, faultOf, client, clientType, connection, port, channel};
 ghost use Rattle.identifiers.specs.Owned.{newClient, newChannel};
 ghost use Rattle.path.specs.Kinds.{word, carried};
 ghost use Rattle.path.specs.Parents.{textOf, consensusParent, consensusLeaf, packetsPath};
-ghost use Rattle.path.specs.Read.{readingBytes, keyOf, renderOf};
+ghost use Rattle.path.specs.Read.{readingBytes, readFault, keyOf, renderOf};
 ghost use Rattle.path.specs.View.{provableFlag};
 ghost use Rattle.iteration.specs.Block.{blockOf, firstAbove, lastBelow, scanned};
 ghost use Rattle.iteration.specs.Key.{iterationKey, revision, keyIn, answered, pairOf};
@@ -71,10 +74,11 @@ pub extern "C" fn hp_validate_prefix_length(prefix: &[u8], min: u64, max: u64) -
     validate::validate_prefix_length(prefix, min, max)
 }
 
-// The name, `-` and an index; either text may give 2: 2, 7, 8.
+// The name, `-` and an index; either text may give 2. The place of 17, 18 and 19 is the byte of id where the fault
+// stands: 2, 7, then 17, 18 or 19.
 #[no_mangle]
-pub extern "C" fn hp_validate_named_u64_index(id: &[u8], name: &[u8]) -> u8
-    ensures { λ r. ⌜ r ≡ namedIndexOf (now (id .entry)) (now (name .entry)) ⌝ }
+pub extern "C" fn hp_validate_named_u64_index(id: &[u8], name: &[u8]) -> Fault
+    ensures { λ r. ⌜ r ≡ namedIndexFault (now (id .entry)) (now (name .entry)) ⌝ }
 {
     validate::validate_named_u64_index(id, name)
 }
@@ -95,10 +99,11 @@ pub extern "C" fn hp_validate_client_identifier(id: &[u8]) -> u8
     validate::validate_client_identifier(id)
 }
 
-// A connection identifier of 10 to 64 bytes, `connection-` and an index: 2, 5, 6, 7, 8.
+// A connection identifier of 10 to 64 bytes, `connection-` and an index, with the place as above: 2, 5, 6, 7, then 17,
+// 18 or 19.
 #[no_mangle]
-pub extern "C" fn hp_validate_connection_identifier(id: &[u8]) -> u8
-    ensures { λ r. ⌜ r ≡ checkOf connection (now (id .entry)) ⌝ }
+pub extern "C" fn hp_validate_connection_identifier(id: &[u8]) -> Fault
+    ensures { λ r. ⌜ r ≡ faultOf connection (now (id .entry)) ⌝ }
 {
     validate::validate_connection_identifier(id)
 }
@@ -111,10 +116,11 @@ pub extern "C" fn hp_validate_port_identifier(id: &[u8]) -> u8
     validate::validate_port_identifier(id)
 }
 
-// A channel identifier of 8 to 64 bytes, `channel-` and an index: 2, 5, 6, 7, 8.
+// A channel identifier of 8 to 64 bytes, `channel-` and an index, with the place as above: 2, 5, 6, 7, then 17,
+// 18 or 19.
 #[no_mangle]
-pub extern "C" fn hp_validate_channel_identifier(id: &[u8]) -> u8
-    ensures { λ r. ⌜ r ≡ checkOf channel (now (id .entry)) ⌝ }
+pub extern "C" fn hp_validate_channel_identifier(id: &[u8]) -> Fault
+    ensures { λ r. ⌜ r ≡ faultOf channel (now (id .entry)) ⌝ }
 {
     validate::validate_channel_identifier(id)
 }
@@ -142,17 +148,17 @@ pub extern "C" fn hp_channel_id_new(counter: u64, out: &mut [u8]) -> Written
 // Paths.
 
 // The reading in 26 bytes, high bytes first: kind; 1 exact or 0 loose; start and length of the first identifier
-// and of the second, 2 bytes each; two numbers of 8 bytes. What the kind lacks is 0: 1, 2, 3, 4.
+// and of the second, 2 bytes each; two numbers of 8 bytes. What the kind lacks is 0. 17, 18 and 19 stand at 3's place, where
+// a number alone is wrong, with the byte of the text where its fault stands: 1, 2, 3 (17, 18, 19), 4.
 #[no_mangle]
-pub extern "C" fn hp_read(text: &[u8], out: &mut [u8]) -> u8
-    ensures { λ r. ⌜ r ≡ answer (readingBytes (now (text .entry))) (length (now (out .entry))) .refusal ⌝ }
+pub extern "C" fn hp_read(text: &[u8], out: &mut [u8]) -> Fault
+    ensures { λ r. ⌜ r ≡ readFault (now (text .entry)) (length (now (out .entry))) ⌝ }
     ensures { λ _. ⌜ now (out .exit) ≡ left (readingBytes (now (text .entry))) (now (out .entry)) ⌝ }
 {
-    let read = reader::write_reading(text, out);
-    read.refusal
+    reader::write_reading(text, out)
 }
 
-// The rendering of the text: 1, 2, 3, 4.
+// The rendering of the text: 1, 2, 3 (17, 18, 19), 4.
 #[no_mangle]
 pub extern "C" fn hp_key(text: &[u8], out: &mut [u8]) -> Written
     ensures { λ r. ⌜ r ≡ answer (keyOf (now (text .entry))) (length (now (out .entry))) ⌝ }
@@ -301,7 +307,8 @@ pub extern "C" fn hp_channel_end_prefix(out: &mut [u8]) -> Written
     render::texts::channel_end_prefix(out)
 }
 
-// `commitments/ports/P/channels/H/sequences`: the port's 2, 5, 6; the channel's 2, 5, 6, 7, 8; then 4.
+// `commitments/ports/P/channels/H/sequences`: the port's 2, 5, 6; the channel's 2, 5, 6, 7, then
+// 17, 18 or 19; then 4.
 #[no_mangle]
 pub extern "C" fn hp_commitments_path(port: &[u8], channel: &[u8], out: &mut [u8]) -> Written
     ensures { λ r. ⌜ r ≡ answer (textOf (packetsPath (bytes "commitments")) (carried (now (port .entry)) (now (channel .entry)) 0 0)) (length (now (out .entry))) ⌝ }
@@ -310,7 +317,8 @@ pub extern "C" fn hp_commitments_path(port: &[u8], channel: &[u8], out: &mut [u8
     render::texts::commitments_path(port, channel, out)
 }
 
-// `acks/ports/P/channels/H/sequences`: the port's 2, 5, 6; the channel's 2, 5, 6, 7, 8; then 4.
+// `acks/ports/P/channels/H/sequences`: the port's 2, 5, 6; the channel's 2, 5, 6, 7, then
+// 17, 18 or 19; then 4.
 #[no_mangle]
 pub extern "C" fn hp_acks_path(port: &[u8], channel: &[u8], out: &mut [u8]) -> Written
     ensures { λ r. ⌜ r ≡ answer (textOf (packetsPath (bytes "acks")) (carried (now (port .entry)) (now (channel .entry)) 0 0)) (length (now (out .entry))) ⌝ }
@@ -319,7 +327,8 @@ pub extern "C" fn hp_acks_path(port: &[u8], channel: &[u8], out: &mut [u8]) -> W
     render::texts::acks_path(port, channel, out)
 }
 
-// `receipts/ports/P/channels/H/sequences`: the port's 2, 5, 6; the channel's 2, 5, 6, 7, 8; then 4.
+// `receipts/ports/P/channels/H/sequences`: the port's 2, 5, 6; the channel's 2, 5, 6, 7, then
+// 17, 18 or 19; then 4.
 #[no_mangle]
 pub extern "C" fn hp_receipts_path(port: &[u8], channel: &[u8], out: &mut [u8]) -> Written
     ensures { λ r. ⌜ r ≡ answer (textOf (packetsPath (bytes "receipts")) (carried (now (port .entry)) (now (channel .entry)) 0 0)) (length (now (out .entry))) ⌝ }
@@ -365,7 +374,8 @@ pub extern "C" fn hp_book_new(book: &mut [u8]) -> u8
     book::new_book(book)
 }
 
-// The rendering of the text holds the value from now on, anew or in place of what it held: 9, 1, 2, 3, 10, 6, 11.
+// The rendering of the text holds the value from now on, anew or in place of what it held:
+// 9, 1, 2, 3 (17, 18, 19), 10, 6, 11.
 #[no_mangle]
 pub extern "C" fn hp_book_write(book: &mut [u8], text: &[u8], value: &[u8]) -> u8
     ensures { λ r. ⌜ Wrote Current (now (book .entry)) (now (text .entry)) (now (value .entry)) r (now (book .exit)) ⌝ }
@@ -373,7 +383,7 @@ pub extern "C" fn hp_book_write(book: &mut [u8], text: &[u8], value: &[u8]) -> u
     book::write(book, text, value)
 }
 
-// The rendering of the text holds nothing from now on: 9, 1, 2, 3, 10, 12.
+// The rendering of the text holds nothing from now on: 9, 1, 2, 3 (17, 18, 19), 10, 12.
 #[no_mangle]
 pub extern "C" fn hp_book_remove(book: &mut [u8], text: &[u8]) -> u8
     ensures { λ r. ⌜ Removed Current (now (book .entry)) (now (text .entry)) r (now (book .exit)) ⌝ }
@@ -382,7 +392,7 @@ pub extern "C" fn hp_book_remove(book: &mut [u8], text: &[u8]) -> u8
 }
 
 // What the rendering of the text holds, in 32 bytes; wants that room even where it holds nothing:
-// 9, 1, 2, 3, 10, 4, 12.
+// 9, 1, 2, 3 (17, 18, 19), 10, 4, 12.
 #[no_mangle]
 pub extern "C" fn hp_book_lookup(book: &[u8], text: &[u8], out: &mut [u8]) -> u8
     ensures { λ r. ⌜ Looked Current (now (book .entry)) (now (text .entry)) (now (out .entry)) r (now (out .exit)) ⌝ }

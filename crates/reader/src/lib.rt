@@ -5,14 +5,14 @@ use path::PathAnswer;
 use path::Place;
 use path::Reading;
 use path::Refusal;
-use text::Written;
+use text::Fault;
 ghost use mathlib.Core.Path.{_≡_};
 ghost use mathlib.Core.Bool.{cond};
 ghost use lib.ListN.{length};
 ghost use Rattle.text.specs.Part.{ascii};
-ghost use Rattle.text.specs.Put.{answer, left};
-ghost use Rattle.path.specs.declared.Refusal.the-variants.{NotAscii, NotAPath};
-ghost use Rattle.path.specs.Read.{readPath, readingBytes};
+ghost use Rattle.text.specs.Put.{left};
+ghost use Rattle.path.specs.declared.Refusal.the-variants.{NotAscii};
+ghost use Rattle.path.specs.Read.{whyNot, readPath, readingBytes, readFault};
 ghost use Rattle.path.specs.View.{Shows, firstPlace, secondPlace};
 
 // What stands at a place, as a part of the text: the empty part at the start where the place does not lie in the text.
@@ -57,10 +57,10 @@ pub fn second_identifier(text: &[u8], reading: Reading) -> &[u8]
 
 // Why a text of at most 4,096 bytes is no path.
 fn fault(text: &[u8]) -> Refusal
-    ensures { λ r. ⌜ r ≡ cond (ascii (now (text .entry))) NotAPath NotAscii ⌝ }
+    ensures { λ r. ⌜ r ≡ cond (ascii (now (text .entry))) (whyNot (now (text .entry))) NotAscii ⌝ }
 {
     if text::part::all_ascii(text) {
-        Refusal::NotAPath
+        parse::number_fault(text)
     } else {
         Refusal::NotAscii
     }
@@ -86,15 +86,18 @@ pub fn read_path(text: &[u8]) -> Reading
 }
 
 // The reading of a text as 26 bytes, for the node.
-pub fn write_reading(text: &[u8], out: &mut [u8]) -> Written
-    ensures { λ r. ⌜ r ≡ answer (readingBytes (now (text .entry))) (length (now (out .entry))) ⌝ }
+pub fn write_reading(text: &[u8], out: &mut [u8]) -> Fault
+    ensures { λ r. ⌜ r ≡ readFault (now (text .entry)) (length (now (out .entry))) ⌝ }
     ensures { λ _. ⌜ now (out .exit) ≡ left (readingBytes (now (text .entry))) (now (out .entry)) ⌝ }
 {
     match read_path(text) {
-        Reading::Read { path, exact } => encode::write_view(path::view(path), exact, out),
-        Reading::Refused(why) => Written {
-            refusal: path::refusal_number(why),
-            length: 0,
-        },
+        Reading::Read { path, exact } => {
+            let written = encode::write_view(path::view(path), exact, out);
+            Fault {
+                refusal: written.refusal,
+                place: 0,
+            }
+        }
+        Reading::Refused(why) => path::fault_of(why),
     }
 }

@@ -9,6 +9,17 @@
 #[repr(C)]
 #[derive(Clone, Copy, Debug, PartialEq, Eq)]
 #[must_use]
+pub struct Fault {
+    /// A refusal's number, or 0.
+    pub refusal: u8,
+    /// 0 where the call is refused.
+    pub place: u64,
+}
+
+/// What a call answers.
+#[repr(C)]
+#[derive(Clone, Copy, Debug, PartialEq, Eq)]
+#[must_use]
 pub struct Written {
     /// A refusal's number, or 0.
     pub refusal: u8,
@@ -54,23 +65,23 @@ pub mod c {
         /// [`validate_prefix_length`] on pointers.
         pub fn hp_validate_prefix_length(prefix: *const u8, prefix_len: usize, min: u64, max: u64) -> u8;
         /// [`validate_named_u64_index`] on pointers.
-        pub fn hp_validate_named_u64_index(id: *const u8, id_len: usize, name: *const u8, name_len: usize) -> u8;
+        pub fn hp_validate_named_u64_index(id: *const u8, id_len: usize, name: *const u8, name_len: usize) -> Fault;
         /// [`validate_client_type`] on pointers.
         pub fn hp_validate_client_type(id: *const u8, id_len: usize) -> u8;
         /// [`validate_client_identifier`] on pointers.
         pub fn hp_validate_client_identifier(id: *const u8, id_len: usize) -> u8;
         /// [`validate_connection_identifier`] on pointers.
-        pub fn hp_validate_connection_identifier(id: *const u8, id_len: usize) -> u8;
+        pub fn hp_validate_connection_identifier(id: *const u8, id_len: usize) -> Fault;
         /// [`validate_port_identifier`] on pointers.
         pub fn hp_validate_port_identifier(id: *const u8, id_len: usize) -> u8;
         /// [`validate_channel_identifier`] on pointers.
-        pub fn hp_validate_channel_identifier(id: *const u8, id_len: usize) -> u8;
+        pub fn hp_validate_channel_identifier(id: *const u8, id_len: usize) -> Fault;
         /// [`client_id_new`] on pointers.
         pub fn hp_client_id_new(client_type: *const u8, client_type_len: usize, counter: u64, out: *mut u8, out_len: usize) -> Written;
         /// [`channel_id_new`] on pointers.
         pub fn hp_channel_id_new(counter: u64, out: *mut u8, out_len: usize) -> Written;
         /// [`read`] on pointers.
-        pub fn hp_read(text: *const u8, text_len: usize, out: *mut u8, out_len: usize) -> u8;
+        pub fn hp_read(text: *const u8, text_len: usize, out: *mut u8, out_len: usize) -> Fault;
         /// [`key`] on pointers.
         pub fn hp_key(text: *const u8, text_len: usize, out: *mut u8, out_len: usize) -> Written;
         /// [`render`] on pointers.
@@ -147,8 +158,9 @@ pub fn validate_prefix_length(prefix: &[u8], min: u64, max: u64) -> u8 {
     unsafe { c::hp_validate_prefix_length(prefix.as_ptr(), prefix.len(), min, max) }
 }
 
-/// The name, `-` and an index; either text may give 2: 2, 7, 8.
-pub fn validate_named_u64_index(id: &[u8], name: &[u8]) -> u8 {
+/// The name, `-` and an index; either text may give 2. The place of 17, 18 and 19 is the byte of id where the fault
+/// stands: 2, 7, then 17, 18 or 19.
+pub fn validate_named_u64_index(id: &[u8], name: &[u8]) -> Fault {
     // SAFETY: each pointer and count are those of one live slice.
     unsafe { c::hp_validate_named_u64_index(id.as_ptr(), id.len(), name.as_ptr(), name.len()) }
 }
@@ -165,8 +177,9 @@ pub fn validate_client_identifier(id: &[u8]) -> u8 {
     unsafe { c::hp_validate_client_identifier(id.as_ptr(), id.len()) }
 }
 
-/// A connection identifier of 10 to 64 bytes, `connection-` and an index: 2, 5, 6, 7, 8.
-pub fn validate_connection_identifier(id: &[u8]) -> u8 {
+/// A connection identifier of 10 to 64 bytes, `connection-` and an index, with the place as above: 2, 5, 6, 7, then 17,
+/// 18 or 19.
+pub fn validate_connection_identifier(id: &[u8]) -> Fault {
     // SAFETY: each pointer and count are those of one live slice.
     unsafe { c::hp_validate_connection_identifier(id.as_ptr(), id.len()) }
 }
@@ -177,8 +190,9 @@ pub fn validate_port_identifier(id: &[u8]) -> u8 {
     unsafe { c::hp_validate_port_identifier(id.as_ptr(), id.len()) }
 }
 
-/// A channel identifier of 8 to 64 bytes, `channel-` and an index: 2, 5, 6, 7, 8.
-pub fn validate_channel_identifier(id: &[u8]) -> u8 {
+/// A channel identifier of 8 to 64 bytes, `channel-` and an index, with the place as above: 2, 5, 6, 7, then 17,
+/// 18 or 19.
+pub fn validate_channel_identifier(id: &[u8]) -> Fault {
     // SAFETY: each pointer and count are those of one live slice.
     unsafe { c::hp_validate_channel_identifier(id.as_ptr(), id.len()) }
 }
@@ -196,13 +210,14 @@ pub fn channel_id_new(counter: u64, out: &mut [u8]) -> Written {
 }
 
 /// The reading in 26 bytes, high bytes first: kind; 1 exact or 0 loose; start and length of the first identifier
-/// and of the second, 2 bytes each; two numbers of 8 bytes. What the kind lacks is 0: 1, 2, 3, 4.
-pub fn read(text: &[u8], out: &mut [u8]) -> u8 {
+/// and of the second, 2 bytes each; two numbers of 8 bytes. What the kind lacks is 0. 17, 18 and 19 stand at 3's place, where
+/// a number alone is wrong, with the byte of the text where its fault stands: 1, 2, 3 (17, 18, 19), 4.
+pub fn read(text: &[u8], out: &mut [u8]) -> Fault {
     // SAFETY: each pointer and count are those of one live slice.
     unsafe { c::hp_read(text.as_ptr(), text.len(), out.as_mut_ptr(), out.len()) }
 }
 
-/// The rendering of the text: 1, 2, 3, 4.
+/// The rendering of the text: 1, 2, 3 (17, 18, 19), 4.
 pub fn key(text: &[u8], out: &mut [u8]) -> Written {
     // SAFETY: each pointer and count are those of one live slice.
     unsafe { c::hp_key(text.as_ptr(), text.len(), out.as_mut_ptr(), out.len()) }
@@ -293,19 +308,22 @@ pub fn channel_end_prefix(out: &mut [u8]) -> Written {
     unsafe { c::hp_channel_end_prefix(out.as_mut_ptr(), out.len()) }
 }
 
-/// `commitments/ports/P/channels/H/sequences`: the port's 2, 5, 6; the channel's 2, 5, 6, 7, 8; then 4.
+/// `commitments/ports/P/channels/H/sequences`: the port's 2, 5, 6; the channel's 2, 5, 6, 7, then
+/// 17, 18 or 19; then 4.
 pub fn commitments_path(port: &[u8], channel: &[u8], out: &mut [u8]) -> Written {
     // SAFETY: each pointer and count are those of one live slice.
     unsafe { c::hp_commitments_path(port.as_ptr(), port.len(), channel.as_ptr(), channel.len(), out.as_mut_ptr(), out.len()) }
 }
 
-/// `acks/ports/P/channels/H/sequences`: the port's 2, 5, 6; the channel's 2, 5, 6, 7, 8; then 4.
+/// `acks/ports/P/channels/H/sequences`: the port's 2, 5, 6; the channel's 2, 5, 6, 7, then
+/// 17, 18 or 19; then 4.
 pub fn acks_path(port: &[u8], channel: &[u8], out: &mut [u8]) -> Written {
     // SAFETY: each pointer and count are those of one live slice.
     unsafe { c::hp_acks_path(port.as_ptr(), port.len(), channel.as_ptr(), channel.len(), out.as_mut_ptr(), out.len()) }
 }
 
-/// `receipts/ports/P/channels/H/sequences`: the port's 2, 5, 6; the channel's 2, 5, 6, 7, 8; then 4.
+/// `receipts/ports/P/channels/H/sequences`: the port's 2, 5, 6; the channel's 2, 5, 6, 7, then
+/// 17, 18 or 19; then 4.
 pub fn receipts_path(port: &[u8], channel: &[u8], out: &mut [u8]) -> Written {
     // SAFETY: each pointer and count are those of one live slice.
     unsafe { c::hp_receipts_path(port.as_ptr(), port.len(), channel.as_ptr(), channel.len(), out.as_mut_ptr(), out.len()) }
@@ -335,20 +353,21 @@ pub fn book_new(book: &mut [u8]) -> u8 {
     unsafe { c::hp_book_new(book.as_mut_ptr(), book.len()) }
 }
 
-/// The rendering of the text holds the value from now on, anew or in place of what it held: 9, 1, 2, 3, 10, 6, 11.
+/// The rendering of the text holds the value from now on, anew or in place of what it held:
+/// 9, 1, 2, 3 (17, 18, 19), 10, 6, 11.
 pub fn book_write(book: &mut [u8], text: &[u8], value: &[u8]) -> u8 {
     // SAFETY: each pointer and count are those of one live slice.
     unsafe { c::hp_book_write(book.as_mut_ptr(), book.len(), text.as_ptr(), text.len(), value.as_ptr(), value.len()) }
 }
 
-/// The rendering of the text holds nothing from now on: 9, 1, 2, 3, 10, 12.
+/// The rendering of the text holds nothing from now on: 9, 1, 2, 3 (17, 18, 19), 10, 12.
 pub fn book_remove(book: &mut [u8], text: &[u8]) -> u8 {
     // SAFETY: each pointer and count are those of one live slice.
     unsafe { c::hp_book_remove(book.as_mut_ptr(), book.len(), text.as_ptr(), text.len()) }
 }
 
 /// What the rendering of the text holds, in 32 bytes; wants that room even where it holds nothing:
-/// 9, 1, 2, 3, 10, 4, 12.
+/// 9, 1, 2, 3 (17, 18, 19), 10, 4, 12.
 pub fn book_lookup(book: &[u8], text: &[u8], out: &mut [u8]) -> u8 {
     // SAFETY: each pointer and count are those of one live slice.
     unsafe { c::hp_book_lookup(book.as_ptr(), book.len(), text.as_ptr(), text.len(), out.as_mut_ptr(), out.len()) }

@@ -21,8 +21,6 @@ pub enum Refusal {
     BadLength = 6,
     /// 7: the identifier is not its name, a dash and a number without leading zeros: write it as in channel-7.
     BadPrefix = 7,
-    /// 8: after the dash stands no number from 0 to 18446744073709551615: write it as in channel-7.
-    BadNumber = 8,
     /// 9: the buffer holds no book: make a new one in it, or lend the bytes that a book left.
     BadBook = 9,
     /// 10: the path's key has more than the 255 bytes that a book keeps: shorten its upgrade path.
@@ -39,6 +37,12 @@ pub enum Refusal {
     BadIterKey = 15,
     /// 16: the block is not whole iteration keys that rise, no two the same: put them in order and take out what is no key.
     BadBlock = 16,
+    /// 17: where a number should stand there is no digit: write one, from 0 to 18446744073709551615.
+    NoDigits = 17,
+    /// 18: a byte of the number is no digit: write it in the digits 0 to 9 alone.
+    NotADigit = 18,
+    /// 19: the number is above 18446744073709551615: write a smaller one.
+    TooLarge = 19,
     // Above, made by bin/interface.
 }
 
@@ -54,7 +58,6 @@ impl Refusal {
             5 => Self::BadChar,
             6 => Self::BadLength,
             7 => Self::BadPrefix,
-            8 => Self::BadNumber,
             9 => Self::BadBook,
             10 => Self::KeyTooLong,
             11 => Self::Full,
@@ -63,6 +66,9 @@ impl Refusal {
             14 => Self::BadKind,
             15 => Self::BadIterKey,
             16 => Self::BadBlock,
+            17 => Self::NoDigits,
+            18 => Self::NotADigit,
+            19 => Self::TooLarge,
             // Above, made by bin/interface.
             _ => return None,
         })
@@ -84,7 +90,6 @@ impl Refusal {
             Self::BadChar => "a byte is none of A-Z, a-z, 0-9 and . _ + - # [ ] < >, which identifiers are made of: take it out",
             Self::BadLength => "the identifier is too short or too long, or the value is not of 32 bytes: give one of the right length",
             Self::BadPrefix => "the identifier is not its name, a dash and a number without leading zeros: write it as in channel-7",
-            Self::BadNumber => "after the dash stands no number from 0 to 18446744073709551615: write it as in channel-7",
             Self::BadBook => "the buffer holds no book: make a new one in it, or lend the bytes that a book left",
             Self::KeyTooLong => "the path's key has more than the 255 bytes that a book keeps: shorten its upgrade path",
             Self::Full => "every slot of the book holds another key: remove a record, or take a book of more slots",
@@ -93,6 +98,9 @@ impl Refusal {
             Self::BadKind => "the kind is not a number from 1 to 19: take it from the table of kinds",
             Self::BadIterKey => "the bytes are not iterateConsensusStates and 16 more, 38 in all: give one whole iteration key",
             Self::BadBlock => "the block is not whole iteration keys that rise, no two the same: put them in order and take out what is no key",
+            Self::NoDigits => "where a number should stand there is no digit: write one, from 0 to 18446744073709551615",
+            Self::NotADigit => "a byte of the number is no digit: write it in the digits 0 to 9 alone",
+            Self::TooLarge => "the number is above 18446744073709551615: write a smaller one",
             // Above, made by bin/interface.
         }
     }
