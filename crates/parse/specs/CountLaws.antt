@@ -23,7 +23,7 @@ use Rattle.path.specs.Text.{component}
 use Rattle.path.specs.Kinds.{Part, Kind, kinds, kind1, kind2, kind3, kind4, kind5, kind6, kind7, kind8, kind9, kind10, kind11, kind12, kind13, kind14, kind15, kind16, kind17, kind18, kind19}
 use Rattle.path.specs.Read.{componentCount, fits, fitFrom, carriedFrom, fitsKind, readKind, orElse, readFirst}
 
-abbrev keep : Bool → Kind → List Kind → List Kind
+abbrev pub keep : Bool → Kind → List Kind → List Kind
 keep true e es = e ∷ es
 keep false e es = es
 
@@ -82,7 +82,7 @@ unfolding among kinds
 kinds-counts = refl
 
 module _ (t : List ℕ) (c : Cut) (e : c ≡ cutOf t) where
-  few : (n : ℕ) → n < 8 → (c .count ≡ n → ⊥) → eqb (componentCount t) n ≡ false
+  pub few : (n : ℕ) → n < 8 → (c .count ≡ n → ⊥) → eqb (componentCount t) n ≡ false
   few n l h = ne-eqb (componentCount t) n (λ x. h (omega (arith, cut-count t c e, count-components t)))
 
   pub read-none : (c .count ≡ 1 → ⊥) → (c .count ≡ 2 → ⊥) → (c .count ≡ 3 → ⊥) → (c .count ≡ 4 → ⊥) → (c .count ≡ 5 → ⊥) → (c .count ≡ 7 → ⊥) → Nothing ≡ readFirst kinds t

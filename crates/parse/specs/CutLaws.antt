@@ -9,7 +9,7 @@ use native.Mathlib.Numerals.{add-one}
 use native.Mathlib.Nat.{add-sub-cancel-left}
 use lib.Seq.{drop-cons}
 use lib.Dec.{eqb, ltb}
-use lib.ListN.{length, take, drop, getD, set, replicate, length-append, length-map, drop-of-length-le, List·getD-map}
+use lib.ListN.{length, take, drop, getD, set, replicate, length-append, length-map, drop-of-length-le, List·getD-map, length-take}
 use borrow.Author.Tests.{ltb-true, ltb-false, eq-eqb, ne-eqb, lt-ltb, le-ltb}
 use Rattle.path.specs.declared.Place.{Place}
 use Rattle.path.specs.declared.Cut.{Cut}
@@ -159,5 +159,9 @@ module _ (t : List ℕ) (k : ℕ) (p : Place) (e : p ≡ placeAt t k) where
   place-shows = rw (add-sub-cancel-left, e) (part-component t k)
 
 -- a count below eight is the number of components
+-- a component ends in the text
+pub component-ends : (t d : List ℕ) (k : ℕ) (p : Place) → p ≡ placeAt t k → d ≡ component t k → p .start + length d ≤ length t
+component-ends t d k p e f = rw (f, ← part-component t k, ← e, length-take) (omega (arith, place-ends t k p e))
+
 pub cut-components : (t : List ℕ) (c : Cut) (n : ℕ) → c ≡ cutOf t → c .count ≡ n → n < 8 → length (components t) ≡ n
 cut-components t c n e m few = sym (count-components t) ∙ sym (cut-few t c e (omega arith)) ∙ m

@@ -38,7 +38,7 @@ module _ (s : List ℕ) (i : ℕ) where
     dash-later e = rw (drop-cons s i 0 h, ne-eqb (getD s i 0) 45 e, add-one)
 
 -- ---- the cut at dashes, by the first
-cut-here : (s : List ℕ) → length s ≤ firstDash s → cutAt 45 s ≡ s ∷ []
+pub cut-here : (s : List ℕ) → length s ≤ firstDash s → cutAt 45 s ≡ s ∷ []
 unfolding cutAt firstDash
 cut-here [] h = refl
 cut-here (b ∷ s) h = go (eqb b 45) h (cut-here s)
@@ -47,7 +47,7 @@ cut-here (b ∷ s) h = go (eqb b 45) h (cut-here s)
     go true k ih = absurd (omega arith)
     go false k ih = rw (ih (omega arith))
 
-cut-there : (s : List ℕ) → firstDash s < length s → cutAt 45 s ≡ take (firstDash s) s ∷ cutAt 45 (drop (firstDash s + 1) s)
+pub cut-there : (s : List ℕ) → firstDash s < length s → cutAt 45 s ≡ take (firstDash s) s ∷ cutAt 45 (drop (firstDash s + 1) s)
 unfolding cutAt firstDash
 cut-there [] h = absurd (omega arith)
 cut-there (b ∷ s) h = go (eqb b 45) h (cut-there s)

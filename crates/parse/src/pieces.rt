@@ -127,7 +127,7 @@ pub(crate) fn read_height(text: &[u8], cut: Cut, k: usize) -> HeightAnswer
 }
 
 // Where the first dash stands: the length where there is none.
-fn first_dash(s: &[u8]) -> usize
+pub(crate) fn first_dash(s: &[u8]) -> usize
     ensures { λ r. ⌜ r ≡ firstDash (now (s .entry)) ⌝ }
 {
     let mut i = 0;
