@@ -6,14 +6,16 @@ use mathlib.Core.Bool.{Bool, cond}
 use mathlib.Core.List.{List, [], _∷_}
 use native.Mathlib.Omega.{arith}
 use lib.ListN.{length, length-append}
-use Rattle.text.specs.Put.{put, text, refused}
+use Rattle.text.specs.Put.{put, text, refused, Wanted, answer}
+use Rattle.text.specs.declared.Fault.{Fault}
+use Rattle.text.specs.declared.Written.{Written}
 use Rattle.text.specs.PutLaws.{put-next, length-put}
 use Rattle.path.specs.declared.Place.{Place}
 use Rattle.path.specs.declared.PathView.{PathView}
 use Rattle.path.specs.declared.Path.{Path}
 use Rattle.path.specs.declared.Refusal.{Refusal}
 use Rattle.path.specs.declared.Reading.the-variants.{Read, Refused}
-use Rattle.path.specs.Read.{placeBytes, refusalOf, readPath, readingBytes}
+use Rattle.path.specs.Read.{placeBytes, refusalOf, faultOf, readPath, readingBytes, readFault}
 use Rattle.text.specs.Number.{bigEndian}
 use Rattle.path.specs.View.{viewOf}
 use Rattle.text.specs.NumberLaws.{length-big}
@@ -62,3 +64,13 @@ module _ (t : List ℕ) where
   pub bytes-refused : (w : Refusal) (n : ℕ) → Refused w ≡ readPath t → n ≡ refusalOf w → refused n ≡ readingBytes t
   unfolding readingBytes
   bytes-refused w n h e = rw (← h, e)
+
+  -- and the answer beside them
+  module _ (room : ℕ) where
+    pub fault-read : (p : Path) (x : Bool) → Read p x ≡ readPath t → (w : Wanted) → w ≡ readingBytes t → (a : Written) → a ≡ answer w room → record { refusal = a .refusal; place = 0 } ≡ readFault t room
+    unfolding readFault
+    fault-read p x h w e a i = rw (← h, ← e, i)
+
+    pub fault-refused : (w : Refusal) (f : Fault) → Refused w ≡ readPath t → f ≡ faultOf w → f ≡ readFault t room
+    unfolding readFault readingBytes answer
+    fault-refused w f h e = rw (← h) e

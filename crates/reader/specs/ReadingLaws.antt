@@ -13,11 +13,11 @@ use Rattle.path.specs.declared.Place.{Place}
 use Rattle.path.specs.declared.Path.{Path}
 use Rattle.path.specs.declared.PathView.{PathView}
 use Rattle.path.specs.declared.PathAnswer.the-variants.{Found, Nothing}
-use Rattle.path.specs.declared.Refusal.the-variants.{NotAscii, NotAPath}
+use Rattle.path.specs.declared.Refusal.the-variants.{NotAscii}
 use Rattle.path.specs.declared.Reading.the-variants.{Read, Refused}
 use Rattle.path.specs.Text.{partOf}
 use Rattle.path.specs.Kinds.{kinds, carried}
-use Rattle.path.specs.Read.{partsOf, textsOf, renderPath, carriedFrom, readFirst, readPath}
+use Rattle.path.specs.Read.{partsOf, textsOf, renderPath, carriedFrom, readFirst, readPath, whyNot}
 use Rattle.path.specs.View.{kindOf, carriedOf, viewOf}
 use Rattle.path.specs.AsciiLaws.{first-low, kinds-low}
 use Rattle.path.specs.Reads.{Reads}
@@ -61,10 +61,10 @@ module _ (t : List ℕ) (p : Path) (h : Found p ≡ readFirst kinds t) where
   found-read short v e n l = rw (le-ltb 4096 (length t) short, first-low kinds t p kinds-low (sym h), ← h, exact-mark n (l ∙ rw e))
 
 -- ---- what is not read
-pub no-path : (t : List ℕ) → length t ≤ 4096 → Nothing ≡ readFirst kinds t → Refused (cond (ascii t) NotAPath NotAscii) ≡ readPath t
+pub no-path : (t : List ℕ) → length t ≤ 4096 → Nothing ≡ readFirst kinds t → Refused (cond (ascii t) (whyNot t) NotAscii) ≡ readPath t
 unfolding readPath
 no-path t short h = rw (le-ltb 4096 (length t) short, ← h) (go (ascii t))
   where
-    go : (v : Bool) → Refused (cond v NotAPath NotAscii) ≡ cond v (Refused NotAPath) (Refused NotAscii)
+    go : (v : Bool) → Refused (cond v (whyNot t) NotAscii) ≡ cond v (Refused (whyNot t)) (Refused NotAscii)
     go true = refl
     go false = refl

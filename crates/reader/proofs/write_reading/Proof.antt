@@ -1,9 +1,9 @@
 -- `write_reading` meets its contract.
 -- Assumes nothing.
-use mathlib.Core.Path.{sym, ap, _∙_}
+use mathlib.Core.Path.{refl, sym, ap, _∙_}
 use lib.ListN.{length}
-use Rattle.text.specs.Put.{Wanted, answer, left}
-use Rattle.reader.specs.EncodeLaws.{bytes-read, bytes-refused}
+use Rattle.text.specs.Put.{Wanted, left}
+use Rattle.reader.specs.EncodeLaws.{bytes-read, bytes-refused, fault-read, fault-refused}
 use borrow.Author.Needs.{needs}
 use Rattle.reader.proofs.write_reading.Statement.{statement}
 use Rattle.reader.proofs.write_reading.Tie as tie
@@ -12,14 +12,16 @@ returns : tie.Need-returns
 returns c =
     let out = c .before .before .before .before .before .before .before .before .before .before .before .args .out .now in
     let w = c .before .before .write-view .ensures in
-    let e = bytes-read _ _ _ _ (sym (c .before .before .before .before .before .before .path .given .1) ∙ c .before .before .before .before .before .before .before .before .read-path .ensures) (c .before .before .before .before .view .ensures) in
-    (w .0 ∙ ap (λ (x : Wanted). answer x (length out)) e, w .1 ∙ ap (λ (x : Wanted). left x out) e)
+    let h = sym (c .before .before .before .before .before .before .path .given .1) ∙ c .before .before .before .before .before .before .before .before .read-path .ensures in
+    let e = bytes-read _ _ _ _ h (c .before .before .before .before .view .ensures) in
+    (fault-read _ (length out) _ _ h _ e _ (w .0), w .1 ∙ ap (λ (x : Wanted). left x out) e)
 
 returns-2 : tie.Need-returns-2
-unfolding answer left
+unfolding left
 returns-2 c =
-    let e = bytes-refused _ _ _ (sym (c .before .before .why .given .1) ∙ c .before .before .before .before .read-path .ensures) (c .refusal-number .ensures) in
-    (rw (← e), rw (← e))
+    let h = sym (c .before .before .why .given .1) ∙ c .before .before .before .before .read-path .ensures in
+    let e = bytes-refused _ _ _ h refl in
+    (fault-refused _ _ _ _ h (c .fault-of .ensures), rw (← e))
 
 pub write-reading-spec : {M : Type 1} → statement M
 write-reading-spec =
