@@ -12,10 +12,11 @@ use Rattle.text.specs.Part.{ascii}
 use Rattle.text.specs.Put.{Wanted, refused, text}
 use Rattle.path.specs.declared.PathAnswer.{PathAnswer}
 use Rattle.path.specs.declared.PathAnswer.the-variants.{Found, Nothing}
-use Rattle.path.specs.declared.Refusal.the-variants.{TooLong, NotAscii}
+use Rattle.path.specs.declared.Refusal.{Refusal}
+use Rattle.path.specs.declared.Refusal.the-variants.{TooLong, NotAscii, NotAPath, NoDigits, NotADigit, TooLarge}
 use Rattle.path.specs.declared.Reading.the-variants.{Refused as Unread}
 use Rattle.path.specs.Kinds.{kinds}
-use Rattle.path.specs.Read.{readFirst, readingOf, readPath, keyBy, keyOf}
+use Rattle.path.specs.Read.{readFirst, whyNot, refusalOf, readingOf, readPath, keyBy, keyOf}
 use Rattle.keys.specs.Records.{Key}
 use Rattle.keys.specs.Act.{Meaning, refuses, writes, removes, looks}
 use Rattle.keys.specs.Calls.{keyed, Asked, to-write, to-remove, to-look, Call, under, meaning, PathOf}
@@ -34,7 +35,7 @@ key-refused c n e = go (ltb 4096 (length t)) refl (ascii t) refl (readFirst kind
     go true l a ea r er q = let z : n ≡ 1 = cc in rw z (too-long (ltb-true 4096 (length t) l))
     go false l false ea r er q = let z : n ≡ 2 = cc in rw z (not-ascii (ltb-false 4096 (length t) l) ea)
     go false l true ea (Found p) er q = let z : _≡_ {A = ℕ} 0 1 = cc in absurd (omega arith)
-    go false l true ea Nothing er q = let z : n ≡ 3 = cc in rw z (not-a-path (ltb-false 4096 (length t) l) ea er)
+    go false l true ea Nothing er q = let z : n ≡ refusalOf (whyNot t) = cc in rw z (not-a-path (ltb-false 4096 (length t) l) ea er)
 
 -- ---- the cases
 pub data Means (c : Call) : Meaning → Type 0 where
@@ -81,7 +82,7 @@ pub declined-means : (c : Call) {n : ℕ} → Declined c n → meaning c ≡ ref
 unfolding keyOf readPath meaning keyed
 declined-means c (too-long h) = keyed-refused c 1 (rw (lt-ltb 4096 (length (c .text)) h))
 declined-means c (not-ascii h a) = keyed-refused c 2 (rw (le-ltb 4096 (length (c .text)) h, a))
-declined-means c (not-a-path h a r) = keyed-refused c 3 (rw (le-ltb 4096 (length (c .text)) h, a, r))
+declined-means c (not-a-path h a r) = keyed-refused c _ (rw (le-ltb 4096 (length (c .text)) h, a, r))
 declined-means c (key-too-long {k = k} p l) = rw (p, lt-leb (length k) 255 l)
 declined-means c (bad-length {k = k} {v = v} q h n) = keyed-fits c k h ∙ rw (q, ne-eqb (length v) 32 n)
 declined-means c (no-room {k = k} {room = room} q h l) = keyed-fits c k h ∙ rw (q, lt-leb 32 room l)
@@ -95,11 +96,19 @@ removing-means c k ok = keyed-fits c k (ok .key) ∙ rw (ok .asked)
 pub looking-means : (c : Call) (k : Key) (room : ℕ) → GoodLookup c k room → meaning c ≡ looks k
 looking-means c k room ok = keyed-fits c k (ok .key) ∙ rw (ok .asked, le-leb 32 room (ok .wide))
 
+unread-not : (w : Refusal) → ((refusalOf w ≡ 0) → ⊥) × ((refusalOf w ≡ 9) → ⊥) × ((refusalOf w ≡ 11) → ⊥) × ((refusalOf w ≡ 12) → ⊥)
+unread-not TooLong = (λ e. omega arith, λ e. omega arith, λ e. omega arith, λ e. omega arith)
+unread-not NotAscii = (λ e. omega arith, λ e. omega arith, λ e. omega arith, λ e. omega arith)
+unread-not NotAPath = (λ e. omega arith, λ e. omega arith, λ e. omega arith, λ e. omega arith)
+unread-not (NoDigits i) = (λ e. omega arith, λ e. omega arith, λ e. omega arith, λ e. omega arith)
+unread-not (NotADigit i) = (λ e. omega arith, λ e. omega arith, λ e. omega arith, λ e. omega arith)
+unread-not (TooLarge i) = (λ e. omega arith, λ e. omega arith, λ e. omega arith, λ e. omega arith)
+
 -- a call's own refusals are none of 0, 9, 11, 12
 pub declined-not : {c : Call} {n : ℕ} → Declined c n → ((n ≡ 0) → ⊥) × ((n ≡ 9) → ⊥) × ((n ≡ 11) → ⊥) × ((n ≡ 12) → ⊥)
 declined-not (too-long h) = (λ e. omega arith, λ e. omega arith, λ e. omega arith, λ e. omega arith)
 declined-not (not-ascii h a) = (λ e. omega arith, λ e. omega arith, λ e. omega arith, λ e. omega arith)
-declined-not (not-a-path h a r) = (λ e. omega arith, λ e. omega arith, λ e. omega arith, λ e. omega arith)
+declined-not {c} (not-a-path h a r) = unread-not (whyNot (c .text))
 declined-not (key-too-long p l) = (λ e. omega arith, λ e. omega arith, λ e. omega arith, λ e. omega arith)
 declined-not (bad-length q h n) = (λ e. omega arith, λ e. omega arith, λ e. omega arith, λ e. omega arith)
 declined-not (no-room q h l) = (λ e. omega arith, λ e. omega arith, λ e. omega arith, λ e. omega arith)

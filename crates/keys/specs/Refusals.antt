@@ -1,5 +1,6 @@
 -- The numbered refusals of a call on a book that its own arguments decide: each given exactly when. A row below has the refusals before
--- it, in document 01's order, denied in its premises: 1, 2, 3, 10, and then 6 for a write and 4 for a lookup.
+-- it, in document 01's order, denied in its premises: 1, 2, 3 (or 17, 18, 19, which stand at its place), 10, and then 6 for a write and 4 for a
+-- lookup.
 -- Assumes nothing.
 use Prim.Native.Nat.{ℕ, _≤_, _<_}
 use mathlib.Core.Path.{_≡_}
@@ -7,10 +8,10 @@ use mathlib.Core.Bool.{true, false}
 use lib.ListN.{length}
 use mathlib.Core.List.{List}
 use Rattle.text.specs.Part.{ascii}
-use Rattle.text.specs.Refusal.{tooLong, notAscii, notAPath, noRoom, badLength, keyTooLong}
+use Rattle.text.specs.Refusal.{tooLong, notAscii, noRoom, badLength, keyTooLong}
 use Rattle.path.specs.declared.PathAnswer.the-variants.{Nothing}
 use Rattle.path.specs.Kinds.{kinds}
-use Rattle.path.specs.Read.{readFirst}
+use Rattle.path.specs.Read.{readFirst, whyNot, refusalOf}
 use Rattle.keys.specs.Records.{Key}
 use Rattle.keys.specs.Calls.{to-write, to-remove, to-look, Call, PathOf}
 
@@ -39,7 +40,7 @@ pub record GoodLookup (c : Call) (k : Key) (room : ℕ) : Type 0 where
 pub data Declined (c : Call) : ℕ → Type 0 where
   too-long : 4096 < length (c .text) → Declined c tooLong
   not-ascii : length (c .text) ≤ 4096 → ascii (c .text) ≡ false → Declined c notAscii
-  not-a-path : length (c .text) ≤ 4096 → ascii (c .text) ≡ true → readFirst kinds (c .text) ≡ Nothing → Declined c notAPath
+  not-a-path : length (c .text) ≤ 4096 → ascii (c .text) ≡ true → readFirst kinds (c .text) ≡ Nothing → Declined c (refusalOf (whyNot (c .text)))
   key-too-long : {k : Key} → PathOf c k → 255 < length k → Declined c keyTooLong
   bad-length : {k : Key} {v : List ℕ} → c .asked ≡ to-write v → HasKey c k → (length v ≡ 32 → ⊥) → Declined c badLength
   no-room : {k : Key} {room : ℕ} → c .asked ≡ to-look room → HasKey c k → room < 32 → Declined c noRoom

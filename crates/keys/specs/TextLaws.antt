@@ -16,7 +16,7 @@ use Rattle.text.specs.Put.{Wanted, text}
 use Rattle.text.specs.Put as put
 use Rattle.path.specs.declared.Path.{Path}
 use Rattle.path.specs.declared.Refusal.{Refusal}
-use Rattle.path.specs.declared.Refusal.the-variants.{TooLong, NotAscii, NotAPath}
+use Rattle.path.specs.declared.Refusal.the-variants.{TooLong, NotAscii, NotAPath, NoDigits, NotADigit, TooLarge}
 use Rattle.path.specs.declared.Reading.{Reading}
 use Rattle.path.specs.declared.Reading.the-variants.{Read, Refused}
 use Rattle.path.specs.BackLaws.{read-exact, exact-renders}
@@ -61,6 +61,9 @@ own : (r : Refusal) → Own (refusalOf r)
 own TooLong = record { refused = λ e. omega arith; no-four = λ e. omega arith }
 own NotAscii = record { refused = λ e. omega arith; no-four = λ e. omega arith }
 own NotAPath = record { refused = λ e. omega arith; no-four = λ e. omega arith }
+own (NoDigits i) = record { refused = λ e. omega arith; no-four = λ e. omega arith }
+own (NotADigit i) = record { refused = λ e. omega arith; no-four = λ e. omega arith }
+own (TooLarge i) = record { refused = λ e. omega arith; no-four = λ e. omega arith }
 
 key-own : (t : List ℕ) (n : ℕ) → keyOf t ≡ put.refused n → Own n
 key-own t n h = go (readPath t) refl

@@ -7,6 +7,8 @@ pub mod Kinds
 pub mod Length
 pub mod LengthLaws
 pub mod MeasureLaws
+pub mod Number
+pub mod NumberLaws
 pub mod Pair
 pub mod Parents
 pub mod PlaceLaws

@@ -126,7 +126,7 @@ unfolding suits fits
 suits-word w c = refl
 
 -- ---- the whole table: each kind clashes with each later one
-abbrev clashAll : Kind → List Kind → Bool
+abbrev pub clashAll : Kind → List Kind → Bool
 clashAll e [] = true
 clashAll e (x ∷ es) = clash (e .parts) (x .parts) && clashAll e es
 
@@ -155,6 +155,17 @@ read-has t (later {e} {x} {es} m) a f =
         let d = clash-has x m (and-left (clashAll x es) (apartAll es) a) in
         absurd (clash-both fits fits-word (x .parts) (e .parts) (components t) d (sym (kind-fits x t) ∙ g) (sym (kind-fits e t) ∙ f))
     go false g ih = ih
+
+-- ---- at most one kind of the table suits
+pub suits-clash : (x : Kind) {es : List Kind} {e : Kind} (t : List ℕ) → Has es e → apartAll (x ∷ es) ≡ true → suitsKind x t ≡ true → suitsKind e t ≡ true → ⊥
+suits-clash x {es} {e} t m a f g =
+    clash-both suits suits-word (x .parts) (e .parts) (components t) (clash-has x m (and-left (clashAll x es) (apartAll es) a)) (sym (kind-suits x t) ∙ f) (sym (kind-suits e t) ∙ g)
+
+pub suits-same : {es : List Kind} {e x : Kind} (t : List ℕ) → Has es e → Has es x → apartAll es ≡ true → suitsKind e t ≡ true → suitsKind x t ≡ true → e ≡ x
+suits-same t here here a f g = refl
+suits-same t (here {e}) (later m) a f g = absurd (suits-clash e t m a f g)
+suits-same t (later m) (here {e}) a f g = absurd (suits-clash e t m a g f)
+suits-same t (later {x = y} {es = es} m) (later n) a f g = suits-same t m n (and-right (clashAll y es) (apartAll es) a) f g
 
 -- ---- the relation and the function
 pub reads-is : {t : List ℕ} {p : Path} → Reads t p → readFirst kinds t ≡ Found p
