@@ -11,6 +11,9 @@ use lib.ListN.{length}
 use Rattle.identifiers.specs.Check.{checkOf}
 use Rattle.identifiers.specs.Check as check
 use Rattle.path.specs.declared.provable.Flag.{Flag}
+use Rattle.path.specs.declared.Refusal.{Refusal}
+use Rattle.path.specs.declared.Refusal.the-variants.{TooLong, NotAscii, NotAPath, NoDigits, NotADigit, TooLarge}
+use Rattle.path.specs.Read.{whyNot, refusalOf}
 use Rattle.path.specs.View.{provable, provableFlag}
 use Rattle.keys.specs.Records.{Key, get, put, del}
 use Rattle.keys.specs.Act.{Rec, Meaning, Answer, act, addTo, takeFrom, lookIn, seen}
@@ -56,8 +59,17 @@ module _ (P : ℕ → Type 0) (zero : P 0) (c : Call) (own : (n : ℕ) → Decli
   outcome-of nine (no-book n e f) = subst (λ (x : Answer). P (seen x .number)) (sym e) nine
   outcome-of nine (this-book x e f) = subst (λ (y : Answer). P (seen y .number)) (sym e) (act-of (means c) (fullIn x) (x .records))
 
+-- the number of a text that is not read
+unread-of : (P : ℕ → Type 0) → P 1 → P 2 → P 3 → P 17 → P 18 → P 19 → (w : Refusal) → P (refusalOf w)
+unread-of P a b c d e f TooLong = a
+unread-of P a b c d e f NotAscii = b
+unread-of P a b c d e f NotAPath = c
+unread-of P a b c d e f (NoDigits i) = d
+unread-of P a b c d e f (NotADigit i) = e
+unread-of P a b c d e f (TooLarge i) = f
+
 abbrev pub writeNumbers : List ℕ
-writeNumbers = 9 ∷ 1 ∷ 2 ∷ 3 ∷ 10 ∷ 6 ∷ 11 ∷ []
+writeNumbers = 9 ∷ 1 ∷ 2 ∷ 3 ∷ 17 ∷ 18 ∷ 19 ∷ 10 ∷ 6 ∷ 11 ∷ []
 
 pub write-listed : (t v : List ℕ) {b : List ℕ} {a : Answer} {b₁ : List ℕ} → Outcome Current (meaning (write t v)) b a b₁ → Listed writeNumbers (seen a .number)
 write-listed t v = outcome-of (Listed writeNumbers) refl (write t v) own (λ k u ok. refl) (λ k ok. absurd (let e = ok .asked in let z : _≡_ {A = ℕ} 0 1 = cc in let y : ⊥ = omega arith in y)) (λ k room ok. absurd (let e = ok .asked in let z : _≡_ {A = ℕ} 0 1 = cc in let y : ⊥ = omega arith in y)) refl
@@ -65,13 +77,13 @@ write-listed t v = outcome-of (Listed writeNumbers) refl (write t v) own (λ k u
     own : (n : ℕ) → Declined (write t v) n → Listed writeNumbers n
     own n (too-long h) = refl
     own n (not-ascii h e) = refl
-    own n (not-a-path h e f) = refl
+    own n (not-a-path h e f) = unread-of (Listed writeNumbers) refl refl refl refl refl refl (whyNot t)
     own n (key-too-long p l) = refl
     own n (bad-length q h f) = refl
     own n (no-room q h l) = absurd (let z : _≡_ {A = ℕ} 0 1 = cc in let y : ⊥ = omega arith in y)
 
 abbrev pub removeNumbers : List ℕ
-removeNumbers = 9 ∷ 1 ∷ 2 ∷ 3 ∷ 10 ∷ 12 ∷ []
+removeNumbers = 9 ∷ 1 ∷ 2 ∷ 3 ∷ 17 ∷ 18 ∷ 19 ∷ 10 ∷ 12 ∷ []
 
 pub remove-listed : (t : List ℕ) {b : List ℕ} {a : Answer} {b₁ : List ℕ} → Outcome Current (meaning (remove t)) b a b₁ → Listed removeNumbers (seen a .number)
 remove-listed t = outcome-of (Listed removeNumbers) refl (remove t) own (λ k u ok. absurd (let e = ok .asked in let z : _≡_ {A = ℕ} 0 1 = cc in let y : ⊥ = omega arith in y)) (λ k ok. refl) (λ k room ok. refl) refl
@@ -79,13 +91,13 @@ remove-listed t = outcome-of (Listed removeNumbers) refl (remove t) own (λ k u 
     own : (n : ℕ) → Declined (remove t) n → Listed removeNumbers n
     own n (too-long h) = refl
     own n (not-ascii h e) = refl
-    own n (not-a-path h e f) = refl
+    own n (not-a-path h e f) = unread-of (Listed removeNumbers) refl refl refl refl refl refl (whyNot t)
     own n (key-too-long p l) = refl
     own n (bad-length q h f) = absurd (let z : _≡_ {A = ℕ} 0 1 = cc in let y : ⊥ = omega arith in y)
     own n (no-room q h l) = absurd (let z : _≡_ {A = ℕ} 0 1 = cc in let y : ⊥ = omega arith in y)
 
 abbrev pub lookNumbers : List ℕ
-lookNumbers = 9 ∷ 1 ∷ 2 ∷ 3 ∷ 10 ∷ 4 ∷ 12 ∷ []
+lookNumbers = 9 ∷ 1 ∷ 2 ∷ 3 ∷ 17 ∷ 18 ∷ 19 ∷ 10 ∷ 4 ∷ 12 ∷ []
 
 pub look-listed : (t : List ℕ) (room : ℕ) {b : List ℕ} {a : Answer} {b₁ : List ℕ} → Outcome Current (meaning (look t room)) b a b₁ → Listed lookNumbers (seen a .number)
 look-listed t room = outcome-of (Listed lookNumbers) refl (look t room) own (λ k u ok. absurd (let e = ok .asked in let z : _≡_ {A = ℕ} 0 1 = cc in let y : ⊥ = omega arith in y)) (λ k ok. refl) (λ k r ok. refl) refl
@@ -93,7 +105,7 @@ look-listed t room = outcome-of (Listed lookNumbers) refl (look t room) own (λ 
     own : (n : ℕ) → Declined (look t room) n → Listed lookNumbers n
     own n (too-long h) = refl
     own n (not-ascii h e) = refl
-    own n (not-a-path h e f) = refl
+    own n (not-a-path h e f) = unread-of (Listed lookNumbers) refl refl refl refl refl refl (whyNot t)
     own n (key-too-long p l) = refl
     own n (bad-length q h f) = absurd (let z : _≡_ {A = ℕ} 0 1 = cc in let y : ⊥ = omega arith in y)
     own n (no-room q h l) = refl

@@ -9,10 +9,11 @@ use lib.ListN.{replicate}
 use Rattle.text.specs.Bytes.{bytes}
 use Rattle.text.specs.Number.{numeralOf, digitsAt, digitsFrom, decimal, digits, width, widthBy}
 use Rattle.text.specs.Part.{every, ascii, startsWith, same}
-use Rattle.identifiers.specs.Check.{Rule, client, clientType, connection, port, channel, among, identifierByte, charsOf, within, indexOf, namedOf, checkOf}
+use Rattle.identifiers.specs.Check.{Rule, client, clientType, connection, port, channel, among, identifierByte, charsOf, within, indexOf, namedOf, checkOf, faultOf}
+use Rattle.text.specs.declared.Fault.{Fault}
 use Rattle.path.specs.declared.Place.{Place}
 use Rattle.path.specs.declared.Path.the-variants.{ClientState, ClientConsensusState, Ports, UpgradeClientState}
-use Rattle.path.specs.declared.Refusal.the-variants.{NotAPath}
+use Rattle.path.specs.declared.Refusal.the-variants.{NotAPath, NoDigits, NotADigit, TooLarge}
 use Rattle.path.specs.declared.Reading.{Reading}
 use Rattle.path.specs.declared.Reading.the-variants.{Read, Refused}
 use Rattle.path.specs.Text.{cutAt, joinBy, placesFrom, shownOf}
@@ -21,7 +22,7 @@ use Rattle.path.specs.declared.Pair.{Pair}
 use Rattle.path.specs.Pair.{pair}
 use Rattle.book.specs.Oldest.{stateOf, oldestState, oldestIn}
 use Rattle.text.specs.Order.{cmp}
-use Rattle.path.specs.Read.{nameFault, fits, fitsKind, readKind, readFirst, readPath, show, render, partsOf, renderPath}
+use Rattle.path.specs.Read.{nameFault, fits, fitsKind, suits, suitsKind, partFaults, kindFaults, faultsAs, whyNot, readKind, readFirst, readPath, show, render, partsOf, renderPath}
 
 -- what is asked: to read a text, to check an identifier, or for the oldest state of a client in a book with these keys
 pub data Question : Type 0 where
@@ -29,15 +30,15 @@ pub data Question : Type 0 where
   checking : Rule → List ℕ → Question
   seeking : List ℕ → List (List ℕ) → Question
 
--- what is answered: a reading, a refusal number, or a pair
+-- what is answered: a reading, a refusal and its place, or a pair
 pub data Outcome : Type 0 where
   gives : Reading → Outcome
-  says : ℕ → Outcome
+  says : Fault → Outcome
   finds : Pair → Outcome
 
 abbrev pub answerOf : Question → Outcome
 answerOf (reading t) = gives (readPath t)
-answerOf (checking r s) = says (checkOf r s)
+answerOf (checking r s) = says (faultOf r s)
 answerOf (seeking c ks) = finds (oldestIn c (map (λ k. (k, [])) ks))
 
 pub record Case : Type 0 where
@@ -48,7 +49,11 @@ abbrev read : List ℕ → Reading → Case
 read t r = record { question = reading t; outcome = gives r }
 
 abbrev check : Rule → List ℕ → ℕ → Case
-check r s n = record { question = checking r s; outcome = says n }
+check r s n = record { question = checking r s; outcome = says (record { refusal = n; place = 0 }) }
+
+-- the number alone is wrong, at a place
+abbrev wrong : Rule → List ℕ → ℕ → ℕ → Case
+wrong r s n p = record { question = checking r s; outcome = says (record { refusal = n; place = p }) }
 
 abbrev seek : List ℕ → List (List ℕ) → Pair → Case
 seek c ks p = record { question = seeking c ks; outcome = finds p }
@@ -69,19 +74,19 @@ cases =
     ∷ read (bytes "ports/transfer/") (Refused NotAPath)
     ∷ check channel (bytes "channel-01") 7
     ∷ check channel (bytes "channel-+01") 0
-    ∷ check channel (bytes "channel-") 8
+    ∷ wrong channel (bytes "channel-") 17 8
     ∷ read (bytes "/5/upgradedClient") (Read (UpgradeClientState (record { upgrade = at 0 0; height = record { 0 = 5 } })) true)
     ∷ read (bytes "clients/000000005/upgradedClient") (Read (UpgradeClientState (record { upgrade = at 0 7; height = record { 0 = 5 } })) false)
     ∷ check channel (bytes "channel-0") 0
     ∷ check channel (bytes "channel-00") 7
-    ∷ check channel (bytes "channel-+") 8
+    ∷ wrong channel (bytes "channel-+") 17 9
     ∷ check channel (bytes "channel-18446744073709551615") 0
-    ∷ check channel (bytes "channel-18446744073709551616") 8
+    ∷ wrong channel (bytes "channel-18446744073709551616") 19 27
     ∷ check channel (bytes "channel") 6
     ∷ check channel (bytes "channels-1") 7
     ∷ check connection (bytes "connection-+0") 0
-    ∷ check connection (bytes "connection-++1") 8
-    ∷ check connection (bytes "connection--1") 8
+    ∷ wrong connection (bytes "connection-++1") 18 12
+    ∷ wrong connection (bytes "connection--1") 18 11
     ∷ check connection (bytes "connection") 7
     ∷ check connection (bytes "Connection-1") 7
     ∷ check client (bytes "clientid") 6
@@ -99,11 +104,22 @@ cases =
     ∷ check port (bytes "a/b") 5
     ∷ check port (replicate 128 97) 0
     ∷ check port (replicate 129 97) 6
+    -- the first of two bad numbers, counted from the start of the text; a second dash, and an index, are no bad number
+    ∷ read (bytes "clients/07-tendermint-4/consensusStates/7-x") (Refused (NotADigit 42))
+    ∷ read (bytes "clients/07-tendermint-4/consensusStates/-x") (Refused (NoDigits 40))
+    ∷ read (bytes "clients/07-tendermint-4/consensusStates/7") (Refused NotAPath)
+    ∷ read (bytes "clients/07-tendermint-4/consensusStates/x-2/processedTime") (Refused (NotADigit 40))
+    ∷ read (bytes "clients/clientid/consensusStates/x-2") (Refused NotAPath)
+    ∷ read (bytes "acks/ports/ab/channels/channel-1/sequences/") (Refused (NoDigits 43))
+    ∷ read (bytes "acks/ports/ab/channels/channel-x/sequences/1") (Refused NotAPath)
+    ∷ read (bytes "connections/connection-x") (Refused NotAPath)
+    ∷ read (bytes "x/18446744073709551615/upgradedClient") (Read (UpgradeClientState (record { upgrade = at 0 1; height = record { 0 = 18446744073709551615 } })) true)
+    ∷ read (bytes "x/18446744073709551616/upgradedClient") (Refused (TooLarge 21))
     -- as text `10-2` comes before `7-2`, and `07-tendermint-4` begins `07-tendermint-40`
     ∷ seek (bytes "07-tendermint-4") (bytes "clients/07-tendermint-4/consensusStates/10-2" ∷ bytes "clients/07-tendermint-4/consensusStates/7-2" ∷ []) (pair 0 7 2)
     ∷ seek (bytes "07-tendermint-4") (bytes "clients/07-tendermint-40/consensusStates/7-2" ∷ []) (pair 12 0 0)
     ∷ []
 
 pub cases-hold : map (λ c. answerOf (c .question)) cases ≡ map (λ c. c .outcome) cases
-unfolding numeralOf digitsAt digitsFrom decimal digits width widthBy every ascii startsWith same among identifierByte charsOf within indexOf namedOf checkOf cutAt joinBy placesFrom kinds nameFault fits fitsKind readKind readFirst readPath show render partsOf renderPath cmp shownOf stateOf oldestState oldestIn
+unfolding numeralOf digitsAt digitsFrom decimal digits width widthBy every ascii startsWith same among identifierByte charsOf within indexOf namedOf checkOf faultOf cutAt joinBy placesFrom kinds nameFault fits fitsKind suits suitsKind partFaults kindFaults faultsAs whyNot readKind readFirst readPath show render partsOf renderPath cmp shownOf stateOf oldestState oldestIn
 cases-hold = refl

@@ -1,6 +1,7 @@
 -- Demand 1, of each exported call: it accepts all bytes and numbers, comes back with an answer or a refusal whose number document 01 lists for
 -- the call, with length, numbers and value 0, and a refusal changes no byte of a lent buffer. What is said of each is `Demand1` in `Shape`; a
--- line here has the numbers listed, where the refusal and the other numbers stand in the answer, and where the buffer stands.
+-- line here has the numbers listed, where the refusal and the other numbers stand in the answer, and where the buffer stands. The place that
+-- stands beside 17, 18 and 19 is told in `Faults`.
 -- Assumes nothing.
 use Prim.Native.Nat.{ℕ}
 use mathlib.Core.Path.{_≡_, refl, ap, subst, sym}
@@ -8,6 +9,7 @@ use mathlib.Core.List.{List, [], _∷_}
 use denote.Ref.{now}
 use Rattle.text.specs.Bytes.{bytes}
 use Rattle.text.specs.Put.{text}
+use Rattle.text.specs.declared.Fault.{Fault}
 use Rattle.identifiers.specs.Owned.{newClient, newChannel}
 use Rattle.path.specs.Kinds.{word, carried}
 use Rattle.path.specs.Read.{renderOf, keyOf, readingBytes}
@@ -79,6 +81,13 @@ use Rattle.render.proofs.texts.ack_prefix.Reads as ack-prefix
 use Rattle.render.proofs.texts.receipt_prefix.Reads as receipt-prefix
 use Rattle.text.proofs.put.give.Reads as give
 
+-- the check of a name and an index, and that of an identifier that is such
+abbrev named : List ℕ
+named = 2 ∷ 7 ∷ 17 ∷ 18 ∷ 19 ∷ []
+
+abbrev indexes : List ℕ
+indexes = 2 ∷ 5 ∷ 6 ∷ 7 ∷ 17 ∷ 18 ∷ 19 ∷ []
+
 -- a text that is always there: only the room can lack
 abbrev room : List ℕ
 room = 4 ∷ []
@@ -141,8 +150,8 @@ hp-ack-prefix-holds = writes room _ _ (λ κs a. tt) (λ κs r. r) (λ κs a. te
 pub hp-receipt-prefix-holds : Demand1 hp-receipt-prefix.Pre hp-receipt-prefix.Post room (λ κs r. r .refusal) (λ κs r. r .length ∷ []) (λ κs a. now (a .0)) (λ κs s. now (s .0))
 hp-receipt-prefix-holds = writes room _ _ (λ κs a. tt) (λ κs r. r) (λ κs a. text (bytes "receipts")) refl refl (λ κs a. tt) (λ κs a r s p. p)
 
-pub hp-read-holds : Demand1 hp-read.Pre hp-read.Post readings (λ κs r. r) (λ κs r. []) (λ κs a. now (a .1 .0)) (λ κs s. now (s .1 .0))
-hp-read-holds = writes-number readings _ _ (λ κs a. tt) (λ κs r. r) (λ κs a. readingBytes (now (a .0))) refl refl (λ κs a. reading-wants _) (λ κs a r s p. p)
+pub hp-read-holds : Demand1 hp-read.Pre hp-read.Post readings (λ κs r. r .refusal) (λ κs r. []) (λ κs a. now (a .1 .0)) (λ κs s. now (s .1 .0))
+hp-read-holds = writes-number readings _ _ (λ κs a. tt) (λ κs r. r .refusal) (λ κs a. readingBytes (now (a .0))) refl refl (λ κs a. reading-wants _) (λ κs a r s p. (ap (λ (f : Fault). f .refusal) (p .0), p .1))
 
 -- ---- calls that are lent nothing to write
 pub hp-validate-identifier-chars-holds : Demand1 hp-validate-identifier-chars.Pre hp-validate-identifier-chars.Post (2 ∷ 5 ∷ []) (λ κs r. r) (λ κs r. []) (λ κs a. []) (λ κs s. [])
@@ -154,8 +163,8 @@ hp-validate-identifier-length-holds = checks (2 ∷ 6 ∷ []) (λ κs a. tt) (λ
 pub hp-validate-prefix-length-holds : Demand1 hp-validate-prefix-length.Pre hp-validate-prefix-length.Post (2 ∷ 6 ∷ []) (λ κs r. r) (λ κs r. []) (λ κs a. []) (λ κs s. [])
 hp-validate-prefix-length-holds = checks (2 ∷ 6 ∷ []) (λ κs a. tt) (λ κs r. r) (λ κs a r s p. subst (Listed (2 ∷ 6 ∷ [])) (sym p) (prefix-number (Listed (2 ∷ 6 ∷ [])) refl refl refl _ _ _))
 
-pub hp-validate-named-u64-index-holds : Demand1 hp-validate-named-u64-index.Pre hp-validate-named-u64-index.Post (2 ∷ 7 ∷ 8 ∷ []) (λ κs r. r) (λ κs r. []) (λ κs a. []) (λ κs s. [])
-hp-validate-named-u64-index-holds = checks (2 ∷ 7 ∷ 8 ∷ []) (λ κs a. tt) (λ κs r. r) (λ κs a r s p. subst (Listed (2 ∷ 7 ∷ 8 ∷ [])) (sym p) (named-index-number (Listed (2 ∷ 7 ∷ 8 ∷ [])) refl refl refl refl _ _))
+pub hp-validate-named-u64-index-holds : Demand1 hp-validate-named-u64-index.Pre hp-validate-named-u64-index.Post named (λ κs r. r .refusal) (λ κs r. []) (λ κs a. []) (λ κs s. [])
+hp-validate-named-u64-index-holds = checks named (λ κs a. tt) (λ κs r. r .refusal) (λ κs a r s p. subst (Listed named) (sym (ap (λ (f : Fault). f .refusal) p)) (named-index-number (Listed named) refl refl refl refl refl refl _ _))
 
 pub hp-validate-client-type-holds : Demand1 hp-validate-client-type.Pre hp-validate-client-type.Post (2 ∷ 5 ∷ 6 ∷ []) (λ κs r. r) (λ κs r. []) (λ κs a. []) (λ κs s. [])
 hp-validate-client-type-holds = checks (2 ∷ 5 ∷ 6 ∷ []) (λ κs a. tt) (λ κs r. r) (λ κs a r s p. subst (Listed (2 ∷ 5 ∷ 6 ∷ [])) (sym p) (plain-of (Listed (2 ∷ 5 ∷ 6 ∷ [])) refl refl refl refl 7 43 _))
@@ -163,14 +172,14 @@ hp-validate-client-type-holds = checks (2 ∷ 5 ∷ 6 ∷ []) (λ κs a. tt) (λ
 pub hp-validate-client-identifier-holds : Demand1 hp-validate-client-identifier.Pre hp-validate-client-identifier.Post (2 ∷ 5 ∷ 6 ∷ []) (λ κs r. r) (λ κs r. []) (λ κs a. []) (λ κs s. [])
 hp-validate-client-identifier-holds = checks (2 ∷ 5 ∷ 6 ∷ []) (λ κs a. tt) (λ κs r. r) (λ κs a r s p. subst (Listed (2 ∷ 5 ∷ 6 ∷ [])) (sym p) (plain-of (Listed (2 ∷ 5 ∷ 6 ∷ [])) refl refl refl refl 9 64 _))
 
-pub hp-validate-connection-identifier-holds : Demand1 hp-validate-connection-identifier.Pre hp-validate-connection-identifier.Post (2 ∷ 5 ∷ 6 ∷ 7 ∷ 8 ∷ []) (λ κs r. r) (λ κs r. []) (λ κs a. []) (λ κs s. [])
-hp-validate-connection-identifier-holds = checks (2 ∷ 5 ∷ 6 ∷ 7 ∷ 8 ∷ []) (λ κs a. tt) (λ κs r. r) (λ κs a r s p. subst (Listed (2 ∷ 5 ∷ 6 ∷ 7 ∷ 8 ∷ [])) (sym p) (indexed-of (Listed (2 ∷ 5 ∷ 6 ∷ 7 ∷ 8 ∷ [])) refl refl refl refl refl refl 10 64 _ _))
+pub hp-validate-connection-identifier-holds : Demand1 hp-validate-connection-identifier.Pre hp-validate-connection-identifier.Post indexes (λ κs r. r .refusal) (λ κs r. []) (λ κs a. []) (λ κs s. [])
+hp-validate-connection-identifier-holds = checks indexes (λ κs a. tt) (λ κs r. r .refusal) (λ κs a r s p. subst (Listed indexes) (sym (ap (λ (f : Fault). f .refusal) p)) (indexed-of (Listed indexes) refl refl refl refl refl refl refl refl 10 64 _ _))
 
 pub hp-validate-port-identifier-holds : Demand1 hp-validate-port-identifier.Pre hp-validate-port-identifier.Post (2 ∷ 5 ∷ 6 ∷ []) (λ κs r. r) (λ κs r. []) (λ κs a. []) (λ κs s. [])
 hp-validate-port-identifier-holds = checks (2 ∷ 5 ∷ 6 ∷ []) (λ κs a. tt) (λ κs r. r) (λ κs a r s p. subst (Listed (2 ∷ 5 ∷ 6 ∷ [])) (sym p) (plain-of (Listed (2 ∷ 5 ∷ 6 ∷ [])) refl refl refl refl 2 128 _))
 
-pub hp-validate-channel-identifier-holds : Demand1 hp-validate-channel-identifier.Pre hp-validate-channel-identifier.Post (2 ∷ 5 ∷ 6 ∷ 7 ∷ 8 ∷ []) (λ κs r. r) (λ κs r. []) (λ κs a. []) (λ κs s. [])
-hp-validate-channel-identifier-holds = checks (2 ∷ 5 ∷ 6 ∷ 7 ∷ 8 ∷ []) (λ κs a. tt) (λ κs r. r) (λ κs a r s p. subst (Listed (2 ∷ 5 ∷ 6 ∷ 7 ∷ 8 ∷ [])) (sym p) (indexed-of (Listed (2 ∷ 5 ∷ 6 ∷ 7 ∷ 8 ∷ [])) refl refl refl refl refl refl 8 64 _ _))
+pub hp-validate-channel-identifier-holds : Demand1 hp-validate-channel-identifier.Pre hp-validate-channel-identifier.Post indexes (λ κs r. r .refusal) (λ κs r. []) (λ κs a. []) (λ κs s. [])
+hp-validate-channel-identifier-holds = checks indexes (λ κs a. tt) (λ κs r. r .refusal) (λ κs a r s p. subst (Listed indexes) (sym (ap (λ (f : Fault). f .refusal) p)) (indexed-of (Listed indexes) refl refl refl refl refl refl refl refl 8 64 _ _))
 
 pub hp-is-provable-holds : Demand1 hp-is-provable.Pre hp-is-provable.Post (14 ∷ []) (λ κs r. r .refusal) (λ κs r. r .value ∷ []) (λ κs a. []) (λ κs s. [])
 hp-is-provable-holds = provable-demand (λ κs a. tt) (λ κs a. a .0) (λ κs r. r) (λ κs a r s p. p)
@@ -208,8 +217,8 @@ render-holds = writes renderings _ _ (λ κs a. tt) (λ κs r. r) (λ κs a. ren
 pub write-key-holds : Demand1 write-key.Pre write-key.Post readings (λ κs r. r .refusal) (λ κs r. r .length ∷ []) (λ κs a. now (a .1 .0)) (λ κs s. now (s .1 .0))
 write-key-holds = writes readings _ _ (λ κs a. tt) (λ κs r. r) (λ κs a. keyOf (now (a .0))) refl refl (λ κs a. key-wants _) (λ κs a r s p. p)
 
-pub write-reading-holds : Demand1 write-reading.Pre write-reading.Post readings (λ κs r. r .refusal) (λ κs r. r .length ∷ []) (λ κs a. now (a .1 .0)) (λ κs s. now (s .1 .0))
-write-reading-holds = writes readings _ _ (λ κs a. tt) (λ κs r. r) (λ κs a. readingBytes (now (a .0))) refl refl (λ κs a. reading-wants _) (λ κs a r s p. p)
+pub write-reading-holds : Demand1 write-reading.Pre write-reading.Post readings (λ κs r. r .refusal) (λ κs r. []) (λ κs a. now (a .1 .0)) (λ κs s. now (s .1 .0))
+write-reading-holds = writes-number readings _ _ (λ κs a. tt) (λ κs r. r .refusal) (λ κs a. readingBytes (now (a .0))) refl refl (λ κs a. reading-wants _) (λ κs a r s p. (ap (λ (f : Fault). f .refusal) (p .0), p .1))
 
 pub iteration-key-holds : Demand1 iteration-key.Pre iteration-key.Post room (λ κs r. r .refusal) (λ κs r. r .length ∷ []) (λ κs a. now (a .1 .1 .0)) (λ κs s. now (s .1 .1 .0))
 iteration-key-holds = writes room _ _ (λ κs a. tt) (λ κs r. r) (λ κs a. text (iterationKey (a .0 .0) (a .1 .0 .0))) refl refl (λ κs a. tt) (λ κs a r s p. p)

@@ -8,6 +8,7 @@ use mathlib.Core.Bool.{Bool, true, false, cond}
 use mathlib.Core.List.{List}
 use lib.ListN.{length, take}
 use denote.Ref.{now}
+use Rattle.text.specs.declared.Fault.{Fault}
 use Rattle.text.specs.declared.Written.{Written}
 use Rattle.text.specs.Order.{then, cmp}
 use Rattle.text.specs.Part.{ascii}
@@ -56,8 +57,8 @@ module _ (kind : ℕ) (one two : List ℕ) (a b : ℕ) where
     renders out x out₁ call room = let e = rendering call in laws.renders kind given valid out x out₁ (e .0) (e .1) room
 
     -- reading it answers 0 and 26 bytes that say that kind, those identifiers and those numbers, exact
-    pub reads-back : (out : List ℕ) (n : ℕ) (out₁ : List ℕ) → ReadCall rendered out n out₁ → 26 ≤ length out → (n ≡ 0) × Back rendered (told (take 26 out₁)) kind (only (partsOf kind) given)
-    reads-back out n out₁ call room = let e = reading call in laws.reads-back kind given valid out n out₁ (e .0) (e .1) room
+    pub reads-back : (out : List ℕ) (f : Fault) (out₁ : List ℕ) → ReadCall rendered out f out₁ → 26 ≤ length out → (f ≡ record { refusal = 0; place = 0 }) × Back rendered (told (take 26 out₁)) kind (only (partsOf kind) given)
+    reads-back out f out₁ call room = let e = reading call in laws.reads-back kind given valid out f out₁ (e .0) (e .1) room
 
     -- the same of the functions below: `render::render`, and `reader::read_path`
     pub render-then-read : ReadsAs rendered kind (only (partsOf kind) given)
@@ -84,14 +85,15 @@ pub lacking : (kind : ℕ) (v w : Carried (List ℕ)) (out : List ℕ) (x y : Wr
     → only (partsOf kind) v ≡ only (partsOf kind) w → (x ≡ y) × (out₁ ≡ out₂)
 lacking kind v w out x y out₁ out₂ c d e = let p = rendering c in let q = rendering d in laws.lacking kind v w out x y out₁ out₂ (p .0) (p .1) (q .0) (q .1) e
 
--- ---- "On every ASCII text of at most 4,096 bytes, reading .. equal the .. path rules": exactly when reading gives 1, 2, 3 and 4
-pub when-read : (t out : List ℕ) (n : ℕ) (out₁ : List ℕ) → ReadCall t out n out₁ → WhenRead t out n
-when-read t out n out₁ call = laws.when-read t out n (reading call .0)
+-- ---- "On every ASCII text of at most 4,096 bytes, reading .. equal the .. path rules": exactly when reading gives 1, 2, 3, 17, 18, 19
+-- and 4
+pub when-read : (t out : List ℕ) (f : Fault) (out₁ : List ℕ) → ReadCall t out f out₁ → WhenRead t out f
+when-read t out f out₁ call = laws.when-read t out f (reading call .0)
 
 -- a text that reads is told whole by the 26 bytes
-pub reading-tells : (t : List ℕ) (p : Path) (e : Bool) → readPath t ≡ Read p e → (out : List ℕ) (n : ℕ) (out₁ : List ℕ) → ReadCall t out n out₁ → 26 ≤ length out
-    → (n ≡ 0) × (told (take 26 out₁) ≡ toldOf p e)
-reading-tells t p e h out n out₁ call room = let q = reading call in laws.reading-tells t p e h out n out₁ (q .0) (q .1) room
+pub reading-tells : (t : List ℕ) (p : Path) (e : Bool) → readPath t ≡ Read p e → (out : List ℕ) (f : Fault) (out₁ : List ℕ) → ReadCall t out f out₁ → 26 ≤ length out
+    → (f ≡ record { refusal = 0; place = 0 }) × (told (take 26 out₁) ≡ toldOf p e)
+reading-tells t p e h out f out₁ call room = let q = reading call in laws.reading-tells t p e h out f out₁ (q .0) (q .1) room
 
 -- a text fits at most one kind, and to read is to fit: the relation `Reads` beside the function
 pub one-kind : (t : List ℕ) (j k : ℕ) → 1 ≤ j → j ≤ 19 → 1 ≤ k → k ≤ 19 → fitsKind (kindAt j) t ≡ true → fitsKind (kindAt k) t ≡ true → j ≡ k
@@ -136,14 +138,14 @@ keys-compare m h n k = key-compare m h n k
 pub client-checks : (κs : _) (a : _) (r : _) (s : _) → hp-validate-client-identifier.Post κs a r s → r ≡ generalOf client (now (a .0))
 client-checks κs a r s p = p ∙ laws.client-general (now (a .0))
 
-pub connection-checks : (κs : _) (a : _) (r : _) (s : _) → hp-validate-connection-identifier.Post κs a r s → r ≡ generalOf connection (now (a .0))
-connection-checks κs a r s p = p ∙ laws.connection-general (now (a .0))
+pub connection-checks : (κs : _) (a : _) (r : _) (s : _) → hp-validate-connection-identifier.Post κs a r s → r .refusal ≡ generalOf connection (now (a .0))
+connection-checks κs a r s p = ap (λ (f : Fault). f .refusal) p ∙ laws.connection-general (now (a .0))
 
 pub port-checks : (κs : _) (a : _) (r : _) (s : _) → hp-validate-port-identifier.Post κs a r s → r ≡ generalOf port (now (a .0))
 port-checks κs a r s p = p ∙ laws.port-general (now (a .0))
 
-pub channel-checks : (κs : _) (a : _) (r : _) (s : _) → hp-validate-channel-identifier.Post κs a r s → r ≡ generalOf channel (now (a .0))
-channel-checks κs a r s p = p ∙ laws.channel-general (now (a .0))
+pub channel-checks : (κs : _) (a : _) (r : _) (s : _) → hp-validate-channel-identifier.Post κs a r s → r .refusal ≡ generalOf channel (now (a .0))
+channel-checks κs a r s p = ap (λ (f : Fault). f .refusal) p ∙ laws.channel-general (now (a .0))
 
 pub client-type-checks : (κs : _) (a : _) (r : _) (s : _) → hp-validate-client-type.Post κs a r s → r ≡ first (charsOf (now (a .0))) (prefixLengthOf (now (a .0)) 9 64)
 client-type-checks κs a r s p = p ∙ laws.client-type-checks (now (a .0))

@@ -6,7 +6,7 @@ use mathlib.Core.Logic.{_↔_}
 use mathlib.Core.Bool.{Bool, true, false, cond}
 use mathlib.Core.List.{List}
 use native.Mathlib.Omega.{arith}
-use lib.Dec.{ltb, leb}
+use lib.Dec.{eqb, ltb, leb}
 use lib.ListN.{length, take, drop}
 use lib.Seq.{take-at}
 use borrow.Author.Tests.{le-leb, lt-leb, ltb-true, ltb-false, leb-true, leb-false}
@@ -20,12 +20,12 @@ use Rattle.path.specs.declared.Path.{Path}
 use Rattle.path.specs.declared.PathAnswer.{PathAnswer}
 use Rattle.path.specs.declared.PathAnswer.the-variants.{Found, Nothing}
 use Rattle.path.specs.declared.Refusal.{Refusal}
-use Rattle.path.specs.declared.Refusal.the-variants.{TooLong, NotAscii, NotAPath}
+use Rattle.path.specs.declared.Refusal.the-variants.{TooLong, NotAscii, NotAPath, NoDigits as WithoutDigits, NotADigit as WithoutDigit, TooLarge as AboveAll}
 use Rattle.path.specs.declared.Reading.{Reading}
 use Rattle.path.specs.declared.Reading.the-variants.{Read, Refused}
 use Rattle.path.specs.Kinds.{Carried, Kind, kinds}
 use Rattle.path.specs.Text.{partOf}
-use Rattle.path.specs.Read.{fitsKind, readFirst, readingOf, partsOf, textsOf, render, renderPath, renderOf, readPath, keyBy, keyOf, bytesBy, readingBytes, refusalOf}
+use Rattle.path.specs.Read.{fitsKind, readFirst, partsOf, textsOf, render, renderPath, renderOf, readPath, keyBy, keyOf, bytesBy, readingBytes, refusalOf, whyNot, placeOf, faultOf, readFault}
 use Rattle.path.specs.View.{kindOf, carriedOf}
 use Rattle.path.specs.Valid.{Valid, only, ReadsAs}
 use Rattle.path.specs.Reads.{Has}
@@ -37,7 +37,11 @@ use Rattle.iteration.specs.Key.{iterationKey}
 use Rattle.iteration.specs.KeyLaws.{key-length}
 use Rattle.demands.specs.Told.{Told, told, toldOf}
 use Rattle.demands.specs.ToldLaws.{bytes26, told-back, length26}
-use Rattle.demands.specs.Written.{Done, Back, NoKind, WhenRead}
+use Rattle.text.specs.declared.Fault.{Fault}
+use Rattle.text.specs.Fault.{hasPlace}
+use Rattle.path.specs.Number.{NumberWrong}
+use Rattle.path.specs.NumberLaws.{wrong-why, why-wrong, wrong-unread, wrong-marks}
+use Rattle.demands.specs.Written.{Done, Back, NoKind, WhenRead, NoNumber}
 
 -- ---- a call that writes a text, where there is room
 module _ (w out : List ℕ) (room : length w ≤ length out) where
@@ -78,13 +82,14 @@ module _ (t : List ℕ) (p : Path) (e : Bool) (h : readPath t ≡ Read p e) wher
   unfolding readingBytes
   read-bytes = ap bytesBy h
 
-  pub reading-tells : (out : List ℕ) (n : ℕ) (out₁ : List ℕ) → n ≡ answer (readingBytes t) (length out) .refusal → out₁ ≡ left (readingBytes t) out → 26 ≤ length out
-      → (n ≡ 0) × (told (take 26 out₁) ≡ toldOf p e)
-  reading-tells out n out₁ x q room =
+  pub reading-tells : (out : List ℕ) (f : Fault) (out₁ : List ℕ) → f ≡ readFault t (length out) → out₁ ≡ left (readingBytes t) out → 26 ≤ length out
+      → (f ≡ record { refusal = 0; place = 0 }) × (told (take 26 out₁) ≡ toldOf p e)
+  unfolding readFault
+  reading-tells out f out₁ x q room =
       let l : length (bytes26 p e) ≡ 26 = length26 t p e h in
       let d = wrote (bytes26 p e) out (omega (arith, l)) (readingBytes t) read-bytes (answer (readingBytes t) (length out)) out₁ refl q in
       let s : take 26 out₁ ≡ bytes26 p e = ap (λ (m : ℕ). take m out₁) (sym (ap (λ (y : Written). y .length) (d .answered) ∙ l)) ∙ d .shown in
-      (x ∙ ap (λ (y : Written). y .refusal) (d .answered), ap told s ∙ told-back t p e h)
+      (x ∙ rw (d .answered, h), ap told s ∙ told-back t p e h)
 
   key-is : keyOf t ≡ text (renderPath t p)
   unfolding keyOf
@@ -102,13 +107,13 @@ module _ (t : List ℕ) (p : Path) (e : Bool) (h : readPath t ≡ Read p e) wher
   pub key-again : keyOf (renderPath t p) ≡ text (renderPath t p)
   key-again = key-exact t (renderPath t p) key-is .2
 
-pub reads-back : (k : ℕ) (v : Carried (List ℕ)) → Valid k v → (out : List ℕ) (n : ℕ) (out₁ : List ℕ)
-    → n ≡ answer (readingBytes (render (partsOf k) v)) (length out) .refusal → out₁ ≡ left (readingBytes (render (partsOf k) v)) out → 26 ≤ length out
-    → (n ≡ 0) × Back (render (partsOf k) v) (told (take 26 out₁)) k (only (partsOf k) v)
-reads-back k v valid out n out₁ x q room =
+pub reads-back : (k : ℕ) (v : Carried (List ℕ)) → Valid k v → (out : List ℕ) (f : Fault) (out₁ : List ℕ)
+    → f ≡ readFault (render (partsOf k) v) (length out) → out₁ ≡ left (readingBytes (render (partsOf k) v)) out → 26 ≤ length out
+    → (f ≡ record { refusal = 0; place = 0 }) × Back (render (partsOf k) v) (told (take 26 out₁)) k (only (partsOf k) v)
+reads-back k v valid out f out₁ x q room =
     let w : List ℕ = render (partsOf k) v in
     let r : ReadsAs w k (only (partsOf k) v) = rendered-back k v valid in
-    let d = reading-tells w (r .path) true (r .read) out n out₁ x q room in
+    let d = reading-tells w (r .path) true (r .read) out f out₁ x q room in
     let c = r .carried in (
       d .0,
       rw (d .1) (record {
@@ -148,50 +153,105 @@ IsRead t = (p : Path) × (e : Bool) × (readPath t ≡ Read p e)
 not-read : (t : List ℕ) (w : Refusal) → readPath t ≡ Refused w → IsRead t → ⊥
 not-read t w h x = let q = x .2 in let z : _≡_ {A = ℕ} 0 1 = cc in omega (arith, z)
 
-module _ (t out : List ℕ) (n : ℕ) (e : n ≡ answer (readingBytes t) (length out) .refusal) where
-  number-refused : (w : Refusal) → readPath t ≡ Refused w → n ≡ refusalOf w
-  unfolding readingBytes answer
-  number-refused w h = e ∙ ap (λ (x : Reading). answer (bytesBy x) (length out) .refusal) h
+-- a refusal with a place is told by its fault
+asRefusal : Fault → Refusal
+asRefusal f = cond (eqb (f .refusal) 17) (WithoutDigits (f .place)) (cond (eqb (f .refusal) 18) (WithoutDigit (f .place)) (AboveAll (f .place)))
 
-  long-way : 4096 < length t → readPath t ≡ Refused TooLong → WhenRead t out n
+back-fault : (w : Refusal) → hasPlace (refusalOf w) ≡ true → asRefusal (faultOf w) ≡ w
+back-fault TooLong h = clash (let z : _≡_ {A = ℕ} 0 1 = cc in z)
+back-fault NotAscii h = clash (let z : _≡_ {A = ℕ} 0 1 = cc in z)
+back-fault NotAPath h = clash (let z : _≡_ {A = ℕ} 0 1 = cc in z)
+back-fault (WithoutDigits i) h = refl
+back-fault (WithoutDigit i) h = refl
+back-fault (AboveAll i) h = refl
+
+-- a number that has no place is none of theirs
+no-place : (n : ℕ) (w : Refusal) → hasPlace n ≡ false → hasPlace (refusalOf w) ≡ true → n ≡ refusalOf w → ⊥
+no-place n w h k e = let z : _≡_ {A = ℕ} 0 1 = cc in omega (arith, z)
+
+module _ (t out : List ℕ) (f : Fault) (e : f ≡ readFault t (length out)) where
+  module _ (w : Refusal) (h : readPath t ≡ Refused w) where
+    fault-is : f ≡ faultOf w
+    unfolding readFault readingBytes answer
+    fault-is = e ∙ rw h
+
+    number-is : f .refusal ≡ refusalOf w
+    number-is = ap (λ (x : Fault). x .refusal) fault-is
+
+    place-is : f .place ≡ placeOf w
+    place-is = ap (λ (x : Fault). x .place) fault-is
+
+  -- no number alone is wrong: what has no place
+  module _ (n : ℕ) (m : f .refusal ≡ n) (none : hasPlace n ≡ false) where
+    other-number : (w : Refusal) → hasPlace (refusalOf w) ≡ true → f ≡ faultOf w → ⊥
+    other-number w k q = no-place n w none k (sym m ∙ ap (λ (x : Fault). x .refusal) q)
+
+  long-way : 4096 < length t → readPath t ≡ Refused TooLong → WhenRead t out f
   long-way l h =
-      let m : n ≡ 1 = number-refused TooLong h in
+      let m : f .refusal ≡ 1 = number-is TooLong h in
       record {
         too-long = iff-yes m l;
         not-ascii = iff-no (λ q. omega arith) (λ q. omega (arith, q .0));
         not-a-path = iff-no (λ q. omega arith) (λ q. omega (arith, q .0));
+        bad-number = λ w k. iff-no (other-number 1 m refl w k) (λ q. omega (arith, q .0));
         no-room = iff-no (λ q. omega arith) (λ q. not-read t TooLong h (q .0));
         done = iff-no (λ q. omega arith) (λ q. not-read t TooLong h (q .0));
+        placeless = λ k. place-is TooLong h;
       }
 
-  ascii-way : length t ≤ 4096 → ascii t ≡ false → readPath t ≡ Refused NotAscii → WhenRead t out n
+  ascii-way : length t ≤ 4096 → ascii t ≡ false → readPath t ≡ Refused NotAscii → WhenRead t out f
   ascii-way l a h =
-      let m : n ≡ 2 = number-refused NotAscii h in
+      let m : f .refusal ≡ 2 = number-is NotAscii h in
       record {
         too-long = iff-no (λ q. omega arith) (λ q. omega (arith, q));
         not-ascii = iff-yes m (l, a);
         not-a-path = iff-no (λ q. omega arith) (λ q. let b = q .1 in let z : _≡_ {A = ℕ} 0 1 = cc in omega (arith, z));
+        bad-number = λ w k. iff-no (other-number 2 m refl w k) (λ q. let b = q .1 in let z : _≡_ {A = ℕ} 0 1 = cc in omega (arith, z));
         no-room = iff-no (λ q. omega arith) (λ q. not-read t NotAscii h (q .0));
         done = iff-no (λ q. omega arith) (λ q. not-read t NotAscii h (q .0));
+        placeless = λ k. place-is NotAscii h;
       }
 
-  path-way : length t ≤ 4096 → ascii t ≡ true → readFirst kinds t ≡ Nothing → readPath t ≡ Refused NotAPath → WhenRead t out n
-  path-way l a f h =
-      let m : n ≡ 3 = number-refused NotAPath h in
-      record {
-        too-long = iff-no (λ q. omega arith) (λ q. omega (arith, q));
-        not-ascii = iff-no (λ q. omega arith) (λ q. let b = q .1 in let z : _≡_ {A = ℕ} 0 1 = cc in omega (arith, z));
-        not-a-path = iff-yes m (l, a, no-kind t f);
-        no-room = iff-no (λ q. omega arith) (λ q. not-read t NotAPath h (q .0));
-        done = iff-no (λ q. omega arith) (λ q. not-read t NotAPath h (q .0));
-      }
+  module _ (l : length t ≤ 4096) (a : ascii t ≡ true) (none : readFirst kinds t ≡ Nothing) where
+    path-way : whyNot t ≡ NotAPath → readPath t ≡ Refused NotAPath → WhenRead t out f
+    path-way y h =
+        let m : f .refusal ≡ 3 = number-is NotAPath h in
+        let nothing : NoNumber t = λ w x. let k = wrong-marks t w x .placed in let z : w ≡ NotAPath = sym (wrong-why t w x) ∙ y in let q = rw z at k in clash (let z : _≡_ {A = ℕ} 0 1 = cc in z) in
+        record {
+          too-long = iff-no (λ q. omega arith) (λ q. omega (arith, q));
+          not-ascii = iff-no (λ q. omega arith) (λ q. let b = q .1 in let z : _≡_ {A = ℕ} 0 1 = cc in omega (arith, z));
+          not-a-path = iff-yes m (l, a, no-kind t none, nothing);
+          bad-number = λ w k. iff-no (other-number 3 m refl w k) (λ q. nothing w (q .2));
+          no-room = iff-no (λ q. omega arith) (λ q. not-read t NotAPath h (q .0));
+          done = iff-no (λ q. omega arith) (λ q. not-read t NotAPath h (q .0));
+          placeless = λ k. place-is NotAPath h;
+        }
 
-  read-way : length t ≤ 4096 → ascii t ≡ true → (p : Path) (x : Bool) → readFirst kinds t ≡ Found p → readPath t ≡ Read p x → WhenRead t out n
-  unfolding answer
-  read-way l a p x f h = go (leb 26 (length out)) refl
+    number-way : (w : Refusal) → whyNot t ≡ w → (w ≡ NotAPath → ⊥) → readPath t ≡ Refused w → WhenRead t out f
+    number-way w y n h =
+        let x : NumberWrong t w = why-wrong t w n y in
+        let k : hasPlace (refusalOf w) ≡ true = wrong-marks t w x .placed in
+        let m : f .refusal ≡ refusalOf w = number-is w h in
+        let other : (i : ℕ) → hasPlace i ≡ false → f .refusal ≡ i → ⊥ = λ i g q. no-place i w g k (sym q ∙ m) in
+        record {
+          too-long = iff-no (other 1 refl) (λ q. omega (arith, q));
+          not-ascii = iff-no (other 2 refl) (λ q. let b = q .1 in let z : _≡_ {A = ℕ} 0 1 = cc in omega (arith, z));
+          not-a-path = iff-no (other 3 refl) (λ q. q .3 w x);
+          bad-number = λ v g. (λ q. (l, a, subst (NumberWrong t) (sym (back-fault w k) ∙ ap asRefusal (sym (fault-is w h) ∙ q) ∙ back-fault v g) x), λ q. fault-is w h ∙ ap faultOf (sym y ∙ wrong-why t v (q .2)));
+          no-room = iff-no (other 4 refl) (λ q. not-read t w h (q .0));
+          done = iff-no (other 0 refl) (λ q. not-read t w h (q .0));
+          placeless = λ q. absurd (no-place (f .refusal) w q k m);
+        }
+
+  read-way : length t ≤ 4096 → ascii t ≡ true → (p : Path) (x : Bool) → readFirst kinds t ≡ Found p → readPath t ≡ Read p x → WhenRead t out f
+  unfolding answer readFault
+  read-way l a p x r h = go (leb 26 (length out)) refl
     where
-      number : n ≡ answer (text (bytes26 p x)) (length out) .refusal
-      number = e ∙ ap (λ (w : Wanted). answer w (length out) .refusal) (read-bytes t p x h)
+      number : f .refusal ≡ answer (text (bytes26 p x)) (length out) .refusal
+      number = ap (λ (y : Fault). y .refusal) e ∙ ap (λ (w : Wanted). answer w (length out) .refusal) (read-bytes t p x h)
+
+      place : f .place ≡ 0
+      place = ap (λ (y : Fault). y .place) e ∙ rw h
 
       size : length (bytes26 p x) ≡ 26
       size = length26 t p x h
@@ -199,36 +259,54 @@ module _ (t out : List ℕ) (n : ℕ) (e : n ≡ answer (readingBytes t) (length
       read : IsRead t
       read = (p, x, h)
 
-      go : (b : Bool) → leb 26 (length out) ≡ b → WhenRead t out n
-      go true r =
-          let wide : 26 ≤ length out = leb-true 26 (length out) r in
-          let m : n ≡ 0 = number ∙ rw (le-leb (length (bytes26 p x)) (length out) (let q : length (bytes26 p x) ≤ length out = omega (arith, size) in q)) in
+      right : (w : Refusal) → NumberWrong t w → ⊥
+      right w y = let q = wrong-unread t w y in let z : _≡_ {A = ℕ} 0 1 = cc in omega (arith, z)
+
+      go : (b : Bool) → leb 26 (length out) ≡ b → WhenRead t out f
+      go true b =
+          let wide : 26 ≤ length out = leb-true 26 (length out) b in
+          let m : f .refusal ≡ 0 = number ∙ rw (le-leb (length (bytes26 p x)) (length out) (let q : length (bytes26 p x) ≤ length out = omega (arith, size) in q)) in
           record {
             too-long = iff-no (λ q. omega arith) (λ q. omega (arith, q));
             not-ascii = iff-no (λ q. omega arith) (λ q. let b = q .1 in let z : _≡_ {A = ℕ} 0 1 = cc in omega (arith, z));
-            not-a-path = iff-no (λ q. omega arith) (λ q. some-kind t p f (q .2));
+            not-a-path = iff-no (λ q. omega arith) (λ q. some-kind t p r (q .2));
+            bad-number = λ w k. iff-no (other-number 0 m refl w k) (λ q. right w (q .2));
             no-room = iff-no (λ q. omega arith) (λ q. omega (arith, q .1));
             done = iff-yes m (read, wide);
+            placeless = λ k. place;
           }
-      go false r =
-          let narrow : length out < 26 = leb-false 26 (length out) r in
-          let m : n ≡ 4 = number ∙ rw (lt-leb (length (bytes26 p x)) (length out) (let q : length out < length (bytes26 p x) = omega (arith, size) in q)) in
+      go false b =
+          let narrow : length out < 26 = leb-false 26 (length out) b in
+          let m : f .refusal ≡ 4 = number ∙ rw (lt-leb (length (bytes26 p x)) (length out) (let q : length out < length (bytes26 p x) = omega (arith, size) in q)) in
           record {
             too-long = iff-no (λ q. omega arith) (λ q. omega (arith, q));
             not-ascii = iff-no (λ q. omega arith) (λ q. let b = q .1 in let z : _≡_ {A = ℕ} 0 1 = cc in omega (arith, z));
-            not-a-path = iff-no (λ q. omega arith) (λ q. some-kind t p f (q .2));
+            not-a-path = iff-no (λ q. omega arith) (λ q. some-kind t p r (q .2));
+            bad-number = λ w k. iff-no (other-number 4 m refl w k) (λ q. right w (q .2));
             no-room = iff-yes m (read, narrow);
             done = iff-no (λ q. omega arith) (λ q. omega (arith, q .1));
+            placeless = λ k. place;
           }
 
-  pub when-read : WhenRead t out n
+  unread-way : length t ≤ 4096 → ascii t ≡ true → readFirst kinds t ≡ Nothing → readPath t ≡ Refused (whyNot t) → WhenRead t out f
+  unread-way l a none h = go (whyNot t) refl h
+    where
+      go : (w : Refusal) → whyNot t ≡ w → readPath t ≡ Refused w → WhenRead t out f
+      go NotAPath y g = path-way l a none y g
+      go TooLong y g = number-way l a none TooLong y (λ z. clash (let c : _≡_ {A = ℕ} 0 1 = cc in c)) g
+      go NotAscii y g = number-way l a none NotAscii y (λ z. clash (let c : _≡_ {A = ℕ} 0 1 = cc in c)) g
+      go (WithoutDigits i) y g = number-way l a none (WithoutDigits i) y (λ z. clash (let c : _≡_ {A = ℕ} 0 1 = cc in c)) g
+      go (WithoutDigit i) y g = number-way l a none (WithoutDigit i) y (λ z. clash (let c : _≡_ {A = ℕ} 0 1 = cc in c)) g
+      go (AboveAll i) y g = number-way l a none (AboveAll i) y (λ z. clash (let c : _≡_ {A = ℕ} 0 1 = cc in c)) g
+
+  pub when-read : WhenRead t out f
   unfolding readPath
   when-read = go (ltb 4096 (length t)) refl (ascii t) refl (readFirst kinds t) refl
     where
-      go : (l : Bool) → ltb 4096 (length t) ≡ l → (a : Bool) → ascii t ≡ a → (x : PathAnswer) → readFirst kinds t ≡ x → WhenRead t out n
+      go : (l : Bool) → ltb 4096 (length t) ≡ l → (a : Bool) → ascii t ≡ a → (x : PathAnswer) → readFirst kinds t ≡ x → WhenRead t out f
       go true l a ea x ex = long-way (ltb-true 4096 (length t) l) (rw l)
       go false l false a x ex = ascii-way (ltb-false 4096 (length t) l) a (rw (l, a))
-      go false l true a Nothing ex = path-way (ltb-false 4096 (length t) l) a ex (rw (l, a, ex))
+      go false l true a Nothing ex = unread-way (ltb-false 4096 (length t) l) a ex (rw (l, a, ex))
       go false l true a (Found p) ex = read-way (ltb-false 4096 (length t) l) a p (same t (renderPath t p)) ex (rw (l, a, ex))
 
 -- ---- iteration keys

@@ -1,7 +1,7 @@
--- The demands as theorems over the contracts that the sources have. Demand 1 is `Demand1`, by `Shape`; demand 2 is `Demand2`, in the words of `PathCalls`, `Told` and `Written`; the keys of request L1 are in `Iteration`, in
--- the words of `KeyCalls` and `Scanned`; demand 3 is `Demand3`, in
--- the words of `Held`, `Refusals` and `BookCalls`; `Useless` shows which line each useless book breaks. Files that end in `Laws` may be
--- skipped.
+-- The demands as theorems over the contracts that the sources have. Demand 1 is `Demand1`, by `Shape`; demand 2 is `Demand2`, in the words of
+-- `PathCalls`, `Told` and `Written`; what the place of a bad number tells, request L3, is in `Faults`; the keys of request L1 are in `Iteration`,
+-- in the words of `KeyCalls` and `Scanned`; demand 3 is `Demand3`, in the words of `Held`, `Refusals` and `BookCalls`; `Useless` shows which
+-- line each useless book breaks. Files that end in `Laws` may be skipped.
 pub mod Shape
 pub mod ShapeLaws
 pub mod KeepsLaws
@@ -13,6 +13,7 @@ pub mod ToldLaws
 pub mod Written
 pub mod Demand2Laws
 pub mod Demand2
+pub mod Faults
 pub mod KeyCalls
 pub mod Scanned
 pub mod IterationLaws

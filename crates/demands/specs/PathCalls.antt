@@ -10,9 +10,10 @@ use denote.Ref.{now}
 use borrow.Fn.World.{ArgsD, ResD}
 use borrow.Fn.Kinds.{endedOf}
 use denote.Triple.Clauses.{AtExit}
+use Rattle.text.specs.declared.Fault.{Fault}
 use Rattle.text.specs.declared.Written.{Written}
 use Rattle.text.specs.Put.{text, answer, left}
-use Rattle.path.specs.Read.{readingBytes, keyOf, renderOf}
+use Rattle.path.specs.Read.{readingBytes, readFault, keyOf, renderOf}
 use Rattle.path.specs.Kinds.{carried}
 use Rattle.iteration.specs.Key.{iterationKey}
 use Rattle.hostpath.proofs.hp_read as r
@@ -28,14 +29,14 @@ use Rattle.hostpath.proofs.hp_iteration_key as i
 use Rattle.hostpath.proofs.hp_iteration_key.Kinds as ik
 use Rattle.hostpath.proofs.hp_iteration_key.Reads as ir
 
-pub record ReadCall (t out : List ℕ) (n : ℕ) (out₁ : List ℕ) : Type 0 where
+pub record ReadCall (t out : List ℕ) (f : Fault) (out₁ : List ℕ) : Type 0 where
   pub lifetimes : Lfts 2
   pub args : ArgsD r.signature lifetimes
   pub result : ResD r.signature lifetimes
   pub exits : AtExit (endedOf 2 rk.ps rk.r) lifetimes
   pub text-in : now (args .0) ≡ t
   pub out-in : now (args .1 .0) ≡ out
-  pub number-out : result ≡ n
+  pub fault-out : result ≡ f
   pub out-out : now (exits .1 .0) ≡ out₁
   pub ensures : rr.Post lifetimes args result exits
 
@@ -78,10 +79,10 @@ pub record IterationKeyCall (number height : ℕ) (out : List ℕ) (x : Written)
   pub ensures : ir.Post lifetimes args result exits
 
 -- ---- what they ensure, in those names
-pub reading : {t out : List ℕ} {n : ℕ} {out₁ : List ℕ} → ReadCall t out n out₁ → (n ≡ answer (readingBytes t) (length out) .refusal) × (out₁ ≡ left (readingBytes t) out)
+pub reading : {t out : List ℕ} {f : Fault} {out₁ : List ℕ} → ReadCall t out f out₁ → (f ≡ readFault t (length out)) × (out₁ ≡ left (readingBytes t) out)
 reading x =
-    let p : (x .result ≡ answer (readingBytes (now (x .args .0))) (length (now (x .args .1 .0))) .refusal) × (now (x .exits .1 .0) ≡ left (readingBytes (now (x .args .0))) (now (x .args .1 .0))) = x .ensures in
-    rw (x .text-in, x .out-in, x .number-out, x .out-out) at p
+    let p : (x .result ≡ readFault (now (x .args .0)) (length (now (x .args .1 .0)))) × (now (x .exits .1 .0) ≡ left (readingBytes (now (x .args .0))) (now (x .args .1 .0))) = x .ensures in
+    rw (x .text-in, x .out-in, x .fault-out, x .out-out) at p
 
 pub keying : {t out : List ℕ} {y : Written} {out₁ : List ℕ} → KeyCall t out y out₁ → (y ≡ answer (keyOf t) (length out)) × (out₁ ≡ left (keyOf t) out)
 keying x =

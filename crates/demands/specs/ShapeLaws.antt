@@ -8,16 +8,19 @@ use Prim.Native.Nat.{max, _+_, _-_}
 use lib.Dec.{eqb, ltb, leb}
 use lib.ListN.{length, drop}
 use Rattle.text.specs.Bytes.{bytes}
+use Rattle.text.specs.Fault.{numeralFault}
 use Rattle.text.specs.Number.{numeralOf, decimal}
+use Rattle.text.specs.declared.Numeral.{Numeral}
+use Rattle.text.specs.declared.Numeral.the-variants.{Value, NoDigits, NotADigit, TooLarge}
 use Rattle.text.specs.declared.Written.{Written}
 use Rattle.text.specs.Part.{every, ascii, startsWith}
 use Rattle.text.specs.Put.{Wanted, refused, text, accepted, answer, left, refusal, done}
 use Rattle.text.specs.PutLaws.{refusal-keeps}
-use Rattle.identifiers.specs.Check.{first, unless, isValue, identifierByte, charsOf, within, indexOf, namedOf, Rule, Form, plain, indexed, formOf, checkOf, client, clientType, port, lengthOf, prefixLengthOf, namedIndexOf}
+use Rattle.identifiers.specs.Check.{first, unless, identifierByte, charsOf, within, indexOf, namedOf, Rule, Form, plain, indexed, formOf, checkOf, client, clientType, port, lengthOf, prefixLengthOf, namedIndexOf}
 use Rattle.identifiers.specs.Check as check
 use Rattle.identifiers.specs.Owned.{trim, newClient, newChannel}
 use Rattle.path.specs.declared.Refusal.{Refusal}
-use Rattle.path.specs.declared.Refusal.the-variants.{TooLong, NotAscii, NotAPath}
+use Rattle.path.specs.declared.Refusal.the-variants.{TooLong, NotAscii, NotAPath, NoDigits as WithoutDigits, NotADigit as WithoutDigit, TooLarge as AboveAll}
 use Rattle.path.specs.declared.Reading.{Reading}
 use Rattle.path.specs.declared.Reading.the-variants.{Read, Refused}
 use Rattle.path.specs.Kinds.{Part, word, name, count, pair, Carried, nameIn}
@@ -97,14 +100,20 @@ module _ (P : ℕ → Type 0) (zero : P 0) where
       go true = q
       go false = p
 
-  named-number : P 7 → P 8 → (n s : List ℕ) → P (namedOf n s)
+  numeral-of : P 17 → P 18 → P 19 → (x : Numeral) → P (numeralFault x)
+  numeral-of none other large (Value v) = zero
+  numeral-of none other large (NoDigits i) = none
+  numeral-of none other large (NotADigit i) = other
+  numeral-of none other large (TooLarge i) = large
+
+  named-number : P 7 → P 17 → P 18 → P 19 → (n s : List ℕ) → P (namedOf n s)
   unfolding namedOf indexOf
-  named-number seven eight n s =
+  named-number seven none other large n s =
       let d : List ℕ = drop (length n + 1) s in
       let starts : Bool = startsWith (n ++ bytes "-") s in
       let zeros : Bool = not (startsWith (bytes "0") d && ltb 1 (length d)) in
-      let value : Bool = isValue (numeralOf d) in
-      both-of (unless 7 starts) (first (unless 7 zeros) (unless 8 value)) (one-of 7 starts seven) (both-of (unless 7 zeros) (unless 8 value) (one-of 7 zeros seven) (one-of 8 value eight))
+      let value : ℕ = numeralFault (numeralOf d) in
+      both-of (unless 7 starts) (first (unless 7 zeros) value) (one-of 7 starts seven) (both-of (unless 7 zeros) value (one-of 7 zeros seven) (numeral-of none other large (numeralOf d)))
 
   module _ (two : P 2) (five : P 5) (six : P 6) where
     chars-of : (s : List ℕ) → P (charsOf s)
@@ -119,9 +128,9 @@ module _ (P : ℕ → Type 0) (zero : P 0) where
     unfolding checkOf
     plain-of least most s = both-of (charsOf s) (first (within least most (length s)) 0) (chars-of s) (both-of (within least most (length s)) 0 (within-of least most (length s)) zero)
 
-    module _ (seven : P 7) (eight : P 8) where
+    module _ (seven : P 7) (none : P 17) (other : P 18) (large : P 19) where
       named-of : (n s : List ℕ) → P (namedOf n s)
-      named-of = named-number seven eight
+      named-of = named-number seven none other large
 
       pub indexed-of : (least most : ℕ) (n s : List ℕ) → P (checkOf (record { least = least; most = most; form = indexed n }) s)
       unfolding checkOf
@@ -158,10 +167,10 @@ module _ (P : ℕ → Type 0) (zero : P 0) where
   unfolding prefixLengthOf
   prefix-number two six s least most = length-number two six s (least - 2) (most - 21)
 
-  pub named-index-number : P 2 → P 7 → P 8 → (s n : List ℕ) → P (namedIndexOf s n)
+  pub named-index-number : P 2 → P 7 → P 17 → P 18 → P 19 → (s n : List ℕ) → P (namedIndexOf s n)
   unfolding namedIndexOf
-  named-index-number two seven eight s n =
-      both-of (unless 2 (ascii s)) (first (unless 2 (ascii n)) (namedOf n s)) (one-of 2 (ascii s) two) (both-of (unless 2 (ascii n)) (namedOf n s) (one-of 2 (ascii n) two) (named-number seven eight n s))
+  named-index-number two seven none other large s n =
+      both-of (unless 2 (ascii s)) (first (unless 2 (ascii n)) (namedOf n s)) (one-of 2 (ascii s) two) (both-of (unless 2 (ascii n)) (namedOf n s) (one-of 2 (ascii n) two) (named-number seven none other large n s))
 
 -- ---- what is wanted
 accepted-wants : (ns : List ℕ) (n : ℕ) (w : List ℕ) → Listed ns n → Wants ns (accepted n w)
@@ -172,12 +181,15 @@ accepted-wants ns n w h = go (eqb n 0)
     go false = h
 
 abbrev pub readings : List ℕ
-readings = 1 ∷ 2 ∷ 3 ∷ 4 ∷ []
+readings = 1 ∷ 2 ∷ 3 ∷ 17 ∷ 18 ∷ 19 ∷ 4 ∷ []
 
 reading-refusal : (w : Refusal) → Listed readings (refusalOf w)
 reading-refusal TooLong = refl
 reading-refusal NotAscii = refl
 reading-refusal NotAPath = refl
+reading-refusal (WithoutDigits i) = refl
+reading-refusal (WithoutDigit i) = refl
+reading-refusal (AboveAll i) = refl
 
 pub key-wants : (t : List ℕ) → Wants readings (keyOf t)
 unfolding keyOf
@@ -196,7 +208,7 @@ reading-wants t = go (readPath t)
     go (Refused w) = reading-refusal w
 
 abbrev pub renderings : List ℕ
-renderings = 14 ∷ 2 ∷ 5 ∷ 6 ∷ 7 ∷ 8 ∷ 13 ∷ 1 ∷ 4 ∷ []
+renderings = 14 ∷ 2 ∷ 5 ∷ 6 ∷ 7 ∷ 17 ∷ 18 ∷ 19 ∷ 13 ∷ 1 ∷ 4 ∷ []
 
 pub render-wants : (k : ℕ) (v : Carried (List ℕ)) → Wants renderings (renderOf k v)
 unfolding renderOf
@@ -206,7 +218,7 @@ render-wants k v = go (leb 1 k && leb k 19)
     short = leb (length (render (partsOf k) v)) 4096
 
     go : (b : Bool) → Wants renderings (cond b (limited (partsOf k) v) (refused 14))
-    go true = accepted-wants renderings (first (namesFault (partsOf k) v) (unless 1 short)) (render (partsOf k) v) (both-of (Listed renderings) refl (namesFault (partsOf k) v) (unless 1 short) (names-of (Listed renderings) refl refl refl refl refl refl refl (partsOf k) v) (one-of (Listed renderings) refl 1 short refl))
+    go true = accepted-wants renderings (first (namesFault (partsOf k) v) (unless 1 short)) (render (partsOf k) v) (both-of (Listed renderings) refl (namesFault (partsOf k) v) (unless 1 short) (names-of (Listed renderings) refl refl refl refl refl refl refl refl refl (partsOf k) v) (one-of (Listed renderings) refl 1 short refl))
     go false = refl
 
 abbrev pub clients : List ℕ
@@ -235,10 +247,10 @@ unfolding textOf namesFault nameFault
 parent-wants v = accepted-wants clients (first (checkOf client (v .first)) 0) (render consensusParent v) (both-of (Listed clients) refl (checkOf client (v .first)) 0 (plain-of (Listed clients) refl refl refl refl 9 64 (v .first)) refl)
 
 abbrev pub ends : List ℕ
-ends = 2 ∷ 5 ∷ 6 ∷ 7 ∷ 8 ∷ 4 ∷ []
+ends = 2 ∷ 5 ∷ 6 ∷ 7 ∷ 17 ∷ 18 ∷ 19 ∷ 4 ∷ []
 
 pub packets-wants : (w : List ℕ) (v : Carried (List ℕ)) → Wants ends (textOf (packetsPath w) v)
 unfolding textOf namesFault nameFault
 packets-wants w v =
     accepted-wants ends (first (checkOf port (v .first)) (first (checkOf check.channel (v .second)) 0)) (render (packetsPath w) v)
-    (both-of (Listed ends) refl (checkOf port (v .first)) (first (checkOf check.channel (v .second)) 0) (plain-of (Listed ends) refl refl refl refl 2 128 (v .first)) (both-of (Listed ends) refl (checkOf check.channel (v .second)) 0 (indexed-of (Listed ends) refl refl refl refl refl refl 8 64 (bytes "channel") (v .second)) refl))
+    (both-of (Listed ends) refl (checkOf port (v .first)) (first (checkOf check.channel (v .second)) 0) (plain-of (Listed ends) refl refl refl refl 2 128 (v .first)) (both-of (Listed ends) refl (checkOf check.channel (v .second)) 0 (indexed-of (Listed ends) refl refl refl refl refl refl refl refl 8 64 (bytes "channel") (v .second)) refl))

@@ -1,6 +1,6 @@
 -- What the case of an answer that a match took tells.
 -- Assumes nothing.
-use mathlib.Core.Path.{_≡_, refl, subst}
+use mathlib.Core.Path.{_≡_, refl}
 use mathlib.Core.Bool.{false}
 use mathlib.Core.List.{[], _∷_}
 use mathlib.Core.Logic.{inl, inr}
@@ -10,7 +10,8 @@ use types.Run.{OneOf}
 use Rattle.text.proofs.Numeral.{the-type}
 use Rattle.path.proofs.Refusal.{the-type as refusal-type}
 use Rattle.path.specs.declared.Refusal.{Refusal}
-use Rattle.path.specs.declared.Refusal.the-variants.{NotAPath}
+use Rattle.path.specs.declared.Refusal.the-variants.{TooLong, NotAscii, NotAPath, NoDigits as WithoutDigits, NotADigit as WithoutDigit, TooLarge as AboveAll}
+use Rattle.parse.specs.Fault.{orFault}
 use Rattle.text.specs.declared.Numeral.{Numeral}
 use Rattle.text.specs.declared.Numeral.the-variants.{Value, NoDigits, NotADigit, TooLarge}
 use Rattle.identifiers.specs.Check.{isValue}
@@ -24,13 +25,15 @@ no-value (NoDigits i) h = refl
 no-value (NotADigit i) h = refl
 no-value (TooLarge i) h = refl
 
--- a refusal of another case is no NotAPath
-pub some-fault : (r : Refusal) → OneOf (0 ∷ 1 ∷ 3 ∷ 4 ∷ 5 ∷ []) (tagOf refusal-type r) → r ≡ NotAPath → ⊥
-some-fault r h e = go (subst (λ (x : Refusal). OneOf (0 ∷ 1 ∷ 3 ∷ 4 ∷ 5 ∷ []) (tagOf refusal-type x)) e h)
-  where
-    go : OneOf (0 ∷ 1 ∷ 3 ∷ 4 ∷ 5 ∷ []) (tagOf refusal-type NotAPath) → ⊥
-    go (inl k) = omega arith
-    go (inr (inl k)) = omega arith
-    go (inr (inr (inl k))) = omega arith
-    go (inr (inr (inr (inl k)))) = omega arith
-    go (inr (inr (inr (inr k)))) = omega arith
+-- a refusal of another case is the first of two
+pub some-fault : (r x : Refusal) → OneOf (0 ∷ 1 ∷ 3 ∷ 4 ∷ 5 ∷ []) (tagOf refusal-type r) → r ≡ orFault r x
+some-fault TooLong x h = refl
+some-fault NotAscii x h = refl
+some-fault NotAPath x (inl k) = absurd (omega arith)
+some-fault NotAPath x (inr (inl k)) = absurd (omega arith)
+some-fault NotAPath x (inr (inr (inl k))) = absurd (omega arith)
+some-fault NotAPath x (inr (inr (inr (inl k)))) = absurd (omega arith)
+some-fault NotAPath x (inr (inr (inr (inr k)))) = absurd (omega arith)
+some-fault (WithoutDigits i) x h = refl
+some-fault (WithoutDigit i) x h = refl
+some-fault (AboveAll i) x h = refl

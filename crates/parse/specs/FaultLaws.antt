@@ -27,7 +27,7 @@ use Rattle.path.specs.Text.{cutAt, cutStep, component, placeAt}
 use Rattle.path.specs.Kinds.{Part, word, name, count, pair, Kind, kinds, kind5, kind6, kind7, kind15, kind16, kind17, kind18, kind19}
 use Rattle.path.specs.Read.{nameFault, fits, componentCount, suits, allFrom, suitsKind, numeralFaults, pairFaults, partFaults, faultsFrom, kindFaults, faultsAs, whyNot}
 use Rattle.parse.specs.CountLaws.{keep, few}
-use Rattle.parse.specs.Fault.{shownFirst, someSuits}
+use Rattle.parse.specs.Fault.{shownFirst, orFault, someSuits}
 use Rattle.parse.specs.Pieces.{consensusParts, packetParts, firstDash}
 use Rattle.parse.specs.PairLaws.{cut-here, cut-there, dash-within}
 
@@ -213,18 +213,12 @@ module _ (s : List ℕ) (at : ℕ) (n x : Numeral) (e : n ≡ numeralOf s) (k : 
   fault-room h = let p : numeralPlace x ≤ length s = rw (← k, e) (number-place s) in omega arith
 
 -- ---- R-h, whose first dash stands at d
--- a number text has at most one fault, which is no NotAPath
-faults-none : (at : ℕ) (x : Numeral) (gs : List Refusal) → NotAPath ≡ shownFirst (numeralFaults at x) → shownFirst (numeralFaults at x ++ gs) ≡ shownFirst gs
-faults-none at (Value v) gs h = refl
-faults-none at (NoDigits i) gs h = let z : _≡_ {A = ℕ} 0 1 = cc in absurd (omega arith)
-faults-none at (NotADigit i) gs h = let z : _≡_ {A = ℕ} 0 1 = cc in absurd (omega arith)
-faults-none at (TooLarge i) gs h = let z : _≡_ {A = ℕ} 0 1 = cc in absurd (omega arith)
-
-faults-some : (at : ℕ) (x : Numeral) (gs : List Refusal) → (shownFirst (numeralFaults at x) ≡ NotAPath → ⊥) → shownFirst (numeralFaults at x ++ gs) ≡ shownFirst (numeralFaults at x)
-faults-some at (Value v) gs h = absurd (h refl)
-faults-some at (NoDigits i) gs h = refl
-faults-some at (NotADigit i) gs h = refl
-faults-some at (TooLarge i) gs h = refl
+-- a number text has at most one fault
+faults-or : (at : ℕ) (x : Numeral) (gs : List Refusal) → shownFirst (numeralFaults at x ++ gs) ≡ orFault (shownFirst (numeralFaults at x)) (shownFirst gs)
+faults-or at (Value v) gs = refl
+faults-or at (NoDigits i) gs = refl
+faults-or at (NotADigit i) gs = refl
+faults-or at (TooLarge i) gs = refl
 
 three : (at : ℕ) (r h s : List ℕ) → pairFaults at (r ∷ (h ∷ cutAt 45 s)) ≡ []
 unfolding cutAt
@@ -273,12 +267,7 @@ module _ (s : List ℕ) (at d : ℕ) (e : d ≡ firstDash s) where
       unfolding partFaults
       both = let z : at + length (take d s) + 1 ≡ at + (d + 1) = omega (arith, first-length) in rw (cut-two, z)
 
-      module _ (x : Refusal) (i : x ≡ shownFirst (numeralFaults at (numeralOf (take (d - 0) s)))) where
-        first : x ≡ shownFirst (numeralFaults at (numeralOf (take d s)))
-        first = i ∙ rw sub-zero
-
-        pub pair-first : (x ≡ NotAPath → ⊥) → x ≡ shownFirst (partFaults pair at s)
-        pair-first n = first ∙ sym (rw both (faults-some at (numeralOf (take d s)) _ (λ m. n (first ∙ m))))
-
-        pub pair-second : (y : Refusal) → x ≡ NotAPath → y ≡ shownFirst (numeralFaults (at + (d + 1)) (numeralOf b)) → y ≡ shownFirst (partFaults pair at s)
-        pair-second y n j = j ∙ sym (rw both (faults-none at (numeralOf (take d s)) _ (sym n ∙ first)))
+      pub pair-both : (x y : Refusal) → x ≡ shownFirst (numeralFaults at (numeralOf (take (d - 0) s))) → y ≡ shownFirst (numeralFaults (at + (d + 1)) (numeralOf b)) → orFault x y ≡ shownFirst (partFaults pair at s)
+      pair-both x y i j =
+          let k : x ≡ shownFirst (numeralFaults at (numeralOf (take d s))) = i ∙ rw sub-zero in
+          rw (k, j) (sym (rw both (faults-or at (numeralOf (take d s)) (numeralFaults (at + (d + 1)) (numeralOf b)))))

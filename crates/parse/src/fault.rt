@@ -22,7 +22,7 @@ ghost use Rattle.path.specs.Kinds.{count, pair, kind5, kind6, kind7, kind15, ki
 ghost use Rattle.path.specs.Read.{allFrom, suits, numeralFaults, partFaults, whyNot};
 ghost use Rattle.path.specs.Text.{component, placeAt};
 ghost use Rattle.parse.specs.Pieces.{consensusParts, packetParts};
-ghost use Rattle.parse.specs.Fault.{shownFirst, someSuits};
+ghost use Rattle.parse.specs.Fault.{shownFirst, orFault, someSuits};
 
 // What is wrong with the number text s, whose first byte stands at `at`.
 fn fault_at(s: &[u8], at: usize) -> Refusal
@@ -35,6 +35,16 @@ fn fault_at(s: &[u8], at: usize) -> Refusal
         Numeral::NotADigit(i) => Refusal::NotADigit(at + i),
         Numeral::TooLarge(i) => Refusal::TooLarge(at + i),
     }
+}
+
+// The first of two faults.
+fn or_fault(first: Refusal, second: Refusal) -> Refusal
+    ensures { λ r. ⌜ r ≡ orFault first second ⌝ }
+{
+    let Refusal::NotAPath = first else {
+        return first;
+    };
+    second
 }
 
 // The same of R-h: nothing where it has not exactly one dash.
@@ -52,10 +62,7 @@ fn pair_fault_at(s: &[u8], at: usize) -> Refusal
         return Refusal::NotAPath;
     }
     let number = fault_at(&s[0..dash], at);
-    let Refusal::NotAPath = number else {
-        return number;
-    };
-    fault_at(height, at + after)
+    or_fault(number, fault_at(height, at + after))
 }
 
 // What is wrong with S or n at component k.

@@ -3,9 +3,9 @@
 use Prim.Native.Nat.{_-_}
 use native.Mathlib.Omega.{arith}
 use Rattle.text.specs.PartLaws.{part-rest}
-use Rattle.parse.proofs.Steps.{some-fault}
+use mathlib.Core.Path.{_∙_}
 use Rattle.parse.specs.PairLaws.{dash-inside}
-use Rattle.parse.specs.FaultLaws.{first-room, second-room, pair-undashed, pair-redashed, pair-first, pair-second}
+use Rattle.parse.specs.FaultLaws.{first-room, second-room, pair-undashed, pair-redashed, pair-both}
 use borrow.Author.Needs.{needs}
 use Rattle.parse.proofs.fault.pair_fault_at.Statement.{statement}
 use Rattle.parse.proofs.fault.pair_fault_at.Tie as tie
@@ -22,18 +22,11 @@ returns-2 c =
 
 returns-3 : tie.Need-returns-3
 returns-3 c =
-    let b = c .before .before .before in
-    let a = b .before .before .before in
-    let s = a .before .before .before .args in
-    pair-first (s .s .now) (s .at) _ (a .before .first-dash .ensures) (a .if1 .left) _ (part-rest _ (s .s .now)) _ (b .before .first-dash2 .ensures) (b .if2 .left) _ (c .before .fault-at .ensures) (some-fault (c .before .fault-at .result) (c .match .keys2))
-
-returns-4 : tie.Need-returns-4
-returns-4 c =
-    let d = c .before .before .before in
+    let d = c .before .before in
     let b = d .before .before in
     let a = b .before .before .before in
     let s = a .before .before .before .args in
-    pair-second (s .s .now) (s .at) _ (a .before .first-dash .ensures) (a .if1 .left) _ (part-rest _ (s .s .now)) _ (b .before .first-dash2 .ensures) (b .if2 .left) _ (d .fault-at .ensures) _ (c .before .enum-told .given .1) (c .fault-at2 .ensures)
+    c .or-fault .ensures ∙ pair-both (s .s .now) (s .at) _ (a .before .first-dash .ensures) (a .if1 .left) _ (part-rest _ (s .s .now)) _ (b .before .first-dash2 .ensures) (b .if2 .left) _ _ (d .fault-at .ensures) (c .before .fault-at2 .ensures)
 
 pub pair-fault-at-spec : {M : Type 1} → statement M
 pair-fault-at-spec =
@@ -51,8 +44,7 @@ pair-fault-at-spec =
     (λ c. search needs)
     (λ c. omega (arith, dash-inside _ _ (c .before .before .before .before .first-dash .ensures) (c .before .before .before .if1 .left)))
     (λ c κs. let s = c .before .before .before .before .before .before .before in first-room (s .args .s .now) (s .args .at) (c .before .before .before .before .before .first-dash .result - 0) (s .pre))
-    (λ c. search needs)
-    returns-3
-    (λ c. let b = c .before .before .before .before .before .before .before in omega (arith, dash-inside _ _ (b .before .first-dash .ensures) (b .if1 .left)))
-    (λ c κs. let b = c .before .before .before .before .before .before .before in let s = b .before .before .before in second-room (s .args .s .now) (s .args .at) (b .before .first-dash .result) (s .pre) (dash-inside _ _ (b .before .first-dash .ensures) (b .if1 .left)))
-    returns-4)
+    (λ c. let b = c .before .before .before .before .before in omega (arith, dash-inside _ _ (b .before .first-dash .ensures) (b .if1 .left)))
+    (λ c κs. let b = c .before .before .before .before .before in let s = b .before .before .before in second-room (s .args .s .now) (s .args .at) (b .before .first-dash .result) (s .pre) (dash-inside _ _ (b .before .first-dash .ensures) (b .if1 .left)))
+    (λ c κs. search needs)
+    returns-3)

@@ -1,0 +1,98 @@
+-- Request L3: what the four calls that answer a place say by it. `hp_read` tells exactly when the number alone is wrong (`when-read` in
+-- Demand2); here is that at most one kind is meant, and what the place of 17, 18 and 19 tells whoever mends the text.
+-- Assumes nothing.
+use Prim.Native.Nat.{ℕ, _+_, _-_, _≤_}
+use mathlib.Core.Path.{_≡_, refl, sym, ap, subst, _∙_}
+use mathlib.Core.Bool.{true, false}
+use mathlib.Core.List.{List}
+use native.Mathlib.Omega.{arith}
+use lib.ListN.{length, drop, length-take}
+use denote.Ref.{now}
+use Rattle.text.specs.declared.Fault.{Fault}
+use Rattle.text.specs.Bytes.{bytes}
+use Rattle.text.specs.Fault.{fault, hasPlace, Mends}
+use Rattle.identifiers.specs.Check.{namedOf, namedIndexOf, checkOf, connection, channel, indexPlace, namedIndexFault, faultOf}
+use Rattle.identifiers.specs.FaultLaws.{index-mends, check-last-of, named-index-last-of}
+use Rattle.path.specs.declared.Place.{Place}
+use Rattle.path.specs.declared.Refusal.{Refusal}
+use Rattle.path.specs.Text.{partOf}
+use Rattle.path.specs.Number.{Marks}
+use Rattle.path.specs.NumberLaws.{wrong-marks}
+use Rattle.path.specs.Read.{suitsKind}
+use Rattle.path.specs.Read as paths
+use Rattle.path.specs.Reads.{kindAt}
+use Rattle.path.specs.ReadLaws.{suits-one}
+use Rattle.demands.specs.PathCalls.{ReadCall}
+use Rattle.demands.specs.Demand2.{when-read}
+use Rattle.hostpath.proofs.hp_validate_named_u64_index.Reads as hp-validate-named-u64-index
+use Rattle.hostpath.proofs.hp_validate_connection_identifier.Reads as hp-validate-connection-identifier
+use Rattle.hostpath.proofs.hp_validate_channel_identifier.Reads as hp-validate-channel-identifier
+
+-- ---- reading
+-- at most one kind fits but for its numbers
+pub one-kind : (t : List ℕ) (j k : ℕ) → 1 ≤ j → j ≤ 19 → 1 ≤ k → k ≤ 19 → suitsKind (kindAt j) t ≡ true → suitsKind (kindAt k) t ≡ true → j ≡ k
+one-kind = suits-one
+
+part-length : (t : List ℕ) (p : Place) → length (partOf t p) ≤ p .len
+part-length t p = rw length-take (omega arith)
+
+module _ (t out : List ℕ) (w : Refusal) (out₁ : List ℕ) (call : ReadCall t out (paths.faultOf w) out₁) (placed : hasPlace (paths.refusalOf w) ≡ true) where
+  -- what the place tells: it lies in a number text or at its end, and says what to mend there
+  pub read-marks : Marks t w
+  read-marks = wrong-marks t w (when-read t out (paths.faultOf w) out₁ call .bad-number w placed .0 refl .2)
+
+  -- so it lies in the text or at its end
+  pub read-inside : paths.placeOf w ≤ length t
+  read-inside = let m = read-marks in omega (arith, m .inside, m .from, m .mends .inside, part-length t (m .number))
+
+-- ---- the checks of a name and an index
+-- what the place tells of the index behind the name and its dash
+pub record IndexMarks (name s : List ℕ) (f : Fault) : Type 0 where
+  pub from : length name + 1 ≤ f .place
+  pub mends : Mends (drop (length name + 1) s) (f .refusal) (f .place - (length name + 1))
+
+marks-by : (name s : List ℕ) (n : ℕ) → hasPlace n ≡ true → n ≡ namedOf name s → IndexMarks name s (fault n (indexPlace name s))
+marks-by name s n h e = let x = index-mends name s n h e in record { from = x .0; mends = x .1 }
+
+-- an answer, and what holds of it, by the answer that the contract names
+module _ (f g : Fault) (e : f ≡ g) where
+  same-placed : hasPlace (f .refusal) ≡ true → hasPlace (g .refusal) ≡ true
+  same-placed h = subst (λ (x : Fault). hasPlace (x .refusal) ≡ true) e h
+
+placeless : (n p : ℕ) (f : Fault) → f ≡ fault n p → hasPlace (f .refusal) ≡ false → f .place ≡ 0
+placeless n p f e h =
+    let k : hasPlace n ≡ false = subst (λ (x : Fault). hasPlace (x .refusal) ≡ false) e h in
+    ap (λ (x : Fault). x .place) e ∙ rw k
+
+module _ (κs : _) (a : _) (r : Fault) (s : _) (p : hp-validate-named-u64-index.Post κs a r s) where
+  pub named-marks : hasPlace (r .refusal) ≡ true → IndexMarks (now (a .1 .0)) (now (a .0)) r
+  unfolding namedIndexFault
+  named-marks h =
+      let k = same-placed r _ p h in
+      subst (IndexMarks (now (a .1 .0)) (now (a .0))) (sym p) (marks-by (now (a .1 .0)) (now (a .0)) (namedIndexOf (now (a .0)) (now (a .1 .0))) k (named-index-last-of (now (a .1 .0)) (now (a .0)) k))
+
+  pub named-placeless : hasPlace (r .refusal) ≡ false → r .place ≡ 0
+  unfolding namedIndexFault
+  named-placeless h = placeless (namedIndexOf (now (a .0)) (now (a .1 .0))) (indexPlace (now (a .1 .0)) (now (a .0))) r p h
+
+module _ (κs : _) (a : _) (r : Fault) (s : _) (p : hp-validate-connection-identifier.Post κs a r s) where
+  pub connection-marks : hasPlace (r .refusal) ≡ true → IndexMarks (bytes "connection") (now (a .0)) r
+  unfolding faultOf
+  connection-marks h =
+      let k = same-placed r _ p h in
+      subst (IndexMarks (bytes "connection") (now (a .0))) (sym p) (marks-by (bytes "connection") (now (a .0)) (checkOf connection (now (a .0))) k (check-last-of (bytes "connection") (now (a .0)) 10 64 k))
+
+  pub connection-placeless : hasPlace (r .refusal) ≡ false → r .place ≡ 0
+  unfolding faultOf
+  connection-placeless h = placeless (checkOf connection (now (a .0))) (indexPlace (bytes "connection") (now (a .0))) r p h
+
+module _ (κs : _) (a : _) (r : Fault) (s : _) (p : hp-validate-channel-identifier.Post κs a r s) where
+  pub channel-marks : hasPlace (r .refusal) ≡ true → IndexMarks (bytes "channel") (now (a .0)) r
+  unfolding faultOf
+  channel-marks h =
+      let k = same-placed r _ p h in
+      subst (IndexMarks (bytes "channel") (now (a .0))) (sym p) (marks-by (bytes "channel") (now (a .0)) (checkOf channel (now (a .0))) k (check-last-of (bytes "channel") (now (a .0)) 8 64 k))
+
+  pub channel-placeless : hasPlace (r .refusal) ≡ false → r .place ≡ 0
+  unfolding faultOf
+  channel-placeless h = placeless (checkOf channel (now (a .0))) (indexPlace (bytes "channel") (now (a .0))) r p h
