@@ -10,9 +10,10 @@ use denote.Ref.{now}
 use Rattle.text.specs.Bytes.{bytes}
 use Rattle.text.specs.Put.{text}
 use Rattle.text.specs.declared.Fault.{Fault}
+use Rattle.identifiers.specs.Check.{namedIndexFault, faultOf}
 use Rattle.identifiers.specs.Owned.{newClient, newChannel}
 use Rattle.path.specs.Kinds.{word, carried}
-use Rattle.path.specs.Read.{renderOf, keyOf, readingBytes}
+use Rattle.path.specs.Read.{renderOf, keyOf, readingBytes, readFault}
 use Rattle.path.specs.Parents.{textOf, consensusParent, consensusLeaf, packetsPath}
 use Rattle.keys.specs.Calls.{write, remove}
 use Rattle.iteration.specs.Block.{blockOf, firstAbove, lastBelow, scanned}
@@ -151,6 +152,7 @@ pub hp-receipt-prefix-holds : Demand1 hp-receipt-prefix.Pre hp-receipt-prefix.Po
 hp-receipt-prefix-holds = writes room _ _ (λ κs a. tt) (λ κs r. r) (λ κs a. text (bytes "receipts")) refl refl (λ κs a. tt) (λ κs a r s p. p)
 
 pub hp-read-holds : Demand1 hp-read.Pre hp-read.Post readings (λ κs r. r .refusal) (λ κs r. []) (λ κs a. now (a .1 .0)) (λ κs s. now (s .1 .0))
+unfolding readFault
 hp-read-holds = writes-number readings _ _ (λ κs a. tt) (λ κs r. r .refusal) (λ κs a. readingBytes (now (a .0))) refl refl (λ κs a. reading-wants _) (λ κs a r s p. (ap (λ (f : Fault). f .refusal) (p .0), p .1))
 
 -- ---- calls that are lent nothing to write
@@ -164,6 +166,7 @@ pub hp-validate-prefix-length-holds : Demand1 hp-validate-prefix-length.Pre hp-v
 hp-validate-prefix-length-holds = checks (2 ∷ 6 ∷ []) (λ κs a. tt) (λ κs r. r) (λ κs a r s p. subst (Listed (2 ∷ 6 ∷ [])) (sym p) (prefix-number (Listed (2 ∷ 6 ∷ [])) refl refl refl _ _ _))
 
 pub hp-validate-named-u64-index-holds : Demand1 hp-validate-named-u64-index.Pre hp-validate-named-u64-index.Post named (λ κs r. r .refusal) (λ κs r. []) (λ κs a. []) (λ κs s. [])
+unfolding namedIndexFault
 hp-validate-named-u64-index-holds = checks named (λ κs a. tt) (λ κs r. r .refusal) (λ κs a r s p. subst (Listed named) (sym (ap (λ (f : Fault). f .refusal) p)) (named-index-number (Listed named) refl refl refl refl refl refl _ _))
 
 pub hp-validate-client-type-holds : Demand1 hp-validate-client-type.Pre hp-validate-client-type.Post (2 ∷ 5 ∷ 6 ∷ []) (λ κs r. r) (λ κs r. []) (λ κs a. []) (λ κs s. [])
@@ -173,12 +176,14 @@ pub hp-validate-client-identifier-holds : Demand1 hp-validate-client-identifier.
 hp-validate-client-identifier-holds = checks (2 ∷ 5 ∷ 6 ∷ []) (λ κs a. tt) (λ κs r. r) (λ κs a r s p. subst (Listed (2 ∷ 5 ∷ 6 ∷ [])) (sym p) (plain-of (Listed (2 ∷ 5 ∷ 6 ∷ [])) refl refl refl refl 9 64 _))
 
 pub hp-validate-connection-identifier-holds : Demand1 hp-validate-connection-identifier.Pre hp-validate-connection-identifier.Post indexes (λ κs r. r .refusal) (λ κs r. []) (λ κs a. []) (λ κs s. [])
+unfolding faultOf
 hp-validate-connection-identifier-holds = checks indexes (λ κs a. tt) (λ κs r. r .refusal) (λ κs a r s p. subst (Listed indexes) (sym (ap (λ (f : Fault). f .refusal) p)) (indexed-of (Listed indexes) refl refl refl refl refl refl refl refl 10 64 _ _))
 
 pub hp-validate-port-identifier-holds : Demand1 hp-validate-port-identifier.Pre hp-validate-port-identifier.Post (2 ∷ 5 ∷ 6 ∷ []) (λ κs r. r) (λ κs r. []) (λ κs a. []) (λ κs s. [])
 hp-validate-port-identifier-holds = checks (2 ∷ 5 ∷ 6 ∷ []) (λ κs a. tt) (λ κs r. r) (λ κs a r s p. subst (Listed (2 ∷ 5 ∷ 6 ∷ [])) (sym p) (plain-of (Listed (2 ∷ 5 ∷ 6 ∷ [])) refl refl refl refl 2 128 _))
 
 pub hp-validate-channel-identifier-holds : Demand1 hp-validate-channel-identifier.Pre hp-validate-channel-identifier.Post indexes (λ κs r. r .refusal) (λ κs r. []) (λ κs a. []) (λ κs s. [])
+unfolding faultOf
 hp-validate-channel-identifier-holds = checks indexes (λ κs a. tt) (λ κs r. r .refusal) (λ κs a r s p. subst (Listed indexes) (sym (ap (λ (f : Fault). f .refusal) p)) (indexed-of (Listed indexes) refl refl refl refl refl refl refl refl 8 64 _ _))
 
 pub hp-is-provable-holds : Demand1 hp-is-provable.Pre hp-is-provable.Post (14 ∷ []) (λ κs r. r .refusal) (λ κs r. r .value ∷ []) (λ κs a. []) (λ κs s. [])
@@ -218,6 +223,7 @@ pub write-key-holds : Demand1 write-key.Pre write-key.Post readings (λ κs r. r
 write-key-holds = writes readings _ _ (λ κs a. tt) (λ κs r. r) (λ κs a. keyOf (now (a .0))) refl refl (λ κs a. key-wants _) (λ κs a r s p. p)
 
 pub write-reading-holds : Demand1 write-reading.Pre write-reading.Post readings (λ κs r. r .refusal) (λ κs r. []) (λ κs a. now (a .1 .0)) (λ κs s. now (s .1 .0))
+unfolding readFault
 write-reading-holds = writes-number readings _ _ (λ κs a. tt) (λ κs r. r .refusal) (λ κs a. readingBytes (now (a .0))) refl refl (λ κs a. reading-wants _) (λ κs a r s p. (ap (λ (f : Fault). f .refusal) (p .0), p .1))
 
 pub iteration-key-holds : Demand1 iteration-key.Pre iteration-key.Post room (λ κs r. r .refusal) (λ κs r. r .length ∷ []) (λ κs a. now (a .1 .1 .0)) (λ κs s. now (s .1 .1 .0))

@@ -13,7 +13,7 @@ use Rattle.text.specs.declared.Written.{Written}
 use Rattle.text.specs.Order.{then, cmp}
 use Rattle.text.specs.Part.{ascii}
 use Rattle.text.specs.Put.{text, done, answer, left}
-use Rattle.identifiers.specs.Check.{checkOf, client, clientType, connection, port, channel, first, charsOf, prefixLengthOf, generalOf}
+use Rattle.identifiers.specs.Check.{checkOf, faultOf, client, clientType, connection, port, channel, first, charsOf, prefixLengthOf, generalOf}
 use Rattle.path.specs.declared.Path.{Path}
 use Rattle.path.specs.declared.PathAnswer.the-variants.{Found}
 use Rattle.path.specs.declared.Reading.the-variants.{Read}
@@ -139,12 +139,14 @@ pub client-checks : (κs : _) (a : _) (r : _) (s : _) → hp-validate-client-ide
 client-checks κs a r s p = p ∙ laws.client-general (now (a .0))
 
 pub connection-checks : (κs : _) (a : _) (r : _) (s : _) → hp-validate-connection-identifier.Post κs a r s → r .refusal ≡ generalOf connection (now (a .0))
+unfolding faultOf
 connection-checks κs a r s p = ap (λ (f : Fault). f .refusal) p ∙ laws.connection-general (now (a .0))
 
 pub port-checks : (κs : _) (a : _) (r : _) (s : _) → hp-validate-port-identifier.Post κs a r s → r ≡ generalOf port (now (a .0))
 port-checks κs a r s p = p ∙ laws.port-general (now (a .0))
 
 pub channel-checks : (κs : _) (a : _) (r : _) (s : _) → hp-validate-channel-identifier.Post κs a r s → r .refusal ≡ generalOf channel (now (a .0))
+unfolding faultOf
 channel-checks κs a r s p = ap (λ (f : Fault). f .refusal) p ∙ laws.channel-general (now (a .0))
 
 pub client-type-checks : (κs : _) (a : _) (r : _) (s : _) → hp-validate-client-type.Post κs a r s → r ≡ first (charsOf (now (a .0))) (prefixLengthOf (now (a .0)) 9 64)

@@ -154,7 +154,7 @@ not-read : (t : List ℕ) (w : Refusal) → readPath t ≡ Refused w → IsRead 
 not-read t w h x = let q = x .2 in let z : _≡_ {A = ℕ} 0 1 = cc in omega (arith, z)
 
 -- a refusal with a place is told by its fault
-asRefusal : Fault → Refusal
+abbrev asRefusal : Fault → Refusal
 asRefusal f = cond (eqb (f .refusal) 17) (WithoutDigits (f .place)) (cond (eqb (f .refusal) 18) (WithoutDigit (f .place)) (AboveAll (f .place)))
 
 back-fault : (w : Refusal) → hasPlace (refusalOf w) ≡ true → asRefusal (faultOf w) ≡ w
