@@ -1,10 +1,9 @@
 //! The section 'Texts on both sides of the line' of document 01 with the outcomes that it writes, and
 //! request L3's, which are some of them anew.
 use crate::identifier::Identifier;
-use crate::path::{Place, Reading, MOST};
+use crate::path::{Place, Reading};
 use crate::pool::filled;
-use crate::{Fault, BAD_LENGTH, BAD_PREFIX, NOT_ASCII, NOT_A_DIGIT, NOT_A_PATH, NO_DIGITS};
-use crate::{TOO_LARGE, TOO_LONG};
+use crate::{Fault, BAD_LENGTH, BAD_PREFIX, NOT_A_DIGIT, NOT_A_PATH, NO_DIGITS, TOO_LARGE};
 
 /// The texts to be read as a path.
 pub fn paths() -> Vec<(String, Result<Reading, Fault>)> {
@@ -40,7 +39,6 @@ pub fn paths() -> Vec<(String, Result<Reading, Fault>)> {
 fn bad_numbers() -> Vec<(String, Fault)> {
     let at = |refusal, place| Fault { refusal, place };
     let state = |heights: &str| format!("clients/07-tendermint-4/consensusStates/{heights}");
-    let rest = "/x/upgradedClient";
     vec![
         ("x/18446744073709551616/upgradedClient".into(), at(TOO_LARGE, 21)),
         ("/+/upgradedClient".into(), at(NO_DIGITS, 2)),
@@ -65,9 +63,6 @@ fn bad_numbers() -> Vec<(String, Fault)> {
         ("receipts/ports/a/channels/channel-1/sequences/1x".into(), NOT_A_PATH.into()),
         ("connections/connection-x".into(), NOT_A_PATH.into()), // an index
         ("channelEnds/ports/ab/channels/channel-".into(), NOT_A_PATH.into()),
-        (filled("", 'u', MOST - rest.len()) + rest, at(NOT_A_DIGIT, MOST - rest.len() + 1)),
-        (filled("", 'u', MOST + 1 - rest.len()) + rest, TOO_LONG.into()),
-        ("\u{e9}/x/upgradedClient".into(), NOT_ASCII.into()),
     ]
 }
 

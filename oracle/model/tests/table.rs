@@ -49,6 +49,16 @@ fn identifiers() {
     }
 }
 
+/// 1 and 2 come before the fault of a number.
+#[test]
+fn length_and_ascii_come_first() {
+    let text = |length: usize| pool::filled("", 'u', length) + "/x/upgradedClient";
+    let read = |text: String| path::read(text.as_bytes()).map_err(|fault| fault.to_string());
+    assert_eq!(read(text(4096 - 17)), Err("18 at 4080".into()));
+    assert_eq!(read(text(4096 - 16)), Err("1".into()));
+    assert_eq!(read("\u{e9}/x/upgradedClient".into()), Err("2".into()));
+}
+
 /// What stands before a fault begins some number text. Without digits it is the whole text; else no
 /// number text goes on with the byte at the fault.
 #[test]
