@@ -56,7 +56,7 @@ fn ask(set: &mut Set, text: &[u8]) {
         (reading.exact, shown)
     });
     if ours != theirs {
-        set.differ(|| format!("\"{}\": Rust {theirs:?}, here {ours:?}", text.escape_ascii()));
+        set.differ(|| format!("\"{}\": expected {theirs:?}, here {ours:?}", text.escape_ascii()));
     }
 }
 
