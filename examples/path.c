@@ -1,5 +1,6 @@
 /* A customer asked for clients/07-tendermint-4/consensusStates/007-2. The store has no such key: the text is a loose
- * spelling of another one. This program reads the text, asks for its key, and keeps a record under it. */
+ * spelling of another one. This program reads the text, asks for its key, and keeps a record under it; and it is told
+ * what is wrong with another text. */
 #include <inttypes.h>
 #include <stdio.h>
 #include <string.h>
@@ -29,9 +30,9 @@ static int refused(const char *call, uint8_t refusal) {
 static int read_it(void) {
     uint8_t reading[HP_READING];
     uint8_t key[HP_PATH_MOST];
-    uint8_t refusal = hp_read(TEXT(text), reading, sizeof reading);
-    if (refusal != HP_DONE || reading[0] != HP_CLIENT_CONSENSUS_STATE) {
-        return refused("read", refusal);
+    struct hp_fault fault = hp_read(TEXT(text), reading, sizeof reading);
+    if (fault.refusal != HP_DONE || reading[0] != HP_CLIENT_CONSENSUS_STATE) {
+        return refused("read", fault.refusal);
     }
     const char *client = text + number(reading + 2, 2);
     int length = (int)number(reading + 4, 2);
@@ -53,6 +54,18 @@ static int read_it(void) {
         return refused("render", written.refusal);
     }
     printf("beside it %.*s\n", (int)written.length, (const char *)key);
+    return 0;
+}
+
+/* Where a number alone is wrong, the place says which byte to mend. */
+static int mend_it(void) {
+    static const char wrong[] = "clients/07-tendermint-4/consensusStates/7-x";
+    uint8_t reading[HP_READING];
+    struct hp_fault fault = hp_read(TEXT(wrong), reading, sizeof reading);
+    if (fault.refusal != HP_NOT_A_DIGIT) {
+        return refused("read", fault.refusal);
+    }
+    printf("refused   %s: '%c' at byte %" PRIu64 " is no digit\n", wrong, wrong[fault.place], fault.place);
     return 0;
 }
 
@@ -91,5 +104,5 @@ static int keep_it(void) {
 }
 
 int main(void) {
-    return read_it() || keep_it();
+    return read_it() || mend_it() || keep_it();
 }

@@ -120,7 +120,9 @@ enum hp_refusal {
     /* Above, made by bin/interface. */
 };
 
-/* What calls answer: a refusal, or HP_DONE, and what they give, which is 0 where they refuse. */
+/* What calls answer: a refusal, or HP_DONE, and what they give, which is 0 where they refuse. A place is told where they
+ * refuse, of HP_NO_DIGITS, HP_NOT_A_DIGIT and HP_TOO_LARGE alone: the byte, counted from 0, where the number's fault
+ * stands. In every other answer it is 0. */
 /* Below, made by bin/interface: answers in c. */
 struct hp_fault { uint8_t refusal; uint64_t place; };
 struct hp_written { uint8_t refusal; uint64_t length; };

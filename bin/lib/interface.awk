@@ -150,14 +150,19 @@ function of_refusal(what, k) {
 function of_answer(what, s,    i, all) {
     for (i = 1; i <= fields[s]; i++) {
         if (what == "answers in c") all = all " " c_type(width[s, i]) " " field[s, i] ";"
-        else all = all "\n    /// " (i == 1 ? "A refusal's number, or 0." : "0 where the call is refused.") \
-            "\n    pub " field[s, i] ": " width[s, i] ","
+        else all = all "\n    /// " field_comment(field[s, i]) "\n    pub " field[s, i] ": " width[s, i] ","
     }
     if (what == "answers in c") say(c_type(s) " {" all " };")
     else if (what == "answers") {
         say("\n/// What a call answers.\n#[repr(C)]\n#[derive(Clone, Copy, Debug, PartialEq, Eq)]\n#[must_use]")
         say("pub struct " s " {" all "\n}")
     } else fault("nothing is made for " what)
+}
+
+function field_comment(field) {
+    if (field == "refusal") return "A refusal's number, or 0."
+    if (field == "place") return "The byte, counted from 0, where the fault of a number stands: of 17, 18 and 19 alone, else 0."
+    return "0 where the call is refused."
 }
 
 function of_call(what, n) {

@@ -1,5 +1,5 @@
 //! What `askpath` prints for a line, by the original. Refusals 1 and 2 are the port's own, given by
-//! document 01; all else is the original's answer.
+//! document 01; all else is the original's answer, so 17, 18 and 19, which it does not know, are 3.
 pub mod sample;
 
 use std::fmt::Write;

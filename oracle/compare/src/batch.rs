@@ -1,7 +1,8 @@
 //! Calls that wait to be answered together, and what document 01 expects of each.
 use std::fmt::{self, Display, Formatter};
 
-use hostpath::raw::{Flag, Pair, Written};
+use hostpath::raw::{self, Flag, Pair, Written};
+use model::Fault;
 
 use crate::call::{Call, Function};
 
@@ -12,7 +13,8 @@ pub const GUARD: usize = 8;
 /// What stands in a reply before the lent buffers: the refusal and two numbers.
 pub const HEAD: usize = 17;
 
-/// What a call returns: refusal, and a length or value, or a pair of numbers.
+/// What a call returns: refusal, and a length or value, or a pair of numbers; the place of a fault is the
+/// second.
 #[derive(Clone, Copy, Default)]
 pub struct Returned {
     pub refusal: u8,
@@ -24,6 +26,10 @@ impl Returned {
         Self { refusal, numbers: [number, 0] }
     }
 
+    pub fn refused(Fault { refusal, place }: Fault) -> Self {
+        Self { refusal, numbers: [0, place as u64] }
+    }
+
     pub fn bytes(self) -> impl Iterator<Item = u8> {
         [self.refusal].into_iter().chain(self.numbers.into_iter().flat_map(u64::to_le_bytes))
     }
@@ -32,6 +38,12 @@ impl Returned {
 impl From<u8> for Returned {
     fn from(refusal: u8) -> Self {
         Self::new(refusal, 0)
+    }
+}
+
+impl From<raw::Fault> for Returned {
+    fn from(answer: raw::Fault) -> Self {
+        Self { refusal: answer.refusal, numbers: [0, answer.place] }
     }
 }
 

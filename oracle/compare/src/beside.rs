@@ -5,7 +5,7 @@ use std::fmt::{self, Display, Formatter};
 use std::io::{self, BufRead, Read, Write};
 
 use model::path::{shape, Part};
-use model::TOO_LONG;
+use model::{Fault, TOO_LONG};
 
 use crate::call::Function;
 use crate::original::PANICKED;
@@ -48,7 +48,7 @@ impl Counts {
         self.texts += 1;
         match ours {
             Ok(told) => self.kinds.entry(told.kind).or_default()[usize::from(!told.exact)] += 1,
-            Err(refusal) => *self.refusals.entry(*refusal).or_default() += 1,
+            Err(fault) => *self.refusals.entry(fault.refusal).or_default() += 1,
         }
     }
 }
@@ -90,6 +90,7 @@ impl<W: Write> Beside<'_, W> {
         let ours = (self.library)(text);
         let held = text.len() <= HELD;
         let theirs = if held { told::by_original(text) } else { Theirs::Silent(NOT_ASKED) };
+        let theirs = theirs.against(Function::Read, &ours);
         self.counts.add(&ours);
         let verdict = match standing(self.page, &theirs, &ours) {
             Standing::Same => return Ok(()),
@@ -128,7 +129,9 @@ fn standing<'p>(page: &'p Page, theirs: &Theirs<Answer>, ours: &Answer) -> Stand
             _ => return Standing::Same,
         },
         // whatever the original would say, the size limit comes first here
-        (Theirs::Silent(NOT_ASKED), Err(TOO_LONG)) => page.rows(function, Ok(0), TOO_LONG),
+        (Theirs::Silent(NOT_ASKED), Err(Fault { refusal: TOO_LONG, .. })) => {
+            page.rows(function, Ok(0), TOO_LONG)
+        }
         _ => page.covering(function, theirs, ours),
     };
     nearest(rows, kind).map_or(Standing::Unlisted, Standing::Listed)
@@ -144,8 +147,8 @@ fn nearest(rows: &[Row], kind: u8) -> Option<&Row> {
 fn shown(answer: &Answer, marked: bool) -> String {
     let Told { kind, exact, first, second, numbers: [a, b], key } = match answer {
         Ok(told) => told,
-        Err(PANICKED) => return "panics".into(),
-        Err(refusal) => return refusal.to_string(),
+        Err(Fault { refusal: PANICKED, .. }) => return "panics".into(),
+        Err(fault) => return fault.to_string(),
     };
     let mark = ["", ", loose", ", exact"][usize::from(marked) * (1 + usize::from(*exact))];
     let [first, second, key] = [first, second, key].map(|text| quoted(&text.0));
@@ -200,7 +203,7 @@ mod tests {
     fn a_difference_that_no_row_lists_is_told_and_counted() {
         let lies = |text: &[u8]| match told::by_library(text) {
             Ok(told) if told.kind == 10 => Ok(Told { numbers: [1, 0], ..told }),
-            Ok(told) if told.kind == 1 => Err(2),
+            Ok(told) if told.kind == 1 => Err(2.into()),
             answer => answer,
         };
         let (printed, counts) = run(b"ports/ab\nports/a\nnextClientSequence\n", b'\n', lies);

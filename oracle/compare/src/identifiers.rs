@@ -3,7 +3,7 @@ use model::identifier::{self, Identifier};
 use model::path::KINDS;
 use model::pool::{self, filled};
 use model::random::Random;
-use model::table;
+use model::{table, Fault};
 
 use crate::call::{Call, Function};
 use crate::original::says;
@@ -19,6 +19,7 @@ pub const SETS: Sets = &[
     ("identifiers of up to three bytes", three),
     ("indexes and names", indexes),
     ("indexes at the limit", limit),
+    ("faults of indexes", faults),
     ("long texts", long),
     ("damaged identifiers", damaged),
     ("trimming", trimming),
@@ -51,11 +52,11 @@ impl<'a> Check<'a> {
         }
     }
 
-    fn model(self, id: &[u8]) -> Result<(), u8> {
+    fn model(self, id: &[u8]) -> Result<(), Fault> {
         match self {
-            Self::Chars => identifier::chars(id),
-            Self::Length(least, most) => identifier::length(id, least, most),
-            Self::Prefix(least, most) => identifier::prefix_length(id, least, most),
+            Self::Chars => Ok(identifier::chars(id)?),
+            Self::Length(least, most) => Ok(identifier::length(id, least, most)?),
+            Self::Prefix(least, most) => Ok(identifier::prefix_length(id, least, most)?),
             Self::Named(name) => identifier::named_index(id, name),
             Self::Whole(identifier) => identifier.check(id),
         }
@@ -63,7 +64,7 @@ impl<'a> Check<'a> {
 
     fn ask(self, set: &mut Set, id: &'a [u8]) {
         let call = self.call(id);
-        set.number(call, says(&call), self.model(id));
+        set.refusal(call, says(&call), self.model(id));
     }
 }
 
@@ -155,7 +156,8 @@ fn client_id_call(client_type: &[u8], counter: u64) -> Call<'_> {
 
 fn client_id_new(set: &mut Set, client_type: &[u8], counter: u64) {
     let call = client_id_call(client_type, counter);
-    set.text(call, says(&call), &identifier::client_id_new(client_type, counter).map(Bytes));
+    let model = identifier::client_id_new(client_type, counter).map(Bytes).map_err(Fault::from);
+    set.text(call, says(&call), &model);
 }
 
 fn channel_id_call(counter: u64) -> Call<'static> {
@@ -172,7 +174,7 @@ fn table(set: &mut Set, _: Size) {
     for (identifier, id, outcome) in table::identifiers() {
         let check = Check::Whole(identifier);
         check.ask(set, id.as_bytes());
-        set.number(check.call(id.as_bytes()), Theirs::Silent("written"), outcome);
+        set.refusal(check.call(id.as_bytes()), Theirs::Silent("written"), outcome);
     }
 }
 
@@ -269,6 +271,20 @@ fn limit(set: &mut Set, size: Size) {
     }
 }
 
+/// Every fault of a number behind every name, with the rest right and with something wrong around it.
+fn faults(set: &mut Set, _: Size) {
+    let long = "0".repeat(64);
+    let around = [("", ""), ("x", ""), ("", " "), ("", "\u{e9}"), ("", "-"), ("", &long)];
+    for (name, number) in NAMES.iter().flat_map(|name| pool::FAULTS.map(|number| (*name, number))) {
+        for (before, behind) in around {
+            let [before, number, behind] = [before, number, behind].map(str::as_bytes);
+            let id = [before, name, b"-", number, behind].concat();
+            Check::Named(name).ask(set, &id);
+            index(set, &id);
+        }
+    }
+}
+
 /// No identifier check gives 1.
 fn long(set: &mut Set, _: Size) {
     for length in [4095, 4096, 4097, 65_535, 65_536, 70_000] {
@@ -352,7 +368,8 @@ fn counters(set: &mut Set, size: Size) {
 }
 
 fn every_room(set: &mut Set) {
-    let client = identifier::client_id_new(b"07-tendermint", u64::MAX).map(Bytes);
+    let client =
+        identifier::client_id_new(b"07-tendermint", u64::MAX).map(Bytes).map_err(Fault::from);
     set.lend(client_id_call(b"07-tendermint", u64::MAX), 0..80, &client);
     let channel = Ok(Bytes(identifier::channel_id_new(u64::MAX)));
     set.lend(channel_id_call(u64::MAX), 0..80, &channel);

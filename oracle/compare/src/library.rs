@@ -37,7 +37,7 @@ pub fn answer(call: &Call, book: &mut Vec<u8>, out: &mut [u8]) -> Returned {
     let end = book.len().saturating_sub(GUARD);
     let lent = book.get_mut(GUARD..end).unwrap_or_default();
     let mut returned = dispatch::make(call, lent, out);
-    // the call says only that it has written; how much is known
+    // the call says only that it has written, and no place; how much is known
     if call.function == Function::Read && returned.refusal == 0 {
         returned.numbers[0] = READING as u64;
     }

@@ -5,13 +5,24 @@ use ibc_core_host_types::path::{self as original, ChannelEndPath, ClientConsensu
 use ibc_core_host_types::terms::{self, Answer};
 use ibc_core_host_types::validate;
 use model::path::{self, Part, MOST};
-use model::{pool, NOT_A_PATH};
+use model::{pool, Fault, NOT_A_PATH};
 
 use crate::call::{Call, Function};
 use crate::set::{Bytes, Listed, Text, Theirs};
 
 /// No refusal: the original panicked.
 pub const PANICKED: u8 = 255;
+
+/// What it says of an index that is no number, `FailedToParse`: document 01's 8.
+const NO_INDEX: u8 = 8;
+
+/// What it says to a call where a number alone is wrong.
+pub fn untold(function: Function) -> u8 {
+    match function {
+        Function::Read | Function::Key => NOT_A_PATH,
+        _ => NO_INDEX,
+    }
+}
 
 /// The one text that the original panics on.
 const PANICS: &[u8] = b"clients";
@@ -29,7 +40,7 @@ pub fn says(call: &Call) -> Theirs<Text> {
         Function::IsProvable => provable(call.kind),
         _ => hear(call.texts, |texts| {
             let text = written(call, texts).or_else(|| checked(call, texts));
-            text.expect("a call").map(Bytes).map_err(|e| e.number())
+            text.expect("a call").map(Bytes).map_err(|e| e.number().into())
         }),
     }
 }
@@ -49,11 +60,11 @@ fn hear<T, const N: usize>(texts: [&[u8]; N], ask: impl FnOnce([&str; N]) -> T) 
 }
 
 /// What is told of the path that a text is read as and of its rendering.
-pub fn reads<T>(text: &[u8], tell: impl FnOnce(&Path, &str) -> T) -> Theirs<Result<T, u8>> {
+pub fn reads<T>(text: &[u8], tell: impl FnOnce(&Path, &str) -> T) -> Theirs<Result<T, Fault>> {
     let said = hear([text], |[text]| match terms::read(text) {
         Answer::Path(path) => Ok(tell(&path, &path.to_string())),
-        Answer::Refused => Err(NOT_A_PATH),
-        Answer::Panic => Err(PANICKED),
+        Answer::Refused => Err(NOT_A_PATH.into()),
+        Answer::Panic => Err(PANICKED.into()),
     });
     match said {
         Theirs::Says(said) | Theirs::Listed(_, said) if text.len() > MOST => {
@@ -77,7 +88,7 @@ fn renders(call: &Call) -> Theirs<Text> {
     let second = if has_second { second } else { b"" };
     let said = hear([first, second], |[first, second]| {
         let typed = terms::typed(kind, first, second, numbers).expect("a kind from 1 to 19");
-        typed.map(|path| Bytes(path.into_bytes())).map_err(|e| e.number())
+        typed.map(|path| Bytes(path.into_bytes())).map_err(|e| e.number().into())
     });
     match said {
         Theirs::Says(said) if upgrade && first.contains(&b'/') => {

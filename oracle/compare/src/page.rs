@@ -2,6 +2,8 @@
 //! library, and each has to answer what the row says. The page says how calls and answers are written.
 use std::collections::BTreeMap;
 
+use model::Fault;
+
 use crate::call::{Call, Function};
 use crate::library;
 use crate::original::{self, PANICKED};
@@ -117,7 +119,8 @@ impl Asked {
         let returned = library::answer(&self.call(), &mut book, &mut out);
         let length = if self.function.writes() { returned.numbers[0] as usize } else { 0 };
         let text = Bytes(out[..length].into());
-        self.shown(if returned.refusal == 0 { Ok(text) } else { Err(returned.refusal) })
+        let (refusal, place) = (returned.refusal, returned.numbers[1] as usize);
+        self.shown(if refusal == 0 { Ok(text) } else { Err(Fault { refusal, place }) })
     }
 
     fn rust(&self) -> String {
@@ -130,8 +133,8 @@ impl Asked {
     fn shown(&self, answer: Text) -> String {
         let text = match answer {
             Ok(Bytes(text)) => text,
-            Err(PANICKED) => return "panics".into(),
-            Err(refusal) => return refusal.to_string(),
+            Err(Fault { refusal: PANICKED, .. }) => return "panics".into(),
+            Err(fault) => return fault.to_string(),
         };
         match &text[..] {
             [kind] if self.function == Function::Read => format!("kind {kind}"),
@@ -191,7 +194,7 @@ impl Default for Page {
         let said = |cell: &'static str| match cell {
             "panics" => Ok(PANICKED),
             "no str" | "no kind" | "no book" | "no reader" => Err(cell),
-            cell => Ok(cell.parse().unwrap_or(0)),
+            cell => Ok(cell.split(" at ").next().and_then(|word| word.parse().ok()).unwrap_or(0)),
         };
         let mut page = Self(BTreeMap::new());
         for row in rows().into_iter().filter(|row| row.why.is_some()) {
@@ -214,10 +217,10 @@ impl Page {
     pub fn covering<T>(
         &self,
         function: Function,
-        theirs: &Theirs<Result<T, u8>>,
-        ours: &Result<T, u8>,
+        theirs: &Theirs<Result<T, Fault>>,
+        ours: &Result<T, Fault>,
     ) -> &[Row] {
-        let number = |answer: &Result<T, u8>| answer.as_ref().err().copied().unwrap_or(0);
+        let number = |answer: &Result<T, Fault>| answer.as_ref().err().map_or(0, |e| e.refusal);
         match theirs {
             Theirs::Says(_) => &[],
             Theirs::Listed(_, said) => self.rows(function, Ok(number(said)), number(ours)),

@@ -1,5 +1,5 @@
 //! Reading: `hp_read` and `hp_key` against `Path::from_str` and `Path`'s `Display`.
-use model::path::{self, KINDS};
+use model::path::{self, Part, KINDS};
 use model::pool::{self, Pools};
 use model::random::Random;
 use model::table;
@@ -18,6 +18,7 @@ pub const SETS: Sets = &[
     ("texts at each place", places),
     ("numbers in paths", numbers),
     ("numbers at the limit", limit),
+    ("faults of numbers in paths", faults),
     ("damaged paths", damaged),
     ("paths around 4,096 bytes", lengths),
     ("bytes of 128 and more", high),
@@ -32,7 +33,8 @@ fn key_call(text: &[u8]) -> Call<'_> {
 fn ask(set: &mut Set, text: &[u8]) {
     let model = path::read_with_key(text).map(|(reading, key)| (reading, Bytes(key)));
     let bytes = model.as_ref().map(|(reading, _)| Bytes(reading.bytes().to_vec())).map_err(|e| *e);
-    let key: Text = model.as_ref().map(|(_, key)| key.clone()).map_err(|e| *e);
+    // whoever asks for the key is not told the place
+    let key: Text = model.as_ref().map(|(_, key)| key.clone()).map_err(|e| e.refusal.into());
     set.count();
     set.lend_around(read_call(text), &bytes);
     set.lend_around(key_call(text), &key);
@@ -124,6 +126,42 @@ fn limit(set: &mut Set, size: Size) {
         for sign in ["", "+", "0", "+0000"] {
             at_each_number(set, &format!("{sign}{value}"));
         }
+    }
+}
+
+/// Every fault at each number of each kind, in one and in both of two, with the other parts right and
+/// with each of them wrong in turn.
+fn faults(set: &mut Set, size: Size) {
+    let numbers = size.pick(pool::FAULTS.map(String::from).into(), pool::numbers());
+    let pairs = numbers.iter().flat_map(|a| numbers.iter().map(move |b| format!("{a}-{b}")));
+    let heights: Vec<String> = pairs.collect();
+    for shape in KINDS {
+        let mut parts: Vec<&str> = shape.iter().map(|part| pool::good(part)[0]).collect();
+        for (place, part) in shape.iter().enumerate() {
+            let texts = match part {
+                Part::Number => &numbers,
+                Part::Heights => &heights,
+                _ => continue,
+            };
+            for text in texts {
+                parts[place] = text;
+                ask(set, parts.join("/").as_bytes());
+                others(set, shape, &mut parts, place);
+            }
+        }
+    }
+}
+
+/// The text with each part but one changed: to what it may be as well, and to what it may not be.
+fn others(set: &mut Set, shape: &[Part], parts: &mut [&str], place: usize) {
+    const WRONG: [&str; 6] = ["", "clientid", "client", "channel-x", "channel-01", "a b"];
+    for other in (0..parts.len()).filter(|other| *other != place) {
+        let kept = parts[other];
+        for text in pool::good(&shape[other]).iter().copied().chain(WRONG) {
+            parts[other] = text;
+            ask(set, parts.join("/").as_bytes());
+        }
+        parts[other] = kept;
     }
 }
 

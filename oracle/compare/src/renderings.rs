@@ -2,6 +2,7 @@
 use model::path::{self, Part, KINDS, MOST};
 use model::pool::{self, filled, Pools};
 use model::random::Random;
+use model::Fault;
 
 use crate::call::{Call, Function};
 use crate::original::says;
@@ -23,7 +24,7 @@ const NUMBERS: [[u64; 2]; 6] =
     [[0, 0], [7, 2], [9, 10], [1, u64::MAX], [u64::MAX, 0], [u64::MAX, u64::MAX]];
 
 /// Parts that no kind takes at their place, and some that a few kinds take.
-const PARTS: [&[u8]; 16] = [
+const PARTS: [&[u8]; 18] = [
     b"",
     b"a",
     b"a/b",
@@ -32,8 +33,10 @@ const PARTS: [&[u8]; 16] = [
     b"channel-01",
     b"channel-",
     b"channel-18446744073709551616",
+    b"channel-x",
     b"connection-01",
     b"connection-",
+    b"connection--1",
     b"connection",
     "caf\u{e9}/x".as_bytes(),
     b"\xff",
@@ -212,5 +215,5 @@ fn sequences_paths(set: &mut Set, port: &[u8], channel: &[u8]) {
 }
 
 fn text(set: &mut Set, call: Call, model: Result<Vec<u8>, u8>) {
-    set.text(call, says(&call), &model.map(Bytes));
+    set.text(call, says(&call), &model.map(Bytes).map_err(Fault::from));
 }

@@ -2,11 +2,12 @@
 use std::fmt::{self, Debug, Display, Formatter};
 
 use model::book::{Answer, Given};
-use model::NO_ROOM;
+use model::{Fault, NO_ROOM, NUMBER_FAULTS};
 
 use crate::batch::{Batch, Expected, Returned};
 use crate::call::{Call, Function};
 use crate::library::Library;
+use crate::original;
 use crate::page::Page;
 
 /// Where the original may differ: a reason for each kind that docs/DIFFERENCES.md lists.
@@ -16,9 +17,11 @@ pub enum Listed {
     Panic,
     Slash,
     TooLong,
+    Number,
 }
 
-const REASONS: [&str; 4] = ["beyond ASCII", "panics of the Rust", "slash in U", "over 4,096 bytes"];
+const REASONS: [&str; 5] =
+    ["beyond ASCII", "panics of the Rust", "slash in U", "over 4,096 bytes", "faults of numbers"];
 
 /// What the original says.
 pub enum Theirs<T> {
@@ -27,6 +30,22 @@ pub enum Theirs<T> {
     Listed(Listed, T),
     /// It takes no such question, for this reason.
     Silent(&'static str),
+}
+
+impl<T> Theirs<Result<T, Fault>> {
+    /// What it says, against an answer to the same call: where that is one of the three faults of a number,
+    /// it may differ, since it tells none of them from another, and those of a path from nothing else.
+    pub fn against(self, function: Function, ours: &Result<T, Fault>) -> Self {
+        match (self, ours) {
+            (Self::Says(Err(said)), Err(fault))
+                if original::untold(function) == said.refusal
+                    && NUMBER_FAULTS.contains(&fault.refusal) =>
+            {
+                Self::Listed(Listed::Number, Err(said))
+            }
+            (theirs, _) => theirs,
+        }
+    }
 }
 
 /// Bytes that show as text.
@@ -39,8 +58,8 @@ impl Debug for Bytes {
     }
 }
 
-/// A text that a call writes, or the number of its refusal.
-pub type Text = Result<Bytes, u8>;
+/// A text that a call writes, or its refusal. The original tells no place.
+pub type Text = Result<Bytes, Fault>;
 
 pub struct Set<'a> {
     library: &'a mut Library,
@@ -83,10 +102,10 @@ impl<'a> Set<'a> {
         &self.shown
     }
 
-    /// A check of a call whose answer is a number alone.
-    pub fn number(&mut self, call: Call, theirs: Theirs<Text>, model: Result<(), u8>) {
+    /// A check of a call whose answer is a refusal, or none.
+    pub fn refusal(&mut self, call: Call, theirs: Theirs<Text>, model: Result<(), Fault>) {
         self.checks += 1;
-        self.ask(call, 0, Returned::new(model.err().unwrap_or(0), 0), b"");
+        self.ask(call, 0, model.map_or_else(Returned::refused, |()| Returned::default()), b"");
         self.agree(theirs, &model.map(|()| Bytes(vec![])), call);
     }
 
@@ -98,7 +117,8 @@ impl<'a> Set<'a> {
         };
         self.checks += 1;
         self.ask(call, 0, returned, b"");
-        self.agree(theirs, &model.map(|value| Bytes(vec![value.into()])), call);
+        let model = model.map(|value| Bytes(vec![value.into()])).map_err(Fault::from);
+        self.agree(theirs, &model, call);
     }
 
     /// A check of a call whose answer is a pair of numbers, of which the original knows nothing.
@@ -136,17 +156,19 @@ impl<'a> Set<'a> {
     /// leaves all.
     pub fn lend(&mut self, call: Call, rooms: impl IntoIterator<Item = usize>, model: &Text) {
         for room in rooms {
-            let (refusal, text) = match model {
-                Ok(text) if text.0.len() <= room => (0, text.0.as_slice()),
+            let (returned, text) = match model {
+                Ok(Bytes(text)) if text.len() <= room => {
+                    (Returned::new(0, text.len() as u64), text.as_slice())
+                }
                 Ok(_) => {
                     if self.page.rows(call.function, Ok(0), NO_ROOM).is_empty() {
                         self.differ(|| format!("{call}: no row lists {NO_ROOM} of it"));
                     }
-                    (NO_ROOM, &[][..])
+                    (NO_ROOM.into(), &[][..])
                 }
-                Err(refusal) => (*refusal, &[][..]),
+                Err(fault) => (Returned::refused(*fault), &[][..]),
             };
-            self.ask(call, room, Returned::new(refusal, text.len() as u64), text);
+            self.ask(call, room, returned, text);
         }
     }
 
@@ -172,10 +194,11 @@ impl<'a> Set<'a> {
     /// The original and the model say the same, or the difference is a listed one.
     pub fn agree<T: PartialEq + Debug>(
         &mut self,
-        theirs: Theirs<Result<T, u8>>,
-        model: &Result<T, u8>,
+        theirs: Theirs<Result<T, Fault>>,
+        model: &Result<T, Fault>,
         call: Call,
     ) {
+        let theirs = theirs.against(call.function, model);
         let said = match &theirs {
             Theirs::Says(said) | Theirs::Listed(_, said) if said != model => said,
             _ => return,

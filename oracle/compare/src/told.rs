@@ -2,6 +2,7 @@
 use hostpath::{raw, READING};
 use ibc_core_host_types::terms::{self, Parts};
 use model::path::{Place, Reading, MOST};
+use model::Fault;
 
 use crate::call::{Call, Function};
 use crate::original::reads;
@@ -19,7 +20,7 @@ pub struct Told {
 }
 
 /// What is told, or a refusal.
-pub type Answer = Result<Told, u8>;
+pub type Answer = Result<Told, Fault>;
 
 pub fn read_call(text: &[u8]) -> Call<'_> {
     Call::new(Function::Read, [text, b""], [0, 0])
@@ -43,12 +44,12 @@ pub fn by_reading(reading: &Reading, key: &[u8], text: &[u8]) -> Told {
 /// By `hp_read` and `hp_key`; where the two refuse for different reasons 0, which no refusal has.
 pub fn by_library(text: &[u8]) -> Answer {
     let (mut bytes, mut key) = ([0; READING], [0; MOST]);
-    let refusal = raw::read(text, &mut bytes);
+    let raw::Fault { refusal, place } = raw::read(text, &mut bytes);
     let written = raw::key(text, &mut key);
     match refusal {
         0 => Ok(by_reading(&reading(&bytes), &key[..written.length as usize], text)),
-        refusal if refusal == written.refusal => Err(refusal),
-        _ => Err(0),
+        refusal if refusal == written.refusal => Err(Fault { refusal, place: place as usize }),
+        _ => Err(0.into()),
     }
 }
 

@@ -1,9 +1,10 @@
 //! The typed paths of rust/hostpath beside the original's: the same case, the same fields, the same text.
 use std::fmt::{Debug, Display};
 
-use model::path::KINDS;
+use model::path::{self, KINDS};
 use model::pool::{self, Pools};
 use model::random::Random;
+use model::Fault;
 
 use crate::original;
 use crate::set::{Set, Theirs};
@@ -35,13 +36,19 @@ impl Shown {
     }
 }
 
+fn fault(hostpath::Fault { refusal, place }: hostpath::Fault) -> Fault {
+    Fault { refusal: refusal.number(), place: place.map_or(0, |place| place.byte) }
+}
+
 /// Names of fields are compared where the original has them.
 fn ask(set: &mut Set, text: &[u8]) {
     set.count();
     let ours = hostpath::Path::read(text);
     let Theirs::Says(theirs) = original::reads(text, |path, _| Shown::of(path)) else { return };
+    // that a text is refused is the original's word; why and where, the model's
+    let theirs = theirs.map_err(|said| path::read(text).err().unwrap_or(said));
     let theirs = theirs.map(|shown| (shown.text.as_bytes() == text, shown));
-    let ours = ours.map_err(hostpath::Refusal::number).map(|reading| {
+    let ours = ours.map_err(fault).map(|reading| {
         let mut shown = Shown::of(&reading.path);
         if theirs.as_ref().is_ok_and(|(_, theirs)| theirs.names.is_empty()) {
             shown.names.clear();
@@ -49,7 +56,7 @@ fn ask(set: &mut Set, text: &[u8]) {
         (reading.exact, shown)
     });
     if ours != theirs {
-        set.differ(|| format!("\"{}\": Rust {theirs:?}, here {ours:?}", text.escape_ascii()));
+        set.differ(|| format!("\"{}\": expected {theirs:?}, here {ours:?}", text.escape_ascii()));
     }
 }
 

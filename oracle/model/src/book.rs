@@ -18,7 +18,7 @@ pub type Value = [u8; VALUE];
 /// The kind of a consensus state.
 pub const STATE: u8 = 5;
 
-/// The key of a text: its rendering. 1, 2, 3, 10.
+/// The key of a text: its rendering. 1, 2, 3 (or 17, 18, 19, without the place), 10.
 pub fn key(text: &[u8]) -> Result<Vec<u8>, Refusal> {
     let (_, key) = read_with_key(text)?;
     hold(key.len() <= KEY, KEY_TOO_LONG)?;

@@ -1,5 +1,5 @@
-//! The section 'Numbers and identifiers' of document 01.
-use crate::{ascii, hold, number, Refusal, BAD_CHAR, BAD_LENGTH, BAD_NUMBER, BAD_PREFIX};
+//! The section 'Numbers and identifiers' of document 01, and request L3's faults of an index.
+use crate::{ascii, hold, number, Fault, Refusal, BAD_CHAR, BAD_LENGTH, BAD_PREFIX};
 
 /// A row of the table of identifiers.
 #[derive(Clone, Copy, Debug, PartialEq, Eq)]
@@ -31,7 +31,7 @@ impl Identifier {
     }
 
     /// ASCII, bytes, length, prefix, number.
-    pub fn check(self, id: &[u8]) -> Result<(), Refusal> {
+    pub fn check(self, id: &[u8]) -> Result<(), Fault> {
         let (least, most) = self.lengths();
         chars(id)?;
         length(id, least, most)?;
@@ -55,13 +55,14 @@ pub fn prefix_length(prefix: &[u8], least: u64, most: u64) -> Result<(), Refusal
     length(prefix, least.saturating_sub(2), most.saturating_sub(21))
 }
 
-/// The name, `-`, and an index: a number text that begins with `0` only if it is `0`.
-pub fn named_index(id: &[u8], name: &[u8]) -> Result<(), Refusal> {
+/// The name, `-`, and an index: a number text that begins with `0` only if it is `0`. The place of its
+/// fault is counted from the start of the identifier.
+pub fn named_index(id: &[u8], name: &[u8]) -> Result<(), Fault> {
     ascii(id)?;
     ascii(name)?;
     let index = id.strip_prefix(name).and_then(|rest| rest.strip_prefix(b"-")).ok_or(BAD_PREFIX)?;
     hold(index == b"0" || !index.starts_with(b"0"), BAD_PREFIX)?;
-    number(index).map(|_| ()).ok_or(BAD_NUMBER)
+    number(index).map(|_| ()).map_err(|fault| fault.behind(id.len() - index.len()))
 }
 
 pub fn client_id_new(client_type: &[u8], counter: u64) -> Result<Vec<u8>, Refusal> {

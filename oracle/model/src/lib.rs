@@ -1,5 +1,8 @@
 //! Document 01 as a program, with the requests that landed, written from the documents and from neither the original nor the port,
 //! and pools of texts to try all three on. Plain and slow on purpose.
+use std::fmt;
+use std::ops::RangeInclusive;
+
 pub mod book;
 pub mod identifier;
 pub mod iteration;
@@ -19,7 +22,6 @@ pub const NO_ROOM: Refusal = 4;
 pub const BAD_CHAR: Refusal = 5;
 pub const BAD_LENGTH: Refusal = 6;
 pub const BAD_PREFIX: Refusal = 7;
-pub const BAD_NUMBER: Refusal = 8;
 pub const BAD_BOOK: Refusal = 9;
 pub const KEY_TOO_LONG: Refusal = 10;
 pub const FULL: Refusal = 11;
@@ -28,16 +30,64 @@ pub const BAD_SEGMENT: Refusal = 13;
 pub const BAD_KIND: Refusal = 14;
 pub const BAD_ITER_KEY: Refusal = 15;
 pub const BAD_BLOCK: Refusal = 16;
+pub const NO_DIGITS: Refusal = 17;
+pub const NOT_A_DIGIT: Refusal = 18;
+pub const TOO_LARGE: Refusal = 19;
 
-/// A number text: an optional `+`, then digits, at most 18446744073709551615.
-pub fn number(text: &[u8]) -> Option<u64> {
-    let digits = text.strip_prefix(b"+").unwrap_or(text);
-    if digits.is_empty() || !digits.iter().all(u8::is_ascii_digit) {
-        return None;
+/// What may be wrong with a number. The refusals that have a place.
+pub const NUMBER_FAULTS: RangeInclusive<Refusal> = NO_DIGITS..=TOO_LARGE;
+
+/// A refusal with the byte where a number's fault stands, counted from 0; of every other refusal 0.
+#[derive(Clone, Copy, Debug, PartialEq, Eq)]
+pub struct Fault {
+    pub refusal: Refusal,
+    pub place: usize,
+}
+
+impl Fault {
+    /// The same fault of a text that has so many bytes more before this one.
+    fn behind(self, bytes: usize) -> Self {
+        Self { place: bytes + self.place, ..self }
     }
-    digits
-        .iter()
-        .try_fold(0u64, |value, digit| value.checked_mul(10)?.checked_add(u64::from(digit - b'0')))
+}
+
+impl From<Refusal> for Fault {
+    fn from(refusal: Refusal) -> Self {
+        Self { refusal, place: 0 }
+    }
+}
+
+impl From<Fault> for Refusal {
+    fn from(fault: Fault) -> Self {
+        fault.refusal
+    }
+}
+
+/// The number, and the place where there is one: no call has a number at its first byte.
+impl fmt::Display for Fault {
+    fn fmt(&self, out: &mut fmt::Formatter<'_>) -> fmt::Result {
+        match self.place {
+            0 => write!(out, "{}", self.refusal),
+            place => write!(out, "{} at {place}", self.refusal),
+        }
+    }
+}
+
+/// A number text: an optional `+`, then digits, at most 18446744073709551615. Of another text the
+/// leftmost fault: 17 at its end, 18 at the byte, 19 at the digit that passes the limit.
+pub fn number(text: &[u8]) -> Result<u64, Fault> {
+    let signs = usize::from(text.starts_with(b"+"));
+    let fault = |refusal, place| Fault { refusal, place };
+    if text.len() == signs {
+        return Err(fault(NO_DIGITS, text.len()));
+    }
+    let mut value = 0u64;
+    for (place, byte) in text.iter().enumerate().skip(signs) {
+        let digit = char::from(*byte).to_digit(10).ok_or(fault(NOT_A_DIGIT, place))?;
+        let more = value.checked_mul(10).and_then(|tens| tens.checked_add(digit.into()));
+        value = more.ok_or(fault(TOO_LARGE, place))?;
+    }
+    Ok(value)
 }
 
 /// The first check of every call on a text.

@@ -1,6 +1,8 @@
-//! The section 'The nineteen kinds' of document 01: one table, read and rendered by walking it.
+//! The section 'The nineteen kinds' of document 01: one table, read and rendered by walking it; and
+//! request L3's fault of a text in which a number alone is wrong.
 use crate::identifier::Identifier;
-use crate::{ascii, hold, number, Refusal, BAD_KIND, BAD_SEGMENT, NOT_ASCII, NOT_A_PATH, TOO_LONG};
+use crate::{ascii, hold, number, Fault, Refusal};
+use crate::{BAD_KIND, BAD_SEGMENT, NOT_ASCII, NOT_A_PATH, TOO_LONG};
 
 /// The longest text that is read or rendered.
 pub const MOST: usize = 4096;
@@ -100,19 +102,20 @@ impl Reading {
     }
 }
 
-/// Reading, in the order of refusals 1, 2, 3.
-pub fn read(text: &[u8]) -> Result<Reading, Refusal> {
+/// Reading, in the order of refusals 1, 2, 3; 17, 18 and 19 stand at the place of 3.
+pub fn read(text: &[u8]) -> Result<Reading, Fault> {
     read_with_key(text).map(|(reading, _)| reading)
 }
 
-/// Reading, with the rendering of the text. It fits at most one kind: a second fit stops the run.
-pub fn read_with_key(text: &[u8]) -> Result<(Reading, Vec<u8>), Refusal> {
+/// Reading, with the rendering of the text. At most one kind has a word on it: a second stops the run.
+pub fn read_with_key(text: &[u8]) -> Result<(Reading, Vec<u8>), Fault> {
     hold(text.len() <= MOST, TOO_LONG)?;
     ascii(text)?;
     let places = cut(text);
     let mut fits = (1..=19).filter_map(|kind| fit(kind, text, &places));
-    let mut reading = fits.next().ok_or(NOT_A_PATH)?;
+    let fit = fits.next();
     assert_eq!(fits.next(), None, "two kinds: {}", text.escape_ascii());
+    let mut reading = fit.ok_or(NOT_A_PATH)??;
     let key = reading.key(text);
     reading.exact = key == text;
     Ok((reading, key))
@@ -130,14 +133,16 @@ fn cut(text: &[u8]) -> Vec<Place> {
         .collect()
 }
 
-/// The reading of a text as this kind, its mark not yet set.
-fn fit(kind: u8, text: &[u8], places: &[Place]) -> Option<Reading> {
+/// What a kind has to say of a text: nothing where another part than its numbers is wrong, else the
+/// reading, its mark not yet set, or the fault of the first number that is none.
+fn fit(kind: u8, text: &[u8], places: &[Place]) -> Option<Result<Reading, Fault>> {
     let shape = KINDS[usize::from(kind) - 1];
     if shape.len() != places.len() {
         return None;
     }
     let none = Place::default();
     let mut reading = Reading { kind, exact: false, first: none, second: none, numbers: [0, 0] };
+    let mut numbers = vec![];
     for (part, place) in shape.iter().zip(places) {
         let bytes = place.of(text);
         match part {
@@ -151,18 +156,28 @@ fn fit(kind: u8, text: &[u8], places: &[Place]) -> Option<Reading> {
                 reading.second = *place;
             }
             Upgrade => reading.first = *place,
-            Number => reading.numbers[0] = number(bytes)?,
-            Heights => reading.numbers = heights(bytes)?,
+            Number => numbers.push(*place),
+            Heights => numbers.extend(halves(text, *place)?),
         }
     }
-    Some(reading)
+    for (value, place) in reading.numbers.iter_mut().zip(numbers) {
+        match number(place.of(text)) {
+            Ok(read) => *value = read,
+            Err(fault) => return Some(Err(fault.behind(place.start))),
+        }
+    }
+    Some(Ok(reading))
 }
 
-/// R-h: two number texts around the one `-`.
-fn heights(text: &[u8]) -> Option<[u64; 2]> {
-    let mut halves = text.split(|b| *b == b'-');
-    let pair = [number(halves.next()?)?, number(halves.next()?)?];
-    halves.next().is_none().then_some(pair)
+/// R-h: what stands before and behind the one `-`, and nothing where there is not exactly one.
+fn halves(text: &[u8], place: Place) -> Option<[Place; 2]> {
+    let mut dashes = (0..place.length).filter(|at| place.of(text)[*at] == b'-');
+    let (dash, None) = (dashes.next()?, dashes.next()) else { return None };
+    let behind = dash + 1;
+    Some([
+        Place { start: place.start, length: dash },
+        Place { start: place.start + behind, length: place.length - behind },
+    ])
 }
 
 /// Rendering by kind and parts, in the order of refusals 14, first, second, 1.

@@ -21,6 +21,13 @@ pub fn numbers() -> Vec<String> {
     short.map(String::from).into_iter().chain(signed).chain(long).collect()
 }
 
+/// Number texts of every fault at each end and inside, of two faults, and of none.
+pub const FAULTS: [&str; 16] = [
+    "7", "+00", "", "+", "x", "x1", "1x", "+x", "++1", "-1", "1 ", "18446744073709551616",
+    "+0018446744073709551620", "184467440737095516150x", "1844674407370955161x6",
+    "x18446744073709551616",
+];
+
 /// Spellings of R-h: every two numbers, and texts without exactly one `-`.
 pub fn heights() -> Vec<String> {
     let numbers = numbers();

@@ -91,9 +91,10 @@ fn number(random: &mut Random) -> u64 {
     }
 }
 
-/// A text that a book refuses, or just takes: damaged, long, not ASCII, or with a long rendering.
+/// A text that a book refuses, or just takes: damaged, long, not ASCII, with a long rendering, or with
+/// numbers that are none.
 pub fn odd(pools: &Pools, random: &mut Random) -> Vec<u8> {
-    match random.below(8) {
+    match random.below(10) {
         0 => vec![],
         1 | 2 => {
             let length = random.of(&[4095, 4096, 4097, 4098]);
@@ -107,6 +108,7 @@ pub fn odd(pools: &Pools, random: &mut Random) -> Vec<u8> {
         }
         4 => Spelt::long(random.of(&[250, 251, 254, 255, 256, 257, 300]), random).spelling(random),
         5 => Spelt::longest().spelling(random),
+        6 | 7 => Spelt::chance(random).with(|_| random.of(&pool::FAULTS).into()),
         _ => pools.path(random),
     }
 }

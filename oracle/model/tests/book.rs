@@ -3,8 +3,8 @@ use model::book::{is_book, key, Book, Buffer, Call, Given, HEAD, SLOT, VALUE};
 use model::pool::Pools;
 use model::random::Random;
 use model::spelling::{odd, Spelt};
-use model::{ABSENT, BAD_BOOK, BAD_LENGTH, FULL, KEY_TOO_LONG, NOT_ASCII, NOT_A_PATH};
-use model::{NO_ROOM, TOO_LONG};
+use model::{ABSENT, BAD_BOOK, BAD_LENGTH, FULL, KEY_TOO_LONG, NOT_ASCII, NOT_A_DIGIT, NOT_A_PATH};
+use model::{NO_DIGITS, NO_ROOM, TOO_LARGE, TOO_LONG};
 
 const LOOSE: &[u8] = b"clients/07-tendermint-4/consensusStates/007-+2";
 const EXACT: &[u8] = b"clients/07-tendermint-4/consensusStates/7-2";
@@ -38,6 +38,9 @@ fn refusals_in_order() {
         (&[0xff; 4097][..], TOO_LONG),
         (b"\xff", NOT_ASCII),
         (b"x", NOT_A_PATH),
+        (b"//upgradedClient", NO_DIGITS),
+        (b"clients/07-tendermint-4/consensusStates/7-x", NOT_A_DIGIT),
+        (b"/18446744073709551616/upgradedClient", TOO_LARGE),
         (&long, KEY_TOO_LONG),
     ] {
         assert_eq!(book.write(text, b""), Err(refusal));

@@ -1,4 +1,4 @@
-//! Document 01's rows, asked of the model and of the original as it runs.
+//! Document 01's rows and request L3's, asked of the model and of the original as it runs.
 use std::str::FromStr;
 
 use ibc_core_host_types::error::IdentifierError;
@@ -6,7 +6,7 @@ use ibc_core_host_types::identifiers::{ChannelId, ClientId, ConnectionId, PortId
 use ibc_core_host_types::terms::{self, Answer};
 use ibc_core_host_types::validate::validate_client_type;
 use model::identifier::Identifier;
-use model::{path, table};
+use model::{number, path, pool, table, Fault, NO_DIGITS, NUMBER_FAULTS};
 
 #[test]
 fn paths() {
@@ -28,20 +28,52 @@ fn paths() {
 
 #[test]
 fn identifiers() {
-    fn number<T>(read: Result<T, IdentifierError>) -> Result<(), u8> {
+    fn said<T>(read: Result<T, IdentifierError>) -> Result<(), u8> {
         read.map(|_| ()).map_err(|e| e.number())
     }
     for (identifier, id, outcome) in table::identifiers() {
         assert_eq!(identifier.check(id.as_bytes()), outcome, "{id}");
         let theirs = match identifier {
-            Identifier::Client => number(ClientId::from_str(&id)),
-            Identifier::ClientType => number(validate_client_type(&id)),
-            Identifier::Connection => number(ConnectionId::from_str(&id)),
-            Identifier::Port => number(PortId::from_str(&id)),
-            Identifier::Channel => number(ChannelId::from_str(&id)),
+            Identifier::Client => said(ClientId::from_str(&id)),
+            Identifier::ClientType => said(validate_client_type(&id)),
+            Identifier::Connection => said(ConnectionId::from_str(&id)),
+            Identifier::Port => said(PortId::from_str(&id)),
+            Identifier::Channel => said(ChannelId::from_str(&id)),
         };
-        assert_eq!(theirs, outcome, "{id}");
+        // the original has one number, document 01's 8, for all faults of an index
+        let numbered = |fault: Fault| match fault.refusal {
+            refusal if NUMBER_FAULTS.contains(&refusal) => 8,
+            refusal => refusal,
+        };
+        assert_eq!(theirs, outcome.map_err(numbered), "{id}");
     }
+}
+
+/// 1 and 2 come before the fault of a number.
+#[test]
+fn length_and_ascii_come_first() {
+    let text = |length: usize| pool::filled("", 'u', length) + "/x/upgradedClient";
+    let read = |text: String| path::read(text.as_bytes()).map_err(|fault| fault.to_string());
+    assert_eq!(read(text(4096 - 17)), Err("18 at 4080".into()));
+    assert_eq!(read(text(4096 - 16)), Err("1".into()));
+    assert_eq!(read("\u{e9}/x/upgradedClient".into()), Err("2".into()));
+}
+
+/// What stands before a fault begins some number text. Without digits it is the whole text; else no
+/// number text goes on with the byte at the fault.
+#[test]
+fn faults_are_leftmost() {
+    let begins = |text: &[u8]| number(text).is_ok() || number(&[text, b"0"].concat()).is_ok();
+    let check = |text: &[u8]| {
+        let Err(Fault { refusal, place }) = number(text) else { return };
+        assert!(begins(&text[..place]), "{}", text.escape_ascii());
+        match refusal {
+            NO_DIGITS => assert_eq!(place, text.len()),
+            _ => assert!(!begins(&text[..=place]), "{}", text.escape_ascii()),
+        }
+    };
+    pool::texts(&pool::LETTERS, "", 6, check);
+    pool::numbers().iter().for_each(|text| check(text.as_bytes()));
 }
 
 /// The longest rendering outside 18 and 19 is 251 bytes.

@@ -112,9 +112,9 @@ impl Desk {
 fn read_all(keys: &[Vec<u8>]) -> u8 {
     let mut out = [0; READING];
     let read = |key: &Vec<u8>| {
-        let refusal = raw::read(black_box(key), &mut out);
-        keep(&out);
-        refusal
+        let answer = raw::read(black_box(key), &mut out);
+        keep((answer, &out));
+        answer.refusal
     };
     keys.iter().map(read).find(|refusal| *refusal != 0).unwrap_or(0)
 }

@@ -53,7 +53,7 @@ fn rows() -> Vec<Row> {
         (
             "validate_named_u64_index",
             |id| validate::validate_named_u64_index(id, "connection"),
-            |id| raw::validate_named_u64_index(id, b"connection"),
+            |id| raw::validate_named_u64_index(id, b"connection").refusal,
             connections.clone(),
             bad_index.clone(),
         ),
@@ -74,7 +74,7 @@ fn rows() -> Vec<Row> {
         (
             "validate_connection_identifier",
             validate::validate_connection_identifier,
-            raw::validate_connection_identifier,
+            |id| raw::validate_connection_identifier(id).refusal,
             connections,
             bad_index.clone(),
         ),
@@ -88,7 +88,7 @@ fn rows() -> Vec<Row> {
         (
             "validate_channel_identifier",
             validate::validate_channel_identifier,
-            raw::validate_channel_identifier,
+            |id| raw::validate_channel_identifier(id).refusal,
             channels,
             bad_index,
         ),

@@ -18,10 +18,23 @@ fn run(program: &str, lines: &str) {
     assert!(status.success(), "{program}: {status}");
 }
 
-pub fn family(askpath: &str, rustask: &str, lines: &str) -> Family {
-    let answers = |program| command(program, lines).output().expect("a program").stdout;
-    assert!(answers(askpath) == answers(rustask), "the answers differ");
-    let [askpath, rustask, lines] = [askpath, rustask, lines].map(String::from);
-    let same = lines.clone();
-    Family::new(NAME.into(), move || run(&rustask, &lines), move || run(&askpath, &same))
+fn lines(answers: &[u8]) -> impl Iterator<Item = &[u8]> {
+    answers.split(|byte| *byte == b'\n')
+}
+
+/// An answer as the original gives it, which does not tell what is wrong with a number.
+fn untold(answer: &[u8]) -> &[u8] {
+    match answer {
+        b"17" | b"18" | b"19" => b"3",
+        answer => answer,
+    }
+}
+
+pub fn family(askpath: &str, rustask: &str, asked: &str) -> Family {
+    let answers = |program| command(program, asked).output().expect("a program").stdout;
+    let (ours, theirs) = (answers(askpath), answers(rustask));
+    assert!(lines(&ours).map(untold).eq(lines(&theirs)), "the answers differ");
+    let [askpath, rustask, asked] = [askpath, rustask, asked].map(String::from);
+    let same = asked.clone();
+    Family::new(NAME.into(), move || run(&rustask, &asked), move || run(&askpath, &same))
 }

@@ -52,17 +52,17 @@ impl<'a> Book<'a> {
         self.0
     }
 
-    /// Adds a record, or replaces its value. 9, 1, 2, 3, 10, 11.
+    /// Adds a record, or replaces its value. 9, 1, 2, 3 (17, 18, 19), 10, 11.
     pub fn write(&mut self, text: &[u8], value: &[u8; BOOK_VALUE]) -> Result<(), Refusal> {
         done(raw::book_write(self.0, text, value))
     }
 
-    /// Removes a record. 9, 1, 2, 3, 10, 12.
+    /// Removes a record. 9, 1, 2, 3 (17, 18, 19), 10, 12.
     pub fn remove(&mut self, text: &[u8]) -> Result<(), Refusal> {
         done(raw::book_remove(self.0, text))
     }
 
-    /// A record's value. 9, 1, 2, 3, 10, 12.
+    /// A record's value. 9, 1, 2, 3 (17, 18, 19), 10, 12.
     pub fn lookup(&self, text: &[u8]) -> Result<[u8; BOOK_VALUE], Refusal> {
         let mut value = [0; BOOK_VALUE];
         done(raw::book_lookup(self.0, text, &mut value))?;

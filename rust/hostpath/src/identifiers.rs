@@ -1,7 +1,7 @@
 //! The identifier checks, and identifiers that have passed them.
 use core::fmt;
 
-use crate::{ascii, done, raw, written, Refusal};
+use crate::{ascii, done, raw, written, Fault, Refusal};
 
 /// All bytes are identifier bytes: A-Z, a-z, 0-9 and `. _ + - # [ ] < >`. 2, 5.
 pub fn validate_identifier_chars(id: &[u8]) -> Result<(), Refusal> {
@@ -18,9 +18,10 @@ pub fn validate_prefix_length(prefix: &[u8], min: u64, max: u64) -> Result<(), R
     done(raw::validate_prefix_length(prefix, min, max))
 }
 
-/// It is the name, `-` and an index: a number text that does not begin with 0 unless it is 0. 2, 7, 8.
-pub fn validate_named_u64_index(id: &[u8], name: &[u8]) -> Result<(), Refusal> {
-    done(raw::validate_named_u64_index(id, name))
+/// It is the name, `-` and an index: a number text that does not begin with 0 unless it is 0. 2, 7, then
+/// 17, 18 or 19.
+pub fn validate_named_u64_index(id: &[u8], name: &[u8]) -> Result<(), Fault> {
+    Fault::of_index(raw::validate_named_u64_index(id, name))
 }
 
 /// It is a client type: 7 to 43 identifier bytes. 2, 5, 6.
@@ -41,9 +42,10 @@ pub fn validate_client_identifier(id: &[u8]) -> Result<(), Refusal> {
     done(raw::validate_client_identifier(id))
 }
 
-/// It is a connection identifier: `connection-` and an index, 10 to 64 bytes. 2, 5, 6, 7, 8.
-pub fn validate_connection_identifier(id: &[u8]) -> Result<(), Refusal> {
-    done(raw::validate_connection_identifier(id))
+/// It is a connection identifier: `connection-` and an index, 10 to 64 bytes. 2, 5, 6, 7, then 17, 18 or
+/// 19.
+pub fn validate_connection_identifier(id: &[u8]) -> Result<(), Fault> {
+    Fault::of_index(raw::validate_connection_identifier(id))
 }
 
 /// It is a port identifier: 2 to 128 identifier bytes. 2, 5, 6.
@@ -51,9 +53,9 @@ pub fn validate_port_identifier(id: &[u8]) -> Result<(), Refusal> {
     done(raw::validate_port_identifier(id))
 }
 
-/// It is a channel identifier: `channel-` and an index, 8 to 64 bytes. 2, 5, 6, 7, 8.
-pub fn validate_channel_identifier(id: &[u8]) -> Result<(), Refusal> {
-    done(raw::validate_channel_identifier(id))
+/// It is a channel identifier: `channel-` and an index, 8 to 64 bytes. 2, 5, 6, 7, then 17, 18 or 19.
+pub fn validate_channel_identifier(id: &[u8]) -> Result<(), Fault> {
+    Fault::of_index(raw::validate_channel_identifier(id))
 }
 
 /// An upgrade path that renders with any height. All that may be missing there is room.
@@ -66,7 +68,7 @@ fn validate_upgrade_path(text: &[u8]) -> Result<(), Refusal> {
 
 /// Declares a part of a path that has passed a check.
 macro_rules! checked {
-    ($(#[$said:meta])* $name:ident, $check:path) => {
+    ($(#[$said:meta])* $name:ident, $check:path, $error:ty) => {
         $(#[$said])*
         #[derive(Clone, Copy, Debug, PartialEq, Eq, PartialOrd, Ord, Hash)]
         pub struct $name<'a>(pub(crate) &'a str);
@@ -84,18 +86,18 @@ macro_rules! checked {
         }
 
         impl<'a> TryFrom<&'a [u8]> for $name<'a> {
-            type Error = Refusal;
+            type Error = $error;
 
-            fn try_from(text: &'a [u8]) -> Result<Self, Refusal> {
+            fn try_from(text: &'a [u8]) -> Result<Self, $error> {
                 $check(text)?;
-                ascii(text).map(Self)
+                Ok(Self(ascii(text)?))
             }
         }
 
         impl<'a> TryFrom<&'a str> for $name<'a> {
-            type Error = Refusal;
+            type Error = $error;
 
-            fn try_from(text: &'a str) -> Result<Self, Refusal> {
+            fn try_from(text: &'a str) -> Result<Self, $error> {
                 text.as_bytes().try_into()
             }
         }
@@ -122,36 +124,36 @@ macro_rules! checked {
 
 checked! {
     /// A client identifier. 2, 5, 6.
-    ClientId, validate_client_identifier
+    ClientId, validate_client_identifier, Refusal
 }
 
 checked! {
-    /// A connection identifier. 2, 5, 6, 7, 8.
-    ConnectionId, validate_connection_identifier
+    /// A connection identifier. 2, 5, 6, 7, then 17, 18 or 19.
+    ConnectionId, validate_connection_identifier, Fault
 }
 
 checked! {
     /// A port identifier. 2, 5, 6.
-    PortId, validate_port_identifier
+    PortId, validate_port_identifier, Refusal
 }
 
 checked! {
-    /// A channel identifier. `channel-+01` and `channel-1` are two. 2, 5, 6, 7, 8.
+    /// A channel identifier. `channel-+01` and `channel-1` are two. 2, 5, 6, 7, then 17, 18 or 19.
     ///
     /// ```
     /// use hostpath::{ChannelId, Refusal};
     ///
     /// assert_ne!(ChannelId::try_from("channel-+01")?, ChannelId::try_from("channel-1")?);
-    /// assert_eq!(ChannelId::try_from("channel-01"), Err(Refusal::BadPrefix));
+    /// assert_eq!(ChannelId::try_from("channel-01").unwrap_err(), Refusal::BadPrefix);
     /// # Ok::<(), Refusal>(())
     /// ```
-    ChannelId, validate_channel_identifier
+    ChannelId, validate_channel_identifier, Fault
 }
 
 checked! {
     /// The upgrade path of an upgraded state: ASCII without `/`, and with any height a path of at most
     /// 4,096 bytes. 2, 13, 1.
-    UpgradePath, validate_upgrade_path
+    UpgradePath, validate_upgrade_path, Refusal
 }
 
 impl<'a> ClientId<'a> {

@@ -30,13 +30,15 @@
 //! ```
 //!
 //! Every call takes any bytes and any numbers, and answers a `Result`: what was asked for, or the
-//! [`Refusal`]. The numbers at the end of a call's description are its refusals, in the order in which
-//! they are looked for. A refusal changes no byte of a lent buffer; a success writes from its byte 0
-//! and leaves the bytes after what was written. Nothing is allocated, so what is written is lent room.
+//! [`Refusal`], which has its place in a [`Fault`] where a text is read or an index is checked. The
+//! numbers at the end of a call's description are its refusals, in the order in which they are looked
+//! for. A refusal changes no byte of a lent buffer; a success writes from its byte 0 and leaves the
+//! bytes after what was written. Nothing is allocated, so what is written is lent room.
 #![no_std]
 #![deny(missing_docs)]
 
 mod book;
+mod fault;
 mod identifiers;
 mod iteration;
 mod path;
@@ -47,6 +49,7 @@ mod refusal;
 mod texts;
 
 pub use book::*;
+pub use fault::*;
 pub use identifiers::*;
 pub use iteration::*;
 pub use path::*;

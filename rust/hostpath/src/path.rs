@@ -1,7 +1,7 @@
 //! Paths read and rendered.
 use core::fmt;
 
-use crate::{ascii, done, raw, written, Refusal, PATH_MOST};
+use crate::{ascii, done, raw, written, Fault, Refusal, PATH_MOST};
 use crate::{ChannelId, ClientId, ConnectionId, PortId, Sequence, UpgradePath};
 
 /// The bytes of a reading by [`raw::read`].
@@ -99,7 +99,7 @@ fn typed<'a>(kind: u8, [first, second]: [&'a str; 2], [a, b]: [u64; 2]) -> Optio
 }
 
 impl<'a> Path<'a> {
-    /// Reads a text. 1, 2, 3.
+    /// Reads a text. 1, 2, 3; in 3's place 17, 18 or 19 where a number alone is wrong.
     ///
     /// ```
     /// use hostpath::{Path, Refusal};
@@ -108,13 +108,13 @@ impl<'a> Path<'a> {
     /// assert!(reading.exact);
     /// assert!(matches!(reading.path, Path::Commitment { sequence, .. } if sequence.value() == 5));
     ///
-    /// let refusal = Path::read(b"clients").unwrap_err();
-    /// assert_eq!((refusal, refusal.number()), (Refusal::NotAPath, 3));
+    /// let fault = Path::read(b"clients").unwrap_err();
+    /// assert_eq!(fault, Refusal::NotAPath);
     /// # Ok::<(), Refusal>(())
     /// ```
-    pub fn read(text: &'a [u8]) -> Result<Reading<'a>, Refusal> {
+    pub fn read(text: &'a [u8]) -> Result<Reading<'a>, Fault> {
         let mut bytes = [0; READING];
-        done(raw::read(text, &mut bytes))?;
+        Fault::of_path(raw::read(text, &mut bytes), text)?;
         let part = |at: usize| {
             let start = number(&bytes[at..at + 2]) as usize;
             ascii(&text[start..start + number(&bytes[at + 2..at + 4]) as usize])
@@ -214,7 +214,7 @@ impl fmt::Display for Path<'_> {
     }
 }
 
-/// Writes the key of a text: the rendering of the path that it is read as. 1, 2, 3, 4.
+/// Writes the key of a text: the rendering of the path that it is read as. 1, 2, 3 (17, 18, 19), 4.
 ///
 /// ```
 /// use hostpath::{key, Refusal};

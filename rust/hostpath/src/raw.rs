@@ -12,7 +12,7 @@
 pub struct Fault {
     /// A refusal's number, or 0.
     pub refusal: u8,
-    /// 0 where the call is refused.
+    /// The byte, counted from 0, where the fault of a number stands: of 17, 18 and 19 alone, else 0.
     pub place: u64,
 }
 

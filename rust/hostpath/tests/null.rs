@@ -2,7 +2,7 @@
 use core::ptr::{null, null_mut};
 
 use hostpath::raw::c::*;
-use hostpath::raw::{Pair, Written};
+use hostpath::raw::{Fault, Pair, Written};
 use hostpath::{book_size, Book, BOOK_VALUE};
 
 const PORT: &[u8] = b"ports/transfer";
@@ -11,13 +11,17 @@ fn refused(refusal: u8) -> Written {
     Written { refusal, length: 0 }
 }
 
+fn fault(refusal: u8) -> Fault {
+    Fault { refusal, place: 0 }
+}
+
 #[test]
 fn identifiers() {
     // SAFETY: as of every call here, a pointer is null with count 0 or that of a live slice.
     unsafe {
         assert_eq!(hp_validate_identifier_chars(null(), 0), 0);
         assert_eq!(hp_validate_port_identifier(null(), 0), 6);
-        assert_eq!(hp_validate_named_u64_index(null(), 0, null(), 0), 7);
+        assert_eq!(hp_validate_named_u64_index(null(), 0, null(), 0), fault(7));
         assert_eq!(hp_client_id_new(null(), 0, 4, null_mut(), 0), refused(6));
         assert_eq!(hp_channel_id_new(4, null_mut(), 0), refused(4));
     }
@@ -28,8 +32,8 @@ fn paths() {
     let (port, size) = (PORT.as_ptr(), PORT.len());
     let mut out = [0; 17];
     unsafe {
-        assert_eq!(hp_read(null(), 0, null_mut(), 0), 3);
-        assert_eq!(hp_read(port, size, null_mut(), 0), 4);
+        assert_eq!(hp_read(null(), 0, null_mut(), 0), fault(3));
+        assert_eq!(hp_read(port, size, null_mut(), 0), fault(4));
         assert_eq!(hp_key(null(), 0, null_mut(), 0), refused(3));
         assert_eq!(hp_key(port, size, null_mut(), 0), refused(4));
         assert_eq!(hp_render(10, null(), 0, null(), 0, 0, 0, null_mut(), 0), refused(6));

@@ -1,9 +1,10 @@
 //! Paths, identifiers and refusals through their types. What every call answers is the comparison's
 //! business, in oracle/compare.
 use hostpath::{
-    acks_path, client_state_prefix, consensus_state_parent, update_time_leaf,
-    validate_identifier_length, validate_named_u64_index, ChannelId, ClientId, IterationKey, Path,
-    PortId, Refusal, UpgradePath,
+    acks_path, book_size, client_state_prefix, consensus_state_parent, key, update_time_leaf,
+    validate_connection_identifier, validate_identifier_length, validate_named_u64_index, Book,
+    ChannelId, ClientId, ConnectionId, Fault, IterationKey, Number, Path, Place, PortId, Refusal,
+    UpgradePath,
 };
 
 #[test]
@@ -43,7 +44,94 @@ fn identifiers() {
     assert_eq!((&port, port.to_string().as_str()), (&port, "transfer"));
     assert!(port == *"transfer" && port.as_ref() == "transfer");
     assert_eq!(validate_identifier_length(b"ab", 3, 9), Err(Refusal::BadLength));
-    assert_eq!(validate_named_u64_index(b"a-x", b"a"), Err(Refusal::BadNumber));
+    assert_eq!(validate_named_u64_index(b"a/x", b"a"), Err(Refusal::BadPrefix.into()));
+}
+
+/// The place, and the beginning of the sentence that tells of it.
+fn told(answer: Result<(), Fault>) -> (Option<usize>, String) {
+    let fault = answer.unwrap_err();
+    let sentence = fault.to_string();
+    let number = fault.refusal.number();
+    assert!(sentence.starts_with(&format!("refusal {number}: ")), "{sentence}");
+    let said = sentence.split(": ").nth(1).unwrap_or_default();
+    (fault.place.map(|place| place.byte), said.into())
+}
+
+/// Of each number of a path each fault is told by which number it is, and at which byte.
+#[test]
+fn faults_of_paths() {
+    for (text, byte, said) in [
+        (
+            "clients/07-tendermint-4/consensusStates/x-y",
+            40,
+            "revision number has a byte that is no digit",
+        ),
+        ("clients/07-tendermint-4/consensusStates/-5", 40, "revision number lacks a digit"),
+        (
+            "clients/07-tendermint-4/consensusStates/7-x",
+            42,
+            "revision height has a byte that is no digit",
+        ),
+        ("clients/07-tendermint-4/consensusStates/7-", 42, "revision height lacks a digit"),
+        (
+            "clients/clientidx/consensusStates/7-+/processedTime",
+            37,
+            "revision height lacks a digit",
+        ),
+        (
+            "clients/clientidx/consensusStates/+-2/processedHeight",
+            35,
+            "revision number lacks a digit",
+        ),
+        (
+            "acks/ports/ab/channels/channel-1/sequences/-1",
+            43,
+            "sequence has a byte that is no digit",
+        ),
+        ("acks/ports/a-/channels/channel-1/sequences/+", 44, "sequence lacks a digit"),
+        ("x/18446744073709551616/upgradedClient", 21, "upgrade height passes 18446744073709551615"),
+        ("/+/upgradedConsState", 2, "upgrade height lacks a digit"),
+    ] {
+        let said = format!("the {said}, at byte {byte} of the text");
+        assert_eq!(told(Path::read(text.as_bytes()).map(|_| ())), (Some(byte), said), "{text}");
+    }
+}
+
+/// An index's fault is counted from the identifier's start.
+#[test]
+fn faults_of_indexes() {
+    for (id, byte, said) in [
+        ("connection-", 11, "lacks a digit"),
+        ("connection-+", 12, "lacks a digit"),
+        ("connection--1", 11, "has a byte that is no digit"),
+        ("connection-++1", 12, "has a byte that is no digit"),
+        ("connection-18446744073709551616", 30, "passes 18446744073709551615"),
+    ] {
+        let told_so = (Some(byte), format!("the index {said}, at byte {byte} of the text"));
+        assert_eq!(told(validate_connection_identifier(id.as_bytes())), told_so, "{id}");
+        assert_eq!(told(validate_named_u64_index(id.as_bytes(), b"connection")), told_so, "{id}");
+        assert_eq!(told(ConnectionId::try_from(id).map(|_| ())), told_so, "{id}");
+    }
+    let place = Some(Place { number: Number::Index, byte: 8 });
+    let fault = Fault { refusal: Refusal::NoDigits, place };
+    assert_eq!(ChannelId::try_from("channel-"), Err(fault));
+}
+
+/// Every other refusal has no place, and says what it says without one; a book and a key tell the
+/// number alone.
+#[test]
+fn refusals_without_a_place() {
+    for text in ["connections/connection-x", "clients/07-tendermint-4/consensusStates/7--2", "x"] {
+        let fault = Path::read(text.as_bytes()).unwrap_err();
+        assert_eq!(fault, Fault::from(Refusal::NotAPath), "{text}");
+        assert_eq!(fault.to_string(), Refusal::NotAPath.to_string());
+    }
+    assert_eq!(ChannelId::try_from("channel-01"), Err(Refusal::BadPrefix.into()));
+    let text = b"clients/07-tendermint-4/consensusStates/7-x";
+    assert_eq!(key(text, &mut []), Err(Refusal::NotADigit));
+    let mut buffer = [0; book_size(1)];
+    let book = Book::new(&mut buffer).unwrap();
+    assert_eq!(book.lookup(text), Err(Refusal::NotADigit));
 }
 
 /// An upgrade path that is taken renders with any height.
