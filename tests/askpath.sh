@@ -1,7 +1,7 @@
 #!/bin/sh
 # Holds bin/askpath to what it says of itself, with a program and a toolchain that only stand for the real ones: it proves
-# and builds once, asks for the toolchain only where that is needed, and hands its input to the program.
-# Last line: 'N passed, M failed'.
+# and builds once, asks for the toolchain only where that is needed, and hands its argument and its input to the program.
+# Holds what the program says of a refusal to what the C interface says of it. Last line: 'N passed, M failed'.
 . "$(dirname "$0")/lib/start.sh"
 
 mkdir -p "$work/bin" "$work/crates" "$work/tools"
@@ -9,7 +9,7 @@ cp bin/askpath "$work/bin"
 : >"$work/crates.txt"
 for tool in cat chmod cp dirname find mkdir touch; do ln -s "$(command -v "$tool")" "$work/tools"; done
 printf '#!/bin/sh\necho x86_64\n' >"$work/tools/uname"
-printf '#!/bin/sh\necho "the program"\ncat\n' >"$work/program"
+printf '#!/bin/sh\necho "the program" "$@"\ncat\n' >"$work/program"
 chmod +x "$work/tools/uname" "$work/program"
 
 # Calls it with the line `text`, and lays down what it prints, what it says on standard error, and its status.
@@ -48,9 +48,21 @@ check 'calls where a source is newer' 2 "$(grep -c . "$work/calls")"
 rm "$work/tools/rt"
 call
 check 'the second call without the toolchain' 0 "$status"
-call --help
-check 'the status with an argument' 2 "$status"
-check 'what is said of it' 1 "$(grep -c 'takes no arguments' "$work/err")"
+call why
+check 'asked why' 'the program why text' "$(tr '\n' ' ' <"$work/out" | sed 's/ $//')"
+for words in --help '' 'why not'; do
+    if [ "$words" = 'why not' ]; then call why not; else call "$words"; fi
+    check "the status, asked '$words'" 2 "$status"
+    check 'what is said of it' 1 "$(grep -c 'the one word that can be asked is why' "$work/err")"
+    check 'what is printed then' '' "$(cat "$work/out")"
+done
+
+# The case of each refusal of a text in ask, and what crates/hostpath/src/lib.rt says of that refusal.
+for name in TOO_LONG NOT_ASCII NOT_A_PATH NO_DIGITS NOT_A_DIGIT TOO_LARGE; do
+    said=$(sed -n "s|^// $name: ||p" crates/hostpath/src/lib.rt)
+    case=$(echo "$name" | awk -F_ '{ for (i = 1; i <= NF; i++) printf "%s", substr($i, 1, 1) tolower(substr($i, 2)) }')
+    check "what is said of $name" " $said" "$(grep -A 6 "Refusal::$case\b" crates/ask/src/lib.rt | sed -n 's/.*b"\(.*\)".*/\1/p' | head -n 1)"
+done
 
 echo "$passed passed, $failed failed"
 [ "$failed" -eq 0 ]

@@ -1,6 +1,6 @@
 #!/bin/sh
-# Runs the built askpath as a person does: a line is answered before the next is written, however the input is cut, and
-# what cannot be read or written is said. It is run after the program is built. Last line: 'N passed, M failed'.
+# Runs the built askpath as a person does: a line is answered before the next is written, however the input is cut, with the
+# reason where it is asked why, and what cannot be read or written is said. It is run after the program is built. Last line: 'N passed, M failed'.
 . "$(dirname "$0")/../lib/start.sh"
 cd .. || exit 2 # start.sh goes to the folder above this one
 if [ ! -x target/bin/askpath ]; then
@@ -45,6 +45,31 @@ check 'long lines' '20 of 3, 21 of 1, 3, 0 10 E ports/ab' \
     "$(head -n 41 "$work/out" | grep -cx 3) of 3, $(grep -cx 1 "$work/out") of 1, $(tail -n 2 "$work/out" | head -n 1), $(tail -n 1 "$work/out")"
 bin/askpath </dev/null >"$work/out"
 check 'no input' '' "$(cat "$work/out")"
+
+# Asked why: as without it but for what follows the number of a refusal, also where every line is empty and lines are long.
+none='the text fits none of the nineteen kinds of path: hold its words and numbers against the table of kinds'
+printf '%s\n' 'clients/07-tendermint-4/consensusStates/7-x2' /99999999999999999999/upgradedClient '/+/upgradedClient' '' ports/ab |
+    bin/askpath why >"$work/out"
+check 'asked why' "18 42 a byte of the number is no digit: write it in the digits 0 to 9 alone
+19 20 the number is above 18446744073709551615: write a smaller one
+17 2 where a number should stand there is no digit: write one, from 0 to 18446744073709551615
+3 $none
+0 10 E ports/ab" "$(cat "$work/out")"
+bin/askpath why <crates/askpath/stdin >"$work/out"
+check 'the lines of the program, asked why' "$(cat crates/askpath/stdout)" \
+    "$(sed -E 's/^(1[789]|[1-3]) .*/\1/' "$work/out")"
+yes '' | head -n 200000 | bin/askpath why >"$work/out"
+check 'empty lines, asked why' 200000 "$(grep -cx "3 $none" "$work/out")"
+awk 'BEGIN { for (i = 1; i <= 40; i++) printf "%s%0*d\n", "x/", i % 2 ? 4094 : 4095, 0 }' | bin/askpath why >"$work/out"
+check 'long lines, asked why' '20 of 3, 20 of 1' "$(grep -cx "3 $none" "$work/out") of 3, $(grep -c '^1 the text' "$work/out") of 1"
+if [ "$(uname -m)" = x86_64 ]; then
+    for words in what whyy '' 'why not'; do
+        if [ "$words" = 'why not' ]; then set -- why not; else set -- "$words"; fi
+        echo ports/ab | target/bin/askpath "$@" >"$work/out" 2>"$work/err"
+        check "what the program itself says, asked '$words'" '1 line, 0 answers' \
+            "$(grep -c 'the one word that can be asked is why' "$work/err") line, $(grep -c . "$work/out") answers"
+    done
+fi
 
 # A folder cannot be read as a file: that is no end of the input.
 bin/askpath <tests >"$work/out" 2>"$work/err"

@@ -1,11 +1,14 @@
--- What is printed of a line: the refusal number; or `0`, the kind, `E` or `L`, and the rendering, with single spaces.
+-- What is printed of a line: the refusal number; or `0`, the kind, `E` or `L`, and the rendering, with single spaces. Where it
+-- is asked why, the place of the fault, if it has one, and a sentence for a customer follow the refusal number.
 -- Assumes nothing.
-use Prim.Native.Nat.{ℕ}
-use mathlib.Core.Bool.{Bool, cond}
+use Prim.Native.Nat.{ℕ, _*_}
+use mathlib.Core.Bool.{Bool, true, false, cond}
 use mathlib.Core.List.{List, [], _∷_, _++_}
 use Rattle.text.specs.Bytes.{bytes}
 use Rattle.text.specs.Number.{decimal}
 use Rattle.path.specs.declared.PathView.{PathView}
+use Rattle.path.specs.declared.Refusal.{Refusal}
+use Rattle.path.specs.declared.Refusal.the-variants.{TooLong, NotAscii, NotAPath, NoDigits, NotADigit, TooLarge}
 use Rattle.path.specs.declared.Reading.{Reading}
 use Rattle.path.specs.declared.Reading.the-variants.{Read, Refused}
 use Rattle.path.specs.Kinds.{carried}
@@ -28,9 +31,35 @@ viewText t v = render (partsOf (v .kind)) (carried (shownOf t (v .first)) (shown
 abbrev pub viewAnswer : List ℕ → PathView → Bool → List ℕ
 viewAnswer t v e = head (v .kind) e ++ (viewText t v ++ 10 ∷ [])
 
-abbrev pub printed : List ℕ → Reading → List ℕ
-printed t (Read p e) = head (kindOf p) e ++ (renderPath t p ++ 10 ∷ [])
-printed t (Refused w) = decimal (refusalOf w) ++ 10 ∷ []
+-- a place, and what follows it
+abbrev pub placed : ℕ → List ℕ → List ℕ
+placed i s = bytes " " ++ (decimal i ++ s)
 
-unfoldable pub lineAnswer : List ℕ → List ℕ
-lineAnswer t = printed t (readPath t)
+-- the place, where there is one, and the sentence for a customer
+unfoldable pub reason : Refusal → List ℕ
+reason TooLong = bytes " the text, or the path that it makes, has more than 4,096 bytes: shorten it"
+reason NotAscii = bytes " a byte of the text is 128 or more: write the text in ASCII alone"
+reason NotAPath = bytes " the text fits none of the nineteen kinds of path: hold its words and numbers against the table of kinds"
+reason (NoDigits i) = placed i (bytes " where a number should stand there is no digit: write one, from 0 to 18446744073709551615")
+reason (NotADigit i) = placed i (bytes " a byte of the number is no digit: write it in the digits 0 to 9 alone")
+reason (TooLarge i) = placed i (bytes " the number is above 18446744073709551615: write a smaller one")
+
+-- what follows the number of a refusal
+abbrev pub saying : Bool → Refusal → List ℕ
+saying why w = cond why (reason w) []
+
+-- what is printed of a text that is refused
+abbrev pub refusalAnswer : Bool → Refusal → List ℕ
+refusalAnswer why w = decimal (refusalOf w) ++ (saying why w ++ 10 ∷ [])
+
+abbrev pub printed : Bool → List ℕ → Reading → List ℕ
+printed why t (Read p e) = head (kindOf p) e ++ (renderPath t p ++ 10 ∷ [])
+printed why t (Refused w) = refusalAnswer why w
+
+unfoldable pub lineAnswer : Bool → List ℕ → List ℕ
+lineAnswer why t = printed why t (readPath t)
+
+-- how much longer n answers are at most where it is asked why
+unfoldable pub extra : Bool → ℕ → ℕ
+extra true n = 128 * n
+extra false n = 0

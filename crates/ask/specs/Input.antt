@@ -1,4 +1,4 @@
--- What is printed of a whole input, and of what one read of it brings after another.
+-- What is printed of a whole input, and of what one read of it brings after another, in either manner.
 -- Assumes nothing.
 use Prim.Native.Nat.{ℕ, _-_}
 use mathlib.Core.Bool.{Bool, true, false, cond}
@@ -14,34 +14,34 @@ abbrev pub part : ℕ → ℕ → List ℕ → List ℕ
 part a e l = take (e - a) (drop a l)
 
 -- a last line counts if it is not empty
-unfoldable pub lastAnswer : List ℕ → List ℕ
-lastAnswer [] = []
-lastAnswer (b ∷ line) = lineAnswer (b ∷ line)
+unfoldable pub lastAnswer : Bool → List ℕ → List ℕ
+lastAnswer why [] = []
+lastAnswer why (b ∷ line) = lineAnswer why (b ∷ line)
 
 -- the answers to lines of which the last has no end
-unfoldable pub answers : List (List ℕ) → List ℕ
-answers [] = []
-answers (line ∷ []) = lastAnswer line
-answers (line ∷ (next ∷ lines)) = lineAnswer line ++ answers (next ∷ lines)
+unfoldable pub answers : Bool → List (List ℕ) → List ℕ
+answers why [] = []
+answers why (line ∷ []) = lastAnswer why line
+answers why (line ∷ (next ∷ lines)) = lineAnswer why line ++ answers why (next ∷ lines)
 
 -- a line ends at byte 10
-unfoldable pub wholeAnswer : List ℕ → List ℕ
-wholeAnswer s = answers (cutAt 10 s)
+unfoldable pub wholeAnswer : Bool → List ℕ → List ℕ
+wholeAnswer why s = answers why (cutAt 10 s)
 
 -- ---- the same in steps, each over the line that has not ended and the bytes that come after
 -- what a byte makes of the line before it: its answer, where the byte ends it
-unfoldable pub answerAt : Bool → List ℕ → List ℕ
-answerAt true line = lineAnswer line
-answerAt false line = []
+unfoldable pub answerAt : Bool → Bool → List ℕ → List ℕ
+answerAt why true line = lineAnswer why line
+answerAt why false line = []
 
 -- and the line that has then not ended
 abbrev pub lineAfter : ℕ → List ℕ → List ℕ
 lineAfter b line = cond (eqb b 10) [] (line ++ (b ∷ []))
 
 -- the answers to the lines that end in s
-unfoldable pub endedAnswers : List ℕ → List ℕ → List ℕ
-endedAnswers line [] = []
-endedAnswers line (b ∷ s) = answerAt (eqb b 10) line ++ endedAnswers (lineAfter b line) s
+unfoldable pub endedAnswers : Bool → List ℕ → List ℕ → List ℕ
+endedAnswers why line [] = []
+endedAnswers why line (b ∷ s) = answerAt why (eqb b 10) line ++ endedAnswers why (lineAfter b line) s
 
 -- the line that has not ended after s
 unfoldable pub unfinished : List ℕ → List ℕ → List ℕ
@@ -53,12 +53,12 @@ unfoldable pub held : List ℕ → List ℕ → List ℕ
 held line s = take 4097 (unfinished line s)
 
 -- what is printed where the input comes in these reads: the answers of each step, then the last line
-unfoldable pub stepsAnswer : List ℕ → List (List ℕ) → List ℕ
-stepsAnswer line [] = lastAnswer line
-stepsAnswer line (s ∷ reads) = endedAnswers line s ++ stepsAnswer (held line s) reads
+unfoldable pub stepsAnswer : Bool → List ℕ → List (List ℕ) → List ℕ
+stepsAnswer why line [] = lastAnswer why line
+stepsAnswer why line (s ∷ reads) = endedAnswers why line s ++ stepsAnswer why (held line s) reads
 
 -- what a step does over two lent buffers: `from` bytes of the input are held, and those up to `end` are new; the answers
 -- are the first `used` bytes of the output, and what is then held is the first `kept` of the input
-pub record Stepped (input out : List ℕ) (from end kept used : ℕ) (input′ out′ : List ℕ) : Type 0 where
-  pub answered : Wrote out 0 (endedAnswers (part 0 from input) (part from end input)) used out′
+pub record Stepped (why : Bool) (input out : List ℕ) (from end kept used : ℕ) (input′ out′ : List ℕ) : Type 0 where
+  pub answered : Wrote out 0 (endedAnswers why (part 0 from input) (part from end input)) used out′
   pub holds : Wrote input 0 (held (part 0 from input) (part from end input)) kept input′

@@ -1,20 +1,21 @@
--- Laws of `Input`: however the input is cut into reads, the steps print what the whole input prints.
+-- Laws of `Input`: however the input is cut into reads, the steps print what the whole input prints; and how long that is.
 -- Assumes nothing.
-use Prim.Native.Nat.{ℕ, zero, suc, _≤_, _<_, min}
+use Prim.Native.Nat.{ℕ, zero, suc, _+_, _*_, _≤_, _<_, min}
 use mathlib.Core.Path.{_≡_, refl, sym, ap, _∙_}
 use mathlib.Core.Bool.{Bool, true, false, cond}
 use mathlib.Core.List.{List, [], _∷_, _++_, append-assoc, append-nil, flatten}
 use native.Mathlib.Omega.{arith}
 use lib.Dec.{eqb, ltb}
-use lib.ListN.{length, take, length-take}
+use lib.ListN.{length, take, length-take, length-append}
 use lib.Seq.{take-all, take-take}
 use borrow.Author.Tests.{lt-ltb, ltb-true, ltb-false}
-use Rattle.text.specs.Number.{decimal}
 use Rattle.text.specs.Put.{Wrote}
+use Rattle.path.specs.declared.Refusal.the-variants.{TooLong}
 use Rattle.path.specs.Read.{readPath}
 use Rattle.path.specs.Text.{cutAt, cutStep, onto, joinBy}
 use Rattle.path.specs.TextLaws.{join-cut}
-use Rattle.ask.specs.Answer.{lineAnswer}
+use Rattle.ask.specs.Answer.{refusalAnswer, lineAnswer, extra}
+use Rattle.ask.specs.AnswerLaws.{answer-length, extra-more, extra-one}
 use Rattle.ask.specs.Input.{lastAnswer, answers, wholeAnswer, answerAt, lineAfter, endedAnswers, unfinished, held, stepsAnswer}
 
 -- ---- the answer to a line depends only on what would be held of it
@@ -24,25 +25,25 @@ Alike l m = take 4097 l ≡ take 4097 m
 alike-length : (l m : List ℕ) → Alike l m → min 4097 (length l) ≡ min 4097 (length m)
 alike-length l m h = sym (length-take 4097 l) ∙ ap length h ∙ length-take 4097 m
 
-too-long : (t : List ℕ) → 4096 < length t → lineAnswer t ≡ decimal 1 ++ 10 ∷ []
+too-long : (why : Bool) (t : List ℕ) → 4096 < length t → lineAnswer why t ≡ refusalAnswer why TooLong
 unfolding lineAnswer readPath
-too-long t h = rw (lt-ltb 4096 (length t) h)
+too-long why t h = rw (lt-ltb 4096 (length t) h)
 
-line-front : (l m : List ℕ) → Alike l m → lineAnswer l ≡ lineAnswer m
-line-front l m h = go (ltb 4096 (length l)) refl (alike-length l m h)
+line-front : (why : Bool) (l m : List ℕ) → Alike l m → lineAnswer why l ≡ lineAnswer why m
+line-front why l m h = go (ltb 4096 (length l)) refl (alike-length l m h)
   where
-    go : (v : Bool) → ltb 4096 (length l) ≡ v → min 4097 (length l) ≡ min 4097 (length m) → lineAnswer l ≡ lineAnswer m
-    go true e n = too-long l (ltb-true 4096 (length l) e) ∙ sym (too-long m (omega (arith, ltb-true 4096 (length l) e)))
+    go : (v : Bool) → ltb 4096 (length l) ≡ v → min 4097 (length l) ≡ min 4097 (length m) → lineAnswer why l ≡ lineAnswer why m
+    go true e n = too-long why l (ltb-true 4096 (length l) e) ∙ sym (too-long why m (omega (arith, ltb-true 4096 (length l) e)))
     go false e n =
         let k = ltb-false 4096 (length l) e in
-        ap lineAnswer (sym (take-all 4097 l (omega arith)) ∙ h ∙ take-all 4097 m (omega arith))
+        ap (lineAnswer why) (sym (take-all 4097 l (omega arith)) ∙ h ∙ take-all 4097 m (omega arith))
 
-last-front : (l m : List ℕ) → Alike l m → lastAnswer l ≡ lastAnswer m
+last-front : (why : Bool) (l m : List ℕ) → Alike l m → lastAnswer why l ≡ lastAnswer why m
 unfolding lastAnswer
-last-front [] [] h = refl
-last-front [] (b ∷ m) h = absurd (omega (arith, alike-length [] (b ∷ m) h))
-last-front (b ∷ l) [] h = absurd (omega (arith, alike-length (b ∷ l) [] h))
-last-front (b ∷ l) (a ∷ m) h = line-front (b ∷ l) (a ∷ m) h
+last-front why [] [] h = refl
+last-front why [] (b ∷ m) h = absurd (omega (arith, alike-length [] (b ∷ m) h))
+last-front why (b ∷ l) [] h = absurd (omega (arith, alike-length (b ∷ l) [] h))
+last-front why (b ∷ l) (a ∷ m) h = line-front why (b ∷ l) (a ∷ m) h
 
 front-append : (n : ℕ) (l m x : List ℕ) → take n l ≡ take n m → take n (l ++ x) ≡ take n (m ++ x)
 front-append zero l m x h = refl
@@ -61,13 +62,13 @@ after-front b l m h = go (eqb b 10)
     go true = refl
     go false = front-append 4097 l m (b ∷ []) h
 
-ended-front : (s l m : List ℕ) → Alike l m → endedAnswers l s ≡ endedAnswers m s
+ended-front : (why : Bool) (s l m : List ℕ) → Alike l m → endedAnswers why l s ≡ endedAnswers why m s
 unfolding endedAnswers answerAt
-ended-front [] l m h = refl
-ended-front (b ∷ s) l m h = go (eqb b 10) (ended-front s (lineAfter b l) (lineAfter b m) (after-front b l m h))
+ended-front why [] l m h = refl
+ended-front why (b ∷ s) l m h = go (eqb b 10) (ended-front why s (lineAfter b l) (lineAfter b m) (after-front b l m h))
   where
-    go : (v : Bool) → endedAnswers (lineAfter b l) s ≡ endedAnswers (lineAfter b m) s → answerAt v l ++ endedAnswers (lineAfter b l) s ≡ answerAt v m ++ endedAnswers (lineAfter b m) s
-    go true k = rw (k, line-front l m h)
+    go : (v : Bool) → endedAnswers why (lineAfter b l) s ≡ endedAnswers why (lineAfter b m) s → answerAt why v l ++ endedAnswers why (lineAfter b l) s ≡ answerAt why v m ++ endedAnswers why (lineAfter b m) s
+    go true k = rw (k, line-front why l m h)
     go false k = k
 
 unfinished-front : (s l m : List ℕ) → Alike l m → Alike (unfinished l s) (unfinished m s)
@@ -76,10 +77,10 @@ unfinished-front [] l m h = h
 unfinished-front (b ∷ s) l m h = unfinished-front s (lineAfter b l) (lineAfter b m) (after-front b l m h)
 
 -- ---- bytes that come in two parts
-pub ended-append : (s r line : List ℕ) → endedAnswers line (s ++ r) ≡ endedAnswers line s ++ endedAnswers (unfinished line s) r
+pub ended-append : (why : Bool) (s r line : List ℕ) → endedAnswers why line (s ++ r) ≡ endedAnswers why line s ++ endedAnswers why (unfinished line s) r
 unfolding endedAnswers unfinished
-ended-append [] r line = refl
-ended-append (b ∷ s) r line = rw (ended-append s r (lineAfter b line), append-assoc)
+ended-append why [] r line = refl
+ended-append why (b ∷ s) r line = rw (ended-append why s r (lineAfter b line), append-assoc)
 
 pub unfinished-append : (s r line : List ℕ) → unfinished line (s ++ r) ≡ unfinished (unfinished line s) r
 unfolding unfinished
@@ -106,30 +107,41 @@ cut-some s e =
     let z : _≡_ {A = ℕ} 1 0 = ap length (rw n at e) in
     omega arith
 
-whole-from : (s line : List ℕ) → answers (onLine line (cutAt 10 s)) ≡ endedAnswers line s ++ lastAnswer (unfinished line s)
+whole-from : (why : Bool) (s line : List ℕ) → answers why (onLine line (cutAt 10 s)) ≡ endedAnswers why line s ++ lastAnswer why (unfinished line s)
 unfolding answers cutAt endedAnswers unfinished answerAt
-whole-from [] line = rw append-nil
-whole-from (b ∷ s) line = go (eqb b 10) (cutAt 10 s) refl (whole-from s (lineAfter b line))
+whole-from why [] line = rw append-nil
+whole-from why (b ∷ s) line = go (eqb b 10) (cutAt 10 s) refl (whole-from why s (lineAfter b line))
   where
-    go : (v : Bool) (cs : List (List ℕ)) → cutAt 10 s ≡ cs → answers (onLine (cond v [] (line ++ (b ∷ []))) cs) ≡ endedAnswers (cond v [] (line ++ (b ∷ []))) s ++ lastAnswer (unfinished (cond v [] (line ++ (b ∷ []))) s)
-        → answers (onLine line (cutStep v b cs)) ≡ (answerAt v line ++ endedAnswers (cond v [] (line ++ (b ∷ []))) s) ++ lastAnswer (unfinished (cond v [] (line ++ (b ∷ []))) s)
+    go : (v : Bool) (cs : List (List ℕ)) → cutAt 10 s ≡ cs → answers why (onLine (cond v [] (line ++ (b ∷ []))) cs) ≡ endedAnswers why (cond v [] (line ++ (b ∷ []))) s ++ lastAnswer why (unfinished (cond v [] (line ++ (b ∷ []))) s)
+        → answers why (onLine line (cutStep v b cs)) ≡ (answerAt why v line ++ endedAnswers why (cond v [] (line ++ (b ∷ []))) s) ++ lastAnswer why (unfinished (cond v [] (line ++ (b ∷ []))) s)
     go true [] e h = absurd (cut-some s e)
     go true (c ∷ cs) e h = rw (append-nil, h, append-assoc)
-    go false cs e h = ap answers (on-onto line b cs) ∙ h
+    go false cs e h = ap (answers why) (on-onto line b cs) ∙ h
 
 -- however the input is cut into reads
-steps-from : (reads : List (List ℕ)) (l m : List ℕ) → Alike l m → stepsAnswer l reads ≡ endedAnswers m (flatten reads) ++ lastAnswer (unfinished m (flatten reads))
+steps-from : (why : Bool) (reads : List (List ℕ)) (l m : List ℕ) → Alike l m → stepsAnswer why l reads ≡ endedAnswers why m (flatten reads) ++ lastAnswer why (unfinished m (flatten reads))
 unfolding stepsAnswer held flatten endedAnswers unfinished
-steps-from [] l m h = last-front l m h
-steps-from (s ∷ reads) l m h =
-    let k = steps-from reads (held l s) (unfinished m s) (take-take 4097 4097 (unfinished l s) (omega arith) ∙ unfinished-front s l m h) in
-    rw (ended-front s l m h, k, ended-append s (flatten reads) m, unfinished-append s (flatten reads) m, append-assoc)
+steps-from why [] l m h = last-front why l m h
+steps-from why (s ∷ reads) l m h =
+    let k = steps-from why reads (held l s) (unfinished m s) (take-take 4097 4097 (unfinished l s) (omega arith) ∙ unfinished-front s l m h) in
+    rw (ended-front why s l m h, k, ended-append why s (flatten reads) m, unfinished-append s (flatten reads) m, append-assoc)
 
-pub any-cutting : (reads : List (List ℕ)) → stepsAnswer [] reads ≡ wholeAnswer (flatten reads)
+pub any-cutting : (why : Bool) (reads : List (List ℕ)) → stepsAnswer why [] reads ≡ wholeAnswer why (flatten reads)
 unfolding wholeAnswer
-any-cutting reads = steps-from reads [] [] refl ∙ sym (whole-from (flatten reads) []) ∙ ap answers (on-none (cutAt 10 (flatten reads)) (cut-some (flatten reads)))
+any-cutting why reads = steps-from why reads [] [] refl ∙ sym (whole-from why (flatten reads) []) ∙ ap (answers why) (on-none (cutAt 10 (flatten reads)) (cut-some (flatten reads)))
 
 -- what is held is short
 pub held-short : (line s : List ℕ) {l o : List ℕ} {r : ℕ} → Wrote l 0 (held line s) r o → r ≤ 4097
 unfolding held
 held-short line s w = omega (arith, w .next, length-take 4097 (unfinished line s))
+
+-- ---- each byte that comes ends a line at most: the answers to what it ends
+pub ended-length : (why : Bool) (s line : List ℕ) → length (endedAnswers why line s) + 2 * length (unfinished line s) ≤ 2 * (length line + length s) + extra why (length s)
+unfolding endedAnswers unfinished answerAt
+ended-length why [] line = omega arith
+ended-length why (b ∷ s) line = go (eqb b 10) (ended-length why s (lineAfter b line))
+  where
+    go : (v : Bool) → length (endedAnswers why (cond v [] (line ++ (b ∷ []))) s) + 2 * length (unfinished (cond v [] (line ++ (b ∷ []))) s) ≤ 2 * (length (cond v [] (line ++ (b ∷ []))) + length s) + extra why (length s)
+        → length (answerAt why v line ++ endedAnswers why (cond v [] (line ++ (b ∷ []))) s) + 2 * length (unfinished (cond v [] (line ++ (b ∷ []))) s) ≤ 2 * (length line + suc (length s)) + extra why (suc (length s))
+    go true h = omega (arith, length-append (lineAnswer why line) (endedAnswers why [] s), answer-length why line, extra-one why (length s))
+    go false h = omega (arith, length-append line (b ∷ []), extra-more why (length s) (suc (length s)) (omega arith))

@@ -2,6 +2,7 @@
 -- Assumes nothing.
 use Prim.Native.Nat.{ℕ, _-_}
 use mathlib.Core.Path.{_≡_, _∙_}
+use mathlib.Core.Bool.{Bool}
 use mathlib.Core.List.{List, flatten}
 use native.Mathlib.Omega.{arith}
 use lib.ListN.{length, drop}
@@ -18,13 +19,13 @@ written {l} {o} {r} w h =
     let n : r - 0 ≡ length w = omega (arith, h .next) in
     rw (n, h .after, put-zero l w) (take-append-seam w (drop (length w) l))
 
-run-steps : {input : List ℕ} {from : ℕ} {rs : List (List ℕ)} {printed : List ℕ} → Run input from rs printed → printed ≡ stepsAnswer (part 0 from input) rs
+run-steps : {why : Bool} {input : List ℕ} {from : ℕ} {rs : List (List ℕ)} {printed : List ℕ} → Run why input from rs printed → printed ≡ stepsAnswer why (part 0 from input) rs
 unfolding stepsAnswer
-run-steps (ends {input} {from = from} w) = written (lastAnswer (part 0 from input)) w
-run-steps (reads {input = input} {from = from} {end = end} f b step run) =
+run-steps {why} (ends {input = input} {from = from} w) = written (lastAnswer why (part 0 from input)) w
+run-steps {why} (reads {input = input} {from = from} {end = end} f b step run) =
     let line = part 0 from input in
     let new = part from end input in
-    rw (← f, ← b, run-steps run, written (endedAnswers line new) (step .answered), written (held line new) (step .holds))
+    rw (← f, ← b, run-steps run, written (endedAnswers why line new) (step .answered), written (held line new) (step .holds))
 
-pub run-prints : {input : List ℕ} {rs : List (List ℕ)} {printed : List ℕ} → Run input 0 rs printed → printed ≡ wholeAnswer (flatten rs)
-run-prints run = run-steps run ∙ any-cutting _
+pub run-prints : {why : Bool} {input : List ℕ} {rs : List (List ℕ)} {printed : List ℕ} → Run why input 0 rs printed → printed ≡ wholeAnswer why (flatten rs)
+run-prints run = run-steps run ∙ any-cutting _ _

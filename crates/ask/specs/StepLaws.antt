@@ -7,15 +7,15 @@ use mathlib.Core.List.{List, [], _∷_, _++_, append-nil}
 use native.Mathlib.Numerals.{add-one}
 use native.Mathlib.Omega.{arith}
 use lib.Dec.{eqb, leb}
-use lib.ListN.{length, take, drop, getD, set, length-take, length-drop}
+use lib.ListN.{length, take, drop, getD, set, length-take, length-drop, length-append}
 use lib.Seq.{take-all, take-take, take-suc, getD-drop, getD-append-add, length-take-le}
 use borrow.Author.Tests.{leb-true, leb-false}
 use Rattle.text.specs.Put.{put, Wrote}
 use Rattle.text.specs.PutLaws.{put-set, put-then, put-nil, put-zero, length-put, both}
-use Rattle.ask.specs.Answer.{lineAnswer}
-use Rattle.ask.specs.AnswerLaws.{answer-length}
+use Rattle.ask.specs.Answer.{lineAnswer, extra}
+use Rattle.ask.specs.AnswerLaws.{answer-length, extra-more}
 use Rattle.ask.specs.Input.{part, lastAnswer, answerAt, lineAfter, endedAnswers, unfinished, held, Stepped}
-use Rattle.ask.specs.InputLaws.{ended-append, unfinished-append}
+use Rattle.ask.specs.InputLaws.{ended-append, unfinished-append, ended-length}
 
 part-none : (a : ℕ) (l : List ℕ) → part a a l ≡ []
 part-none a l = let e : a - a ≡ 0 = omega arith in rw e
@@ -30,64 +30,80 @@ part-more a i l h k =
     rw (n, take-suc (drop a l) (i - a) 0 (simp length-drop (omega arith)), getD-drop a l (i - a) 0, m)
 
 -- ---- one byte more
-ended-one : (line s : List ℕ) (b : ℕ) → endedAnswers line (s ++ (b ∷ [])) ≡ endedAnswers line s ++ answerAt (eqb b 10) (unfinished line s)
+ended-one : (why : Bool) (line s : List ℕ) (b : ℕ) → endedAnswers why line (s ++ (b ∷ [])) ≡ endedAnswers why line s ++ answerAt why (eqb b 10) (unfinished line s)
 unfolding endedAnswers
-ended-one line s b = ended-append s (b ∷ []) line ∙ rw append-nil
+ended-one why line s b = ended-append why s (b ∷ []) line ∙ rw append-nil
 
 unfinished-one : (line s : List ℕ) (b : ℕ) → unfinished line (s ++ (b ∷ [])) ≡ lineAfter b (unfinished line s)
 unfolding unfinished
 unfinished-one line s b = unfinished-append s (b ∷ []) line
 
 -- what the bytes before i have left: `out` with the answers, and the line that has not ended from `start` on
-pub record Before (input out₀ : List ℕ) (from i start used : ℕ) (out : List ℕ) : Type 0 where
+pub record Before (why : Bool) (input out₀ : List ℕ) (from i start used : ℕ) (out : List ℕ) : Type 0 where
   pub line : part start i input ≡ unfinished (part 0 from input) (part from i input)
-  pub wrote : Wrote out₀ 0 (endedAnswers (part 0 from input) (part from i input)) used out
+  pub wrote : Wrote out₀ 0 (endedAnswers why (part 0 from input) (part from i input)) used out
 
-pub before-first : (input out : List ℕ) (from : ℕ) → Before input out from from 0 0 out
+pub before-first : (why : Bool) (input out : List ℕ) (from : ℕ) → Before why input out from from 0 0 out
 unfolding endedAnswers unfinished
-before-first input out from = record { line = rw (part-none from input); wrote = rw (part-none from input) record { next = refl; after = sym (put-nil out 0); room = omega arith } }
+before-first why input out from = record { line = rw (part-none from input); wrote = rw (part-none from input) record { next = refl; after = sym (put-nil out 0); room = omega arith } }
 
 -- the ways out where byte i is taken
-module _ (input out : List ℕ) (start i used : ℕ) (within : (start ≤ i) × (i < length input)) (room : (used ≤ 2 * start) × (2 * (i + 1) ≤ length out)) where
+module _ (why : Bool) (input out : List ℕ) (start i used : ℕ) (within : (start ≤ i) × (i < length input)) (room : used + length (answerAt why (eqb (getD input i 0) 10) (part start i input)) ≤ length out) where
   abbrev Taken : ℕ → ℕ → List ℕ → Type 0
-  Taken s r o = ((s ≤ i + 1) × (r ≤ 2 * s)) × ((part s (i + 1) input ≡ lineAfter (getD input i 0) (part start i input)) × Wrote out used (answerAt (eqb (getD input i 0) 10) (part start i input)) r o)
+  Taken s r o = (s ≤ i + 1) × ((part s (i + 1) input ≡ lineAfter (getD input i 0) (part start i input)) × Wrote out used (answerAt why (eqb (getD input i 0) 10) (part start i input)) r o)
 
-  pub answer-fits : used + length (lineAnswer (part start i input)) ≤ 2 * (i + 1)
-  answer-fits = omega (arith, answer-length (part start i input), length-part start i input (omega arith) (omega arith))
+  pub answer-fits : eqb (getD input i 0) 10 ≡ true → used + length (lineAnswer why (part start i input)) ≤ length out
+  unfolding answerAt
+  answer-fits e = rw e at room
 
   pub taken-inside : eqb (getD input i 0) 10 ≡ false → Taken start used out
   unfolding answerAt
-  taken-inside e = rw e ((omega arith, omega arith), (part-more start i input (omega arith) (omega arith), record { next = omega arith; after = sym (put-nil out used); room = omega arith }))
+  taken-inside e = (omega arith, rw e (part-more start i input (omega arith) (omega arith), record { next = omega arith; after = sym (put-nil out used); room = rw e at room }))
 
-  pub taken-end : eqb (getD input i 0) 10 ≡ true → (r : ℕ) (o : List ℕ) → r ≡ used + length (lineAnswer (part start i input)) → o ≡ put out used (lineAnswer (part start i input)) → Taken (i + 1) r o
+  pub taken-end : eqb (getD input i 0) 10 ≡ true → (r : ℕ) (o : List ℕ) → r ≡ used + length (lineAnswer why (part start i input)) → o ≡ put out used (lineAnswer why (part start i input)) → Taken (i + 1) r o
   unfolding answerAt
-  taken-end e r o n p = rw e ((omega arith, omega (arith, answer-fits)), (part-none (i + 1) input, record { next = n; after = p; room = omega (arith, answer-fits) }))
+  taken-end e r o n p = (omega arith, rw e (part-none (i + 1) input, record { next = n; after = p; room = answer-fits e }))
 
-pub before-next : (input out₀ out : List ℕ) (from i start used : ℕ) → from ≤ i → i < length input → Before input out₀ from i start used out
-    → (s r : ℕ) (o : List ℕ) → part s (i + 1) input ≡ lineAfter (getD input i 0) (part start i input) → Wrote out used (answerAt (eqb (getD input i 0) 10) (part start i input)) r o → Before input out₀ from (i + 1) s r o
-before-next input out₀ out from i start used h k b s r o e w =
+-- the answers to all that comes before place e fit
+pub ended-fit : (why : Bool) (input : List ℕ) (from i end room : ℕ) → from ≤ i → i ≤ end → end ≤ length input → 2 * end + extra why (end - from) ≤ room → length (endedAnswers why (part 0 from input) (part from i input)) ≤ room
+ended-fit why input from i end room h k m r =
+    let a = length-part 0 from input (omega arith) (omega arith) in
+    let b = length-part from i input h (omega arith) in
+    let x : extra why (length (part from i input)) ≤ extra why (end - from) = rw b (extra-more why (i - from) (end - from) (omega arith)) in
+    omega (arith, ended-length why (part from i input) (part 0 from input))
+
+pub before-fits : (why : Bool) (input out₀ out : List ℕ) (from i end start used : ℕ) → from ≤ i → i < end → end ≤ length input → 2 * end + extra why (end - from) ≤ length out₀ → Before why input out₀ from i start used out
+    → used + length (answerAt why (eqb (getD input i 0) 10) (part start i input)) ≤ length out₀
+before-fits why input out₀ out from i end start used h k m r b =
+    let n : endedAnswers why (part 0 from input) (part from (i + 1) input) ≡ endedAnswers why (part 0 from input) (part from i input) ++ answerAt why (eqb (getD input i 0) 10) (part start i input) =
+    rw (part-more from i input h (omega arith), b .line) (ended-one why (part 0 from input) (part from i input) (getD input i 0)) in
+    omega (arith, ended-fit why input from (i + 1) end (length out₀) (omega arith) (omega arith) m r, b .wrote .next, ap length n, length-append (endedAnswers why (part 0 from input) (part from i input)) (answerAt why (eqb (getD input i 0) 10) (part start i input)))
+
+pub before-next : (why : Bool) (input out₀ out : List ℕ) (from i start used : ℕ) → from ≤ i → i < length input → Before why input out₀ from i start used out
+    → (s r : ℕ) (o : List ℕ) → part s (i + 1) input ≡ lineAfter (getD input i 0) (part start i input) → Wrote out used (answerAt why (eqb (getD input i 0) 10) (part start i input)) r o → Before why input out₀ from (i + 1) s r o
+before-next why input out₀ out from i start used h k b s r o e w =
     let more = part-more from i input h k in
     record {
       line = rw more (e ∙ ap (lineAfter (getD input i 0)) (b .line) ∙ sym (unfinished-one (part 0 from input) (part from i input) (getD input i 0)));
-      wrote = rw (more, ended-one (part 0 from input) (part from i input) (getD input i 0), ← b .line) (both (b .wrote) w);
+      wrote = rw (more, ended-one why (part 0 from input) (part from i input) (getD input i 0), ← b .line) (both (b .wrote) w);
     }
 
-pub before-end : (input out₀ out : List ℕ) (from i end start used : ℕ) → i ≡ end → Before input out₀ from i start used out
+pub before-end : (why : Bool) (input out₀ out : List ℕ) (from i end start used : ℕ) → i ≡ end → Before why input out₀ from i start used out
     → (r : ℕ) (o : List ℕ) → Wrote input 0 (take 4097 (part start end input)) r o
-    → Stepped input out₀ from end r used o out
+    → Stepped why input out₀ from end r used o out
 unfolding held
-before-end input out₀ out from i end start used q b r o w = record { answered = rw q at (b .wrote); holds = rw (← rw q at (b .line)) w }
+before-end why input out₀ out from i end start used q b r o w = record { answered = rw q at (b .wrote); holds = rw (← rw q at (b .line)) w }
 
 -- the ways out with the last line
-pub last-none : (line out : List ℕ) → length line ≡ 0 → Wrote out 0 (lastAnswer line) 0 out
+pub last-none : (why : Bool) (line out : List ℕ) → length line ≡ 0 → Wrote out 0 (lastAnswer why line) 0 out
 unfolding lastAnswer
-last-none [] out h = record { next = refl; after = sym (put-nil out 0); room = omega arith }
-last-none (b ∷ line) out h = absurd (omega arith)
+last-none why [] out h = record { next = refl; after = sym (put-nil out 0); room = omega arith }
+last-none why (b ∷ line) out h = absurd (omega arith)
 
-pub last-some : (line out : List ℕ) → (length line ≡ 0 → ⊥) → 2 * (length line + 1) ≤ length out → (r : ℕ) (o : List ℕ) → r ≡ 0 + length (lineAnswer line) → o ≡ put out 0 (lineAnswer line) → Wrote out 0 (lastAnswer line) r o
+pub last-some : (why : Bool) (line out : List ℕ) → (length line ≡ 0 → ⊥) → 2 * (length line + 1) + extra why 1 ≤ length out → (r : ℕ) (o : List ℕ) → r ≡ 0 + length (lineAnswer why line) → o ≡ put out 0 (lineAnswer why line) → Wrote out 0 (lastAnswer why line) r o
 unfolding lastAnswer
-last-some [] out h m r o n p = absurd (h refl)
-last-some (b ∷ line) out h m r o n p = record { next = n; after = p; room = omega (arith, answer-length (b ∷ line)) }
+last-some why [] out h m r o n p = absurd (h refl)
+last-some why (b ∷ line) out h m r o n p = record { next = n; after = p; room = omega (arith, answer-length why (b ∷ line)) }
 
 -- ---- bytes moved to the front, one after the other
 module _ (l₀ l : List ℕ) (start i : ℕ) (h : start + i < length l₀) (e : l ≡ put l₀ 0 (take i (drop start l₀))) where

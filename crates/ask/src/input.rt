@@ -1,10 +1,11 @@
 // What the program askpath prints of what one read brings after another, and of the last line.
 use crate::answer_line;
 ghost use mathlib.Core.Path.{_≡_};
-ghost use Prim.Native.Nat.{_+_, _*_, _≤_, _<_, min};
+ghost use Prim.Native.Nat.{_+_, _-_, _*_, _≤_, _<_, min};
 ghost use lib.Dec.{eqb};
 ghost use lib.ListN.{length, take, getD};
 ghost use Rattle.text.specs.Put.{Wrote};
+ghost use Rattle.ask.specs.Answer.{extra};
 ghost use Rattle.ask.specs.Input.{part, lastAnswer, answerAt, lineAfter, Stepped};
 
 // How much is held at the front of the input, and how many bytes of answers stand in the output.
@@ -20,17 +21,17 @@ struct Spot {
 }
 
 // Takes byte i, and answers the line from `start` on where the byte ends it.
-fn answer_byte(input: &[u8], start: usize, i: usize, out: &mut [u8], used: usize) -> Spot
+fn answer_byte(input: &[u8], start: usize, i: usize, out: &mut [u8], used: usize, why: bool) -> Spot
     requires { ⌜ (start ≤ i) × (i < length (now input)) ⌝ }
-    requires { ⌜ (used ≤ 2 * start) × (2 * (i + 1) ≤ length (now out)) ⌝ }
-    ensures { λ r. ⌜ (r .start ≤ i + 1) × (r .used ≤ 2 * r .start) ⌝ }
+    requires { ⌜ used + length (answerAt why (eqb (getD (now input) i 0) 10) (part start i (now input))) ≤ length (now out) ⌝ }
+    ensures { λ r. ⌜ r .start ≤ i + 1 ⌝ }
     ensures { λ r. ⌜ part (r .start) (i + 1) (now (input .entry)) ≡ lineAfter (getD (now (input .entry)) i 0) (part start i (now (input .entry))) ⌝ }
-    ensures { λ r. ⌜ Wrote (now (out .entry)) used (answerAt (eqb (getD (now (input .entry)) i 0) 10) (part start i (now (input .entry)))) (r .used) (now (out .exit)) ⌝ }
+    ensures { λ r. ⌜ Wrote (now (out .entry)) used (answerAt why (eqb (getD (now (input .entry)) i 0) 10) (part start i (now (input .entry)))) (r .used) (now (out .exit)) ⌝ }
 {
     if input[i] != b'\n' {
         return Spot { start, used };
     }
-    let after = answer_line(out, used, &input[start..i]);
+    let after = answer_line(out, used, &input[start..i], why);
     Spot {
         start: i + 1,
         used: after,
@@ -59,15 +60,15 @@ fn keep(input: &mut [u8], start: usize, end: usize) -> usize
 
 // One read: `from` bytes are held at the front of the input, and those up to `end` are new. Writes the answers to the lines
 // that end in them, and leaves the line that has not ended at the front.
-pub fn answer_lines(input: &mut [u8], from: usize, end: usize, out: &mut [u8]) -> Step
+pub fn answer_lines(input: &mut [u8], from: usize, end: usize, out: &mut [u8], why: bool) -> Step
     requires { ⌜ (from ≤ end) × (end ≤ length (now input)) ⌝ }
-    requires { ⌜ 2 * end ≤ length (now out) ⌝ }
-    ensures { λ r. ⌜ Stepped (now (input .entry)) (now (out .entry)) from end (r .held) (r .used) (now (input .exit)) (now (out .exit)) ⌝ }
+    requires { ⌜ 2 * end + extra why (end - from) ≤ length (now out) ⌝ }
+    ensures { λ r. ⌜ Stepped why (now (input .entry)) (now (out .entry)) from end (r .held) (r .used) (now (input .exit)) (now (out .exit)) ⌝ }
 {
     let mut spot = Spot { start: 0, used: 0 };
     let mut i = from;
     while i < end {
-        spot = answer_byte(input, spot.start, i, out, spot.used);
+        spot = answer_byte(input, spot.start, i, out, spot.used, why);
         i += 1;
     }
     let used = spot.used;
@@ -76,12 +77,12 @@ pub fn answer_lines(input: &mut [u8], from: usize, end: usize, out: &mut [u8]) -
 }
 
 // The last line, if it is not empty.
-pub fn answer_last(line: &[u8], out: &mut [u8]) -> usize
-    requires { ⌜ 2 * (length (now line) + 1) ≤ length (now out) ⌝ }
-    ensures { λ r. ⌜ Wrote (now (out .entry)) 0 (lastAnswer (now (line .entry))) r (now (out .exit)) ⌝ }
+pub fn answer_last(line: &[u8], out: &mut [u8], why: bool) -> usize
+    requires { ⌜ 2 * (length (now line) + 1) + extra why 1 ≤ length (now out) ⌝ }
+    ensures { λ r. ⌜ Wrote (now (out .entry)) 0 (lastAnswer why (now (line .entry))) r (now (out .exit)) ⌝ }
 {
     if line.len() == 0 {
         return 0;
     }
-    answer_line(out, 0, line)
+    answer_line(out, 0, line, why)
 }

@@ -3,13 +3,12 @@ pub mod input;
 
 use path::PathView;
 use path::Reading;
+use path::Refusal;
 ghost use mathlib.Core.Path.{_≡_};
 ghost use Prim.Native.Nat.{_+_, _≤_};
 ghost use lib.ListN.{length};
-ghost use mathlib.Core.List.{_∷_, [], _++_};
-ghost use Rattle.text.specs.Number.{decimal};
 ghost use Rattle.text.specs.Put.{put};
-ghost use Rattle.ask.specs.Answer.{mark, head, viewAnswer, lineAnswer};
+ghost use Rattle.ask.specs.Answer.{mark, head, viewAnswer, placed, reason, saying, refusalAnswer, lineAnswer};
 
 // Writes ` E ` or ` L `, and returns the place after it.
 fn write_mark(out: &mut [u8], at: usize, exact: bool) -> usize
@@ -34,13 +33,81 @@ fn write_head(out: &mut [u8], at: usize, kind: u8, exact: bool) -> usize
     write_mark(out, mark, exact)
 }
 
-// Writes a number and an end of line, and returns the place after them.
-fn write_refusal(out: &mut [u8], at: usize, n: u8) -> usize
-    requires { ⌜ at + length (decimal n ++ 10 ∷ []) ≤ length (now out) ⌝ }
-    ensures { λ r. ⌜ r ≡ at + length (decimal n ++ 10 ∷ []) ⌝ }
-    ensures { λ _. ⌜ now (out .exit) ≡ put (now (out .entry)) at (decimal n ++ 10 ∷ []) ⌝ }
+// Writes a place and the sentence after it, and returns the place after them.
+fn write_placed(out: &mut [u8], at: usize, place: usize, sentence: &[u8]) -> usize
+    requires { ⌜ at + length (placed place (now sentence)) ≤ length (now out) ⌝ }
+    ensures { λ r. ⌜ r ≡ at + length (placed place (now (sentence .entry))) ⌝ }
+    ensures { λ _. ⌜ now (out .exit) ≡ put (now (out .entry)) at (placed place (now (sentence .entry))) ⌝ }
 {
-    let end = text::write_number(out, at, n as u64);
+    let number = text::put::write_text(out, at, b" ");
+    let end = text::write_number(out, number, place as u64);
+    text::put::write_text(out, end, sentence)
+}
+
+// Writes the place, where there is one, and the sentence for a customer, and returns the place after them.
+fn write_reason(out: &mut [u8], at: usize, w: Refusal) -> usize
+    requires { ⌜ at + length (reason w) ≤ length (now out) ⌝ }
+    ensures { λ r. ⌜ r ≡ at + length (reason w) ⌝ }
+    ensures { λ _. ⌜ now (out .exit) ≡ put (now (out .entry)) at (reason w) ⌝ }
+{
+    match w {
+        Refusal::TooLong => text::put::write_text(
+            out,
+            at,
+            b" the text, or the path that it makes, has more than 4,096 bytes: shorten it",
+        ),
+        Refusal::NotAscii => text::put::write_text(
+            out,
+            at,
+            b" a byte of the text is 128 or more: write the text in ASCII alone",
+        ),
+        Refusal::NotAPath => text::put::write_text(
+            out,
+            at,
+            b" the text fits none of the nineteen kinds of path: hold its words and numbers against the table of kinds",
+        ),
+        Refusal::NoDigits(i) => write_placed(
+            out,
+            at,
+            i,
+            b" where a number should stand there is no digit: write one, from 0 to 18446744073709551615",
+        ),
+        Refusal::NotADigit(i) => write_placed(
+            out,
+            at,
+            i,
+            b" a byte of the number is no digit: write it in the digits 0 to 9 alone",
+        ),
+        Refusal::TooLarge(i) => write_placed(
+            out,
+            at,
+            i,
+            b" the number is above 18446744073709551615: write a smaller one",
+        ),
+    }
+}
+
+// Writes the reason, where it is asked for, and returns the place after it.
+fn write_saying(out: &mut [u8], at: usize, w: Refusal, why: bool) -> usize
+    requires { ⌜ at + length (saying why w) ≤ length (now out) ⌝ }
+    ensures { λ r. ⌜ r ≡ at + length (saying why w) ⌝ }
+    ensures { λ _. ⌜ now (out .exit) ≡ put (now (out .entry)) at (saying why w) ⌝ }
+{
+    if why {
+        return write_reason(out, at, w);
+    }
+    at
+}
+
+// Writes the answer to a line that was refused, and returns the place after it.
+fn write_refusal(out: &mut [u8], at: usize, w: Refusal, why: bool) -> usize
+    requires { ⌜ at + length (refusalAnswer why w) ≤ length (now out) ⌝ }
+    ensures { λ r. ⌜ r ≡ at + length (refusalAnswer why w) ⌝ }
+    ensures { λ _. ⌜ now (out .exit) ≡ put (now (out .entry)) at (refusalAnswer why w) ⌝ }
+{
+    let fault = path::fault_of(w);
+    let number = text::write_number(out, at, fault.refusal as u64);
+    let end = write_saying(out, number, w, why);
     text::put::write_byte(out, end, 10)
 }
 
@@ -56,15 +123,14 @@ fn write_view(out: &mut [u8], at: usize, line: &[u8], v: PathView, exact: bool) 
     text::put::write_byte(out, end, 10)
 }
 
-// Writes the answer to a line, and returns the place after it.
-pub fn answer_line(out: &mut [u8], at: usize, line: &[u8]) -> usize
-    requires { ⌜ at + length (lineAnswer (now line)) ≤ length (now out) ⌝ }
-    ensures { λ r. ⌜ r ≡ at + length (lineAnswer (now (line .entry))) ⌝ }
-    ensures { λ _. ⌜ now (out .exit) ≡ put (now (out .entry)) at (lineAnswer (now (line .entry))) ⌝ }
+// Writes the answer to a line, and returns the place after it. Where it is asked why, a refusal is followed by its reason.
+pub fn answer_line(out: &mut [u8], at: usize, line: &[u8], why: bool) -> usize
+    requires { ⌜ at + length (lineAnswer why (now line)) ≤ length (now out) ⌝ }
+    ensures { λ r. ⌜ r ≡ at + length (lineAnswer why (now (line .entry))) ⌝ }
+    ensures { λ _. ⌜ now (out .exit) ≡ put (now (out .entry)) at (lineAnswer why (now (line .entry))) ⌝ }
 {
-    let reading = reader::read_path(line);
-    let Reading::Read { path, exact } = reading else {
-        return write_refusal(out, at, path::refusal_of(reading));
-    };
-    write_view(out, at, line, path::view(path), exact)
+    match reader::read_path(line) {
+        Reading::Read { path, exact } => write_view(out, at, line, path::view(path), exact),
+        Reading::Refused(w) => write_refusal(out, at, w, why),
+    }
 }
