@@ -5,6 +5,7 @@ use denote.Ref.{now}
 use Rattle.text.specs.Outcome.{One, OneWith}
 use Rattle.form.specs.Tells.{one-told}
 use Rattle.form.proofs.width.Reads as width
+use Rattle.form.proofs.slot_at.Reads as slot-at
 use Rattle.form.proofs.clear.Reads as clear
 use Rattle.form.proofs.put_slot.Reads as put-slot
 use Rattle.form.proofs.put_header.Reads as put-header
@@ -21,6 +22,9 @@ use Rattle.form.proofs.header_ok.Reads as header-ok
 
 pub one-width : One width.Post
 one-width κs a r₁ r₂ s₁ s₂ p q = p ∙ sym q
+
+pub one-slot-at : One slot-at.Post
+one-slot-at κs a r₁ r₂ s₁ s₂ p q = p ∙ sym q
 
 pub one-clear : OneWith clear.Post (λ κs s. now (s .0))
 one-clear κs a r₁ r₂ s₁ s₂ p q = (refl, p ∙ sym q)

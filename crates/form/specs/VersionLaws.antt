@@ -17,7 +17,7 @@ use Rattle.form.specs.declared.Version.the-variants.{One, Two}
 use Rattle.form.specs.Form.{SlotOk}
 use Rattle.form.specs.FormLaws.{Lawful, append-parts}
 use Rattle.form.specs.MovesLaws.{over-join}
-use Rattle.form.specs.Counted.{counted, countedIn, CountedOk}
+use Rattle.form.specs.Counted.{counted, countedIn, stored, CountedOk}
 use Rattle.form.specs.CountedLaws.{length-counted, counted-back, stored-length}
 use Rattle.form.specs.Version.{Field, FieldOk, fieldOf, numberOf, Fit, slot, recordOf, header, countIn, formOf, V2}
 use Rattle.form.specs.Tells.{Tells, tells-true, tells-false}
@@ -71,8 +71,8 @@ module _ (D : Field) (L : LawfulField D) where
       ap (λ (l : List ℕ). D .valueIn (drop 256 l)) e ∙ ap (D .valueIn) (drop-at k (D .field (r .1) ++ tail) 256 (length-counted 255 (r .0) (h .0))) ∙ L .value-back (r .1) tail (h .1) in
       λ i. (a i, b i)
 
-pub lawful : (v : Version) → Lawful (formOf v)
-lawful v =
+pub version-lawful : (v : Version) → Lawful (formOf v)
+version-lawful v =
     record {
       header-length = λ e n. header-length (numberOf v) n;
       header-inj = λ d e m n q. (refl, header-inj (numberOf v) m n q);
@@ -143,6 +143,12 @@ module _ (b : List ℕ) (at : ℕ) (hb : at + 65 ≤ length b) where
         holds = λ e. let k = t .holds e in record { bytes = k .bytes; fit = record { least = omega (arith, stored-length b at 64 (omega arith) k); most = k .fit } };
         fails = λ e f. t .fails e (record { bytes = f .bytes; fit = f .fit .most });
       }
+
+-- the length of a value, and its byte
+pub value-length : (b : List ℕ) (at : ℕ) → at + 321 ≤ length b → SlotOk V2 (drop at b) → (getD b (at + 256) 0 ≤ 64) × (length (stored b (at + 256)) ≤ 64)
+value-length b at hb s =
+    let f : FieldOk (fieldOf Two) (drop (at + 256) b) = rw (drop-drop 256 at b) at (parts Two (drop at b) (omega (arith, length-drop at b)) s .1) in
+    omega (arith, stored-length b (at + 256) 64 (omega arith) (record { bytes = f .bytes; fit = f .fit .most }), f .fit .most)
 
 -- ---- a slot of version 2 in its two fields
 pub slot-pieces : (b : List ℕ) (at : ℕ) (k v : List ℕ) → at + 321 ≤ length b → length k ≤ 255 → length v ≤ 64

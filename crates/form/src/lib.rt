@@ -10,19 +10,21 @@ ghost use Rattle.text.specs.Order.{cmp};
 ghost use Rattle.text.specs.Part.{every, same};
 ghost use Rattle.text.specs.Put.{put};
 ghost use Rattle.form.specs.Moves.{raised, lowered};
-ghost use Rattle.form.specs.Form.{zeros, inserted, removed, SlotOk};
+ghost use Rattle.form.specs.Form.{zeros, place, inserted, removed, SlotOk};
 ghost use Rattle.form.specs.Counted.{counted, stored, CountedOk};
 ghost use Rattle.form.specs.Version.{formOf, fieldOf, FieldOk, numberOf, header, countIn, V2};
 ghost use Rattle.form.specs.declared.Version.the-variants.{Two};
 ghost use Rattle.form.specs.Compare.{code, Agree, quad, highSum, lowSum, Apart};
 ghost use Rattle.form.specs.Tells.{Tells};
 
-// The bytes of the header, of a key with its length, and of a slot of version 2.
+// The bytes of the header, of a key with its length, and of a slot: in version 2, which the calls take, and in version 1.
 pub const HEAD: usize = 8;
 
 pub const KEY: usize = 256;
 
 pub const SLOT: usize = 321;
+
+const SLOT_ONE: usize = 288;
 
 // The versions of the book. The calls take and make version 2; a book of version 1 is only converted.
 pub enum Version {
@@ -35,8 +37,19 @@ pub fn width(version: Version) -> usize
     ensures { λ r. ⌜ r ≡ formOf version .width ⌝ }
 {
     match version {
-        Version::One => 288,
+        Version::One => SLOT_ONE,
         Version::Two => SLOT,
+    }
+}
+
+// Where slot i starts.
+pub fn slot_at(version: Version, i: usize) -> usize
+    requires { ⌜ i ≤ 200 ⌝ }
+    ensures { λ r. ⌜ r ≡ place (formOf version) i ⌝ }
+{
+    match version {
+        Version::One => HEAD + SLOT_ONE * i,
+        Version::Two => HEAD + SLOT * i,
     }
 }
 
