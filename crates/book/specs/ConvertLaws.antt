@@ -129,6 +129,14 @@ module _ (old : List ℕ) (a : BookAnswer) (j : Judged V1 old a) (n : ℕ) (e : 
     pub convert-ready : length new ≡ at → Ready old n new
     convert-ready q = record { counts = held; size = q ∙ ea ∙ ap (place V2) slots-is }
 
+-- what is made is a book of version 2 with the same slots and records
+pub converted-book : {old new new₁ : List ℕ} {r : ℕ} → Converted old new r new₁ → r ≡ 0 → (x : Book V1 old) → (y : Book V2 new₁) × (y .slots ≡ x .slots) × (y .records ≡ x .records)
+converted-book (no-old n e f) z x = absurd (n x)
+converted-book (other-size y n e f) z x = absurd (let q : ⊥ = omega (arith, e) in q)
+converted-book {old} (converted y n e f) z x =
+    let o = one-book V1 (version-lawful One) old y x in
+    (record { slots = y .slots; extra = tt; records = y .records; least = y .least; most = y .most; fit = all-fit (y .records) (y .fit); exact = y .exact; sorted = y .sorted; few = y .few; bytes = f }, o .0, o .2)
+
 pub one-converted : {old new : List ℕ} {r q : ℕ} {b₁ b₂ : List ℕ} → Converted old new r b₁ → Converted old new q b₂ → (r ≡ q) × (b₁ ≡ b₂)
 one-converted (no-old n e f) (no-old m g k) = (e ∙ sym g, f ∙ sym k)
 one-converted (no-old n e f) (other-size y m g k) = absurd (n y)
