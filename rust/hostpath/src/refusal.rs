@@ -17,13 +17,13 @@ pub enum Refusal {
     NoRoom = 4,
     /// 5: a byte is none of A-Z, a-z, 0-9 and . _ + - # [ ] < >, which identifiers are made of: take it out.
     BadChar = 5,
-    /// 6: the identifier is too short or too long, or the value is not of 32 bytes: give one of the right length.
+    /// 6: the identifier is too short or too long, or the value is empty or over 64 bytes: give one of the right length.
     BadLength = 6,
     /// 7: the identifier is not its name, a dash and a number without leading zeros: write it as in channel-7.
     BadPrefix = 7,
     /// 8: after the dash stands no number from 0 to 18446744073709551615: write it as in channel-7.
     BadNumber = 8,
-    /// 9: the buffer holds no book: make a new one in it, or lend the bytes that a book left.
+    /// 9: the buffer holds no book of the version that the call takes: make a new one in it, or convert a book of version 1.
     BadBook = 9,
     /// 10: the path's key has more than the 255 bytes that a book keeps: shorten its upgrade path.
     KeyTooLong = 10,
@@ -82,10 +82,10 @@ impl Refusal {
             Self::NotAPath => "the text fits none of the nineteen kinds of path: hold its words and numbers against the table of kinds",
             Self::NoRoom => "the lent buffer is shorter than the answer: lend a longer one",
             Self::BadChar => "a byte is none of A-Z, a-z, 0-9 and . _ + - # [ ] < >, which identifiers are made of: take it out",
-            Self::BadLength => "the identifier is too short or too long, or the value is not of 32 bytes: give one of the right length",
+            Self::BadLength => "the identifier is too short or too long, or the value is empty or over 64 bytes: give one of the right length",
             Self::BadPrefix => "the identifier is not its name, a dash and a number without leading zeros: write it as in channel-7",
             Self::BadNumber => "after the dash stands no number from 0 to 18446744073709551615: write it as in channel-7",
-            Self::BadBook => "the buffer holds no book: make a new one in it, or lend the bytes that a book left",
+            Self::BadBook => "the buffer holds no book of the version that the call takes: make a new one in it, or convert a book of version 1",
             Self::KeyTooLong => "the path's key has more than the 255 bytes that a book keeps: shorten its upgrade path",
             Self::Full => "every slot of the book holds another key: remove a record, or take a book of more slots",
             Self::Absent => "the book holds no such record, or the block no such key: ask for the key of the text to see which record was looked for",
