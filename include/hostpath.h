@@ -89,7 +89,7 @@ enum hp_refusal {
     HP_NOT_ASCII = 2,
     /* the text fits none of the nineteen kinds of path: hold its words and numbers against the table of kinds */
     HP_NOT_A_PATH = 3,
-    /* the lent buffer is shorter than the answer: lend a longer one */
+    /* the lent buffer is too short, or not of the size that a converted book has: lend one of the right size */
     HP_NO_ROOM = 4,
     /* a byte is none of A-Z, a-z, 0-9 and . _ + - # [ ] < >, which identifiers are made of: take it out */
     HP_BAD_CHAR = 5,

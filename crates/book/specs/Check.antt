@@ -3,7 +3,7 @@
 use mathlib.Core.Path.{_≡_}
 use mathlib.Core.List.{List}
 use Prim.Native.Nat.{ℕ, _+_, _<_, _≤_}
-use lib.ListN.{length, take, drop}
+use lib.ListN.{take, drop}
 use Rattle.text.specs.Order.{Before}
 use Rattle.keys.specs.Calls.{Exact}
 use Rattle.form.specs.Form.{Form, place, keyAt, SlotOk}

@@ -3,8 +3,7 @@
 use mathlib.Core.Path.{_≡_, refl, sym, ap, _∙_}
 use mathlib.Core.List.{List, [], _∷_, _++_, append-nil}
 use mathlib.Core.Option.{some}
-use Prim.Native.Nat.{ℕ, zero, suc, _+_, _*_, _<_, _≤_}
-use native.Mathlib.Numerals.{add-one}
+use Prim.Native.Nat.{ℕ, suc, _+_, _*_, _<_, _≤_}
 use native.Mathlib.Omega.{arith}
 use lib.ListN.{length, take, drop, getElem?}
 use lib.Seq.{length-take-le, take-all, drop-drop}
@@ -12,13 +11,13 @@ use Rattle.text.specs.PlaceLaws.{at-some, take-suc-at}
 use Rattle.keys.specs.Act.{Rec}
 use Rattle.form.specs.declared.Version.the-variants.{One, Two}
 use Rattle.form.specs.Form.{AllFit, layout, place, inserted}
-use Rattle.form.specs.FormLaws.{layout-inserted, place-up, fit-take}
+use Rattle.form.specs.FormLaws.{layout-inserted, fit-take}
 use Rattle.form.specs.Counted.{stored}
 use Rattle.form.specs.Version.{V1, V2}
 use Rattle.form.specs.VersionLaws.{version-lawful}
 use Rattle.book.specs.declared.check.BookAnswer.{BookAnswer}
 use Rattle.book.specs.declared.check.BookAnswer.the-variants.{Count, Nothing}
-use Rattle.book.specs.Book.{Sized, Book, Counts, Judged}
+use Rattle.book.specs.Book.{Book, Counts, Judged}
 use Rattle.book.specs.BookLaws.{one-book, fit-at, record-is, sizes}
 use Rattle.book.specs.Check.{Slotted}
 use Rattle.book.specs.SizeLaws.{one-size, book-slots}

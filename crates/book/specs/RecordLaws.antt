@@ -2,7 +2,7 @@
 -- Assumes nothing.
 use mathlib.Core.Path.{_≡_, refl, sym, ap, _∙_, subst}
 use mathlib.Core.List.{List, [], _++_, append-nil}
-use Prim.Native.Nat.{ℕ, zero, suc, _+_, _*_, _-_, _/_, _%_, _<_, _≤_, Ordering, Ordering·eq}
+use Prim.Native.Nat.{ℕ, _+_, _*_, _-_, _<_, _≤_, Ordering·eq}
 use native.Mathlib.Omega.{arith}
 use lib.ListN.{length, take, drop, getD, drop-of-length-le, replicate-append-replicate}
 use lib.Seq.{drop-at, drop-drop}

@@ -1,8 +1,8 @@
 -- How many slots a buffer has room for, by its length.
 -- Assumes nothing.
-use mathlib.Core.Path.{_≡_, refl, sym, ap, _∙_}
+use mathlib.Core.Path.{_≡_, refl, ap, _∙_}
 use mathlib.Core.List.{List}
-use Prim.Native.Nat.{ℕ, _+_, _*_, _-_, _/_, _%_, _<_, _≤_}
+use Prim.Native.Nat.{ℕ, _*_, _-_, _/_, _%_, _<_, _≤_}
 use native.Mathlib.Nat.{mul-mod-right, mul-div-cancel-left, div-add-mod}
 use native.Mathlib.Omega.{arith}
 use lib.ListN.{length}

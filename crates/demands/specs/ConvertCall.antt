@@ -6,7 +6,7 @@ use mathlib.Core.Path.{_≡_}
 use mathlib.Core.List.{List}
 use mathlib.Core.Option.{Option, none, some}
 use mathlib.Core.Logic.{_↔_}
-use lib.ListN.{length, take}
+use lib.ListN.{length}
 use contract.Lifetimes.{Lfts}
 use denote.Ref.{now}
 use borrow.Fn.World.{ArgsD, ResD}

@@ -12,8 +12,8 @@ use denote.Ref.{now}
 use Rattle.text.specs.declared.Written.{Written}
 use Rattle.text.specs.PutLaws.{put-zero}
 use Rattle.keys.specs.Records.{Key, get}
-use Rattle.keys.specs.Act.{Rec, Answer, looks, lookIn, act}
-use Rattle.keys.specs.Calls.{look, meaning}
+use Rattle.keys.specs.Act.{Rec, Answer, lookIn, act}
+use Rattle.keys.specs.Calls.{look}
 use Rattle.keys.specs.Refusals.{GoodLookup}
 use Rattle.keys.specs.CallLaws.{looking-means}
 use Rattle.form.specs.declared.Version.the-variants.{One}
@@ -22,7 +22,7 @@ use Rattle.form.specs.Version.{V1}
 use Rattle.form.specs.VersionLaws.{version-lawful}
 use Rattle.book.specs.Book.{Current, Book, acts}
 use Rattle.book.specs.BookLaws.{one-book}
-use Rattle.book.specs.Outcome.{Found, writtenBy, shown, Looked}
+use Rattle.book.specs.Outcome.{writtenBy, shown, Looked}
 use Rattle.book.specs.Convert.{Converted, no-old, other-size, converted}
 use Rattle.book.specs.ConvertLaws.{converted-book}
 use Rattle.demands.specs.Held.{ProperBook}

@@ -15,7 +15,7 @@ use Rattle.book.specs.Outcome.{Outcome, no-book, this-book, writtenBy, Found, s
 use Rattle.demands.specs.Held.{Looks, ProperBook}
 use Rattle.demands.specs.Permitted.{PermittedTo, Permitted}
 use Rattle.demands.specs.Refusals.{Refused, bad-book, declined, book-full, absent, not-found}
-use Rattle.keys.specs.CallLaws.{Means, declines, writing, removing, looking, means, declined-means, declined-not, writing-means, removing-means, looking-means}
+use Rattle.keys.specs.CallLaws.{Means, declines, writing, removing, looking, means, declined-means, writing-means, removing-means, looking-means}
 use Rattle.book.specs.BookLaws.{lawful}
 use Rattle.book.specs.OutcomeLaws.{one-outcome}
 use Rattle.demands.specs.HeldLaws.{holds-in, is-full, full-is, full-as}

@@ -1,12 +1,12 @@
 -- Laws of texts behind their length: the bytes tell the text, and a field is filled exactly where the bytes behind its text are zero.
 -- Assumes nothing.
 use mathlib.Core.Path.{_≡_, refl, sym, ap, _∙_}
-use mathlib.Core.List.{List, [], _∷_, _++_, append-assoc, head-eq-of-cons-eq}
+use mathlib.Core.List.{List, [], _∷_, _++_, append-assoc}
 use mathlib.Core.Bool.{Bool, true, false}
 use Prim.Native.Nat.{ℕ, suc, _+_, _-_, _<_, _≤_}
 use native.Mathlib.Omega.{arith}
 use lib.Dec.{eqb}
-use lib.ListN.{length, take, drop, getD, length-append, length-drop, List·getD-append, getD-replicate}
+use lib.ListN.{length, take, drop, getD, length-append, length-drop, getD-replicate}
 use lib.Seq.{take-at, length-take-le, take-add, take-suc, getD-take, getD-drop, getD-append-add}
 use Rattle.text.specs.Part.{every}
 use Rattle.text.specs.Put.{put}

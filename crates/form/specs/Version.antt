@@ -1,7 +1,7 @@
 -- The versions of the book. Both have a header of eight bytes, and a slot is a key behind its length, filled with zeros to 255 bytes, and
 -- then the field of its value: 32 bytes in version 1; in version 2 from 1 to 64 bytes, behind their number and filled with zeros.
 -- Assumes nothing.
-use mathlib.Core.Path.{_≡_}
+use mathlib.Core.Path.{_≡_, refl}
 use mathlib.Core.List.{List, [], _∷_, _++_}
 use Prim.Native.Nat.{ℕ, _+_, _*_, _/_, _%_, _≤_}
 use lib.ListN.{length, take, drop, getD}
@@ -61,3 +61,11 @@ V1 = formOf One
 
 abbrev pub V2 : Form
 V2 = formOf Two
+
+widths : (V1 .width ≡ 288) × (V2 .width ≡ 321)
+widths = (refl, refl)
+
+-- a value of three bytes in its field
+three : take 6 (fieldOf Two .field (7 ∷ 8 ∷ 9 ∷ [])) ≡ 3 ∷ 7 ∷ 8 ∷ 9 ∷ 0 ∷ 0 ∷ []
+unfolding counted
+three = refl

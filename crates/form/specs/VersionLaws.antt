@@ -1,9 +1,9 @@
 -- Laws of the versions: each is lawful, and a slot is a record's exactly when its key and its value stand in their fields.
 -- Assumes nothing.
-use mathlib.Core.Path.{_≡_, refl, sym, ap, subst, _∙_}
+use mathlib.Core.Path.{_≡_, refl, sym, ap, _∙_}
 use mathlib.Core.List.{List, [], _∷_, _++_, append-assoc}
 use mathlib.Core.Bool.{Bool, true, false}
-use Prim.Native.Nat.{ℕ, _+_, _*_, _-_, _/_, _%_, _<_, _≤_}
+use Prim.Native.Nat.{ℕ, _+_, _*_, _/_, _%_, _<_, _≤_}
 use native.Mathlib.Omega.{arith}
 use lib.ListN.{length, take, drop, getD, length-append, length-drop}
 use lib.Seq.{take-at, drop-at, drop-drop, length-take-le, take-add}
@@ -11,7 +11,6 @@ use Rattle.text.specs.Number.{bigAt}
 use Rattle.text.specs.NumberLaws.{big-none, big-more}
 use Rattle.text.specs.Put.{put}
 use Rattle.keys.specs.Act.{Rec}
-use Rattle.keys.specs.Calls.{ValueFits}
 use Rattle.form.specs.declared.Version.{Version}
 use Rattle.form.specs.declared.Version.the-variants.{One, Two}
 use Rattle.form.specs.Form.{SlotOk}

@@ -5,7 +5,7 @@
 // TOO_LONG: the text, or the path that it makes, has more than 4,096 bytes: shorten it
 // NOT_ASCII: a byte of the text is 128 or more: write the text in ASCII alone
 // NOT_A_PATH: the text fits none of the nineteen kinds of path: hold its words and numbers against the table of kinds
-// NO_ROOM: the lent buffer is shorter than the answer: lend a longer one
+// NO_ROOM: the lent buffer is too short, or not of the size that a converted book has: lend one of the right size
 // BAD_CHAR: a byte is none of A-Z, a-z, 0-9 and . _ + - # [ ] < >, which identifiers are made of: take it out
 // BAD_LENGTH: the identifier is too short or too long, or the value is empty or over 64 bytes: give one of the right length
 // BAD_PREFIX: the identifier is not its name, a dash and a number without leading zeros: write it as in channel-7

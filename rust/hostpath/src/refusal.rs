@@ -13,7 +13,7 @@ pub enum Refusal {
     NotAscii = 2,
     /// 3: the text fits none of the nineteen kinds of path: hold its words and numbers against the table of kinds.
     NotAPath = 3,
-    /// 4: the lent buffer is shorter than the answer: lend a longer one.
+    /// 4: the lent buffer is too short, or not of the size that a converted book has: lend one of the right size.
     NoRoom = 4,
     /// 5: a byte is none of A-Z, a-z, 0-9 and . _ + - # [ ] < >, which identifiers are made of: take it out.
     BadChar = 5,
@@ -80,7 +80,7 @@ impl Refusal {
             Self::TooLong => "the text, or the path that it makes, has more than 4,096 bytes: shorten it",
             Self::NotAscii => "a byte of the text is 128 or more: write the text in ASCII alone",
             Self::NotAPath => "the text fits none of the nineteen kinds of path: hold its words and numbers against the table of kinds",
-            Self::NoRoom => "the lent buffer is shorter than the answer: lend a longer one",
+            Self::NoRoom => "the lent buffer is too short, or not of the size that a converted book has: lend one of the right size",
             Self::BadChar => "a byte is none of A-Z, a-z, 0-9 and . _ + - # [ ] < >, which identifiers are made of: take it out",
             Self::BadLength => "the identifier is too short or too long, or the value is empty or over 64 bytes: give one of the right length",
             Self::BadPrefix => "the identifier is not its name, a dash and a number without leading zeros: write it as in channel-7",

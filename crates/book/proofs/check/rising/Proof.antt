@@ -1,6 +1,5 @@
 -- `book::check::rising` meets its contract.
 -- Assumes nothing.
-use mathlib.Core.Path.{_≡_}
 use Prim.Native.Nat.{ℕ, _+_, _-_, _<_, _≤_}
 use borrow.Author.Count.{below-more}
 use Rattle.form.specs.FormLaws.{place-up}

@@ -1,6 +1,5 @@
 -- `book::check::slots_good` meets its contract.
 -- Assumes nothing.
-use mathlib.Core.Path.{_≡_}
 use Prim.Native.Nat.{ℕ, _+_, _-_, _<_, _≤_}
 use borrow.Author.Tests.{not-true, not-false}
 use borrow.Author.Count.{below-more}
