@@ -71,21 +71,20 @@ static int mend_it(void) {
 
 static void look_up(const uint8_t *book, size_t size, const char *path) {
     uint8_t value[HP_BOOK_VALUE];
-    uint8_t refusal = hp_book_lookup(book, size, TEXT(path), value, sizeof value);
-    if (refusal == HP_DONE) {
-        printf("lookup    %s: \"%.*s\"\n", path, HP_BOOK_VALUE, (const char *)value);
+    struct hp_written held = hp_book_lookup(book, size, TEXT(path), value, sizeof value);
+    if (held.refusal == HP_DONE) {
+        printf("lookup    %s: \"%.*s\"\n", path, (int)held.length, (const char *)value);
     } else {
-        printf("lookup    %s: refused with %d%s\n", path, refusal, refusal == HP_ABSENT ? ", no such record" : "");
+        printf("lookup    %s: refused with %d%s\n", path, held.refusal, held.refusal == HP_ABSENT ? ", no such record" : "");
     }
 }
 
 /* Texts of one path share a record; another client, zeros and all, has its own. */
 static int keep_it(void) {
     static uint8_t book[HP_BOOK_SIZE(2)];
-    const uint8_t value[HP_BOOK_VALUE + 1] = "thirty-two bytes under this key.";
     uint8_t refusal = hp_book_new(book, sizeof book);
     if (refusal == HP_DONE) {
-        refusal = hp_book_write(book, sizeof book, TEXT(text), value, HP_BOOK_VALUE);
+        refusal = hp_book_write(book, sizeof book, TEXT(text), TEXT("up to 64 bytes under this key"));
     }
     if (refusal != HP_DONE) {
         return refused("write", refusal);

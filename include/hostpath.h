@@ -64,17 +64,19 @@ enum {
     HP_ITERATION_KEY = 38, /* an iteration key */
     HP_PATH_MOST = 4096,   /* the longest text of a path, and the longest rendering */
     HP_BOOK_HEAD = 8,      /* what stands before a book's slots */
-    HP_BOOK_SLOT = 288,    /* a slot: HP_BOOK_KEY, HP_BOOK_VALUE and the key's length */
+    HP_BOOK_SLOT = 321,    /* a slot: HP_BOOK_KEY, HP_BOOK_VALUE and the lengths of both */
     HP_BOOK_KEY = 255,     /* the longest key */
-    HP_BOOK_VALUE = 32,    /* a value */
+    HP_BOOK_VALUE = 64,    /* the longest value; the shortest has one byte */
     HP_BOOK_MOST = 200     /* the slots of the largest book; the smallest has one */
 };
 
 /* A book of so many slots is a buffer of this size.
- * Header: `HPB`, version 1 and the count of records in 2 bytes each, high byte first, and a zero byte.
- * Slot: the key's length, 1 byte; the key, HP_BOOK_KEY bytes, zero filled; the value, HP_BOOK_VALUE
- * bytes. Used slots come first, in strictly rising byte order of key, and the others are all zero. A
- * key is the rendering of a path. Any other buffer is no book, and every call but hp_book_new looks. */
+ * Header: `HPB`, version 2 and the count of records in 2 bytes each, high byte first, and a zero byte.
+ * Slot: the key's length, 1 byte; the key, HP_BOOK_KEY bytes, zero filled; the value's length, 1 byte; the
+ * value, HP_BOOK_VALUE bytes, zero filled. Used slots come first, in strictly rising byte order of key, and
+ * the others are all zero. A key is the rendering of a path. Any other buffer is no book, and every call but
+ * hp_book_new looks. In version 1, which hp_book_convert alone takes, a slot of 288 bytes has a value of 32
+ * behind the key and no value's length. */
 #define HP_BOOK_SIZE(slots) (HP_BOOK_HEAD + HP_BOOK_SLOT * (slots))
 
 /* Why a call was refused, and what to do about it. */
@@ -87,15 +89,15 @@ enum hp_refusal {
     HP_NOT_ASCII = 2,
     /* the text fits none of the nineteen kinds of path: hold its words and numbers against the table of kinds */
     HP_NOT_A_PATH = 3,
-    /* the lent buffer is shorter than the answer: lend a longer one */
+    /* the lent buffer is too short, or not of the size that a converted book has: lend one of the right size */
     HP_NO_ROOM = 4,
     /* a byte is none of A-Z, a-z, 0-9 and . _ + - # [ ] < >, which identifiers are made of: take it out */
     HP_BAD_CHAR = 5,
-    /* the identifier is too short or too long, or the value is not of 32 bytes: give one of the right length */
+    /* the identifier is too short or too long, or the value is empty or over 64 bytes: give one of the right length */
     HP_BAD_LENGTH = 6,
     /* the identifier is not its name, a dash and a number without leading zeros: write it as in channel-7 */
     HP_BAD_PREFIX = 7,
-    /* the buffer holds no book: make a new one in it, or lend the bytes that a book left */
+    /* the buffer holds no book of the version that the call takes: make a new one in it, or convert a book of version 1 */
     HP_BAD_BOOK = 9,
     /* the path's key has more than the 255 bytes that a book keeps: shorten its upgrade path */
     HP_KEY_TOO_LONG = 10,
@@ -221,19 +223,22 @@ struct hp_written hp_receipt_prefix(uint8_t *out, size_t out_len);
 
 /* Books. */
 
-/* Makes the buffer, whatever it holds, a book without records; its size alone is looked at: 9. */
+/* Makes the buffer, whatever it holds, a book of version 2 without records; its size alone is looked at: 9. */
 uint8_t hp_book_new(uint8_t *book, size_t book_len);
 /* The rendering of the text holds the value from now on, anew or in place of what it held:
  * 9, 1, 2, 3 (17, 18, 19), 10, 6, 11. */
 uint8_t hp_book_write(uint8_t *book, size_t book_len, const uint8_t *text, size_t text_len, const uint8_t *value, size_t value_len);
 /* The rendering of the text holds nothing from now on: 9, 1, 2, 3 (17, 18, 19), 10, 12. */
 uint8_t hp_book_remove(uint8_t *book, size_t book_len, const uint8_t *text, size_t text_len);
-/* What the rendering of the text holds, in 32 bytes; wants that room even where it holds nothing:
+/* What the rendering of the text holds, 1 to 64 bytes; wants room for 64 whatever it holds:
  * 9, 1, 2, 3 (17, 18, 19), 10, 4, 12. */
-uint8_t hp_book_lookup(const uint8_t *book, size_t book_len, const uint8_t *text, size_t text_len, uint8_t *out, size_t out_len);
+struct hp_written hp_book_lookup(const uint8_t *book, size_t book_len, const uint8_t *text, size_t text_len, uint8_t *out, size_t out_len);
 /* The smallest pair of revision number and height among the client's records `clients/C/consensusStates/R-h`: 9, the
  * client's 2, 5, 6; then 12. */
 struct hp_pair hp_book_oldest(const uint8_t *book, size_t book_len, const uint8_t *client, size_t client_len);
+/* Makes the buffer `new`, whatever it holds, the book of version 2 that has the slots and the records of `old`, a book of
+ * version 1: 9 where the first is none, then 4 where the second is not of that book's size. */
+uint8_t hp_book_convert(const uint8_t *old, size_t old_len, uint8_t *new, size_t new_len);
 /* Above, made by bin/interface. */
 
 #ifdef __cplusplus

@@ -9,18 +9,24 @@ use lib.ListN.{length}
 use Rattle.keys.specs.Records.{Key, Sorted}
 use Rattle.keys.specs.Act.{Rec, Meaning, Answer, fullAt, actIn}
 use Rattle.keys.specs.Calls.{Exact}
-use Rattle.form.specs.Form.{Form, AllFit, layout}
-use Rattle.form.specs.V1.{V1}
+use Rattle.form.specs.Form.{Form, AllFit, layout, place}
+use Rattle.form.specs.Version.{V2}
 use Rattle.book.specs.declared.check.BookAnswer.{BookAnswer}
 use Rattle.book.specs.declared.check.BookAnswer.the-variants.{Count, Nothing}
 
 -- the form that the calls take and make
 abbrev pub Current : Form
-Current = V1
+Current = V2
 
 abbrev pub AllExact : List Rec → Type 0
 AllExact [] = Unit {0}
 AllExact (r ∷ rs) = Exact (r .0) × AllExact rs
+
+-- a buffer of as many bytes as a book with C slots has
+pub record Sized (F : Form) (b : List ℕ) (C : ℕ) : Type 0 where
+  pub least : 1 ≤ C
+  pub most : C ≤ 200
+  pub size : length b ≡ place F C
 
 pub record Book (F : Form) (b : List ℕ) : Type 0 where
   pub slots : ℕ

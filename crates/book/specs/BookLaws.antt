@@ -13,12 +13,13 @@ use Rattle.form.specs.Form.{Form, AllFit, slots, layout, zeros, place, keyAt}
 use Rattle.form.specs.FormLaws.{Lawful, layout-parted, length-before, length-layout, layout-inj, fit-take, place-up, place-back}
 use Rattle.book.specs.declared.check.BookAnswer.{BookAnswer}
 use Rattle.book.specs.declared.check.BookAnswer.the-variants.{Count, Nothing}
-use Rattle.form.specs.V1Laws.{v1-lawful}
+use Rattle.form.specs.declared.Version.the-variants.{Two}
+use Rattle.form.specs.VersionLaws.{version-lawful}
 use Rattle.book.specs.Book.{Current, Book, Counts, Judged}
 
 -- the form that the calls take is lawful
 pub lawful : Lawful Current
-lawful = v1-lawful
+lawful = version-lawful Two
 
 pub parted : (s : List Rec) (j : ℕ) (r : Rec) → getElem? s j ≡ some r → s ≡ take j s ++ r ∷ drop (suc j) s
 parted s j r e = sym (take-append-drop j s) ∙ ap (λ (l : List Rec). take j s ++ l) (drop-place s j r e)

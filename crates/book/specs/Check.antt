@@ -3,22 +3,25 @@
 use mathlib.Core.Path.{_≡_}
 use mathlib.Core.List.{List}
 use Prim.Native.Nat.{ℕ, _+_, _<_, _≤_}
-use lib.ListN.{length, take, drop}
+use lib.ListN.{take, drop}
 use Rattle.text.specs.Order.{Before}
 use Rattle.keys.specs.Calls.{Exact}
 use Rattle.form.specs.Form.{Form, place, keyAt, SlotOk}
 use Rattle.book.specs.declared.check.BookAnswer.{BookAnswer}
 use Rattle.book.specs.declared.check.BookAnswer.the-variants.{Count, Nothing}
-use Rattle.book.specs.Book.{Book}
+use Rattle.book.specs.Book.{Sized, Book}
 
 module _ (F : Form) where
+  -- the number of slots that a book of this size has, 0 where no book is of this size
+  pub record Slotted (b : List ℕ) (r : ℕ) : Type 0 where
+    pub none : r ≡ 0 → (C : ℕ) → Sized F b C → ⊥
+    pub some : (r ≡ 0 → ⊥) → Sized F b r
+
   -- the size and the header are those of a book with n records
   pub record Frame (b : List ℕ) (n : ℕ) : Type 0 where
     pub room : ℕ
     pub extra : F .Extra
-    pub size : length b ≡ place F room
-    pub least : 1 ≤ room
-    pub most : room ≤ 200
+    pub sized : Sized F b room
     pub few : n ≤ room
     pub front : take (F .head) b ≡ F .header extra n
 

@@ -102,7 +102,7 @@ module _ (F : Form) where
   pub to-book : (b : List ℕ) (n : ℕ) → Frame F b n → SlotsGood F b n → Rising F b n → every (λ x. eqb x 0) (drop (place F n) b) ≡ true → Counts F b n
   unfolding layout
   to-book b n c good order blank =
-      (record { slots = C; extra = c .extra; records = s; least = c .least; most = c .most; fit = fits n y ok; exact = exact-by s keys; sorted = sorted-by-next s next; few = omega (arith, len, c .few); bytes = bytes }, len)
+      (record { slots = C; extra = c .extra; records = s; least = c .sized .least; most = c .sized .most; fit = fits n y ok; exact = exact-by s keys; sorted = sorted-by-next s next; few = omega (arith, len, c .few); bytes = bytes }, len)
     where
       C : ℕ
       C = c .room
@@ -141,7 +141,7 @@ module _ (F : Form) where
       unused : length (drop (place F n) b) ≡ F .width * (C - n)
       unused =
           let e : F .width * C ≡ F .width * n + F .width * (C - n) = ap (λ (k : ℕ). F .width * k) (let q : C ≡ n + (C - n) = omega (arith, c .few) in q) ∙ omega arith in
-          omega (arith, length-drop (place F n) b, c .size, e)
+          omega (arith, length-drop (place F n) b, c .sized .size, e)
 
       rest : drop (place F n) b ≡ zeros (F .width * (C - n))
       rest = blank-zeros (drop (place F n) b) blank ∙ ap zeros unused
@@ -168,14 +168,12 @@ module _ (F : Form) (L : Lawful F) (b : List ℕ) (x : Book F b) where
       record {
         room = x .slots;
         extra = x .extra;
-        size = size-is F L b x;
-        least = x .least;
-        most = x .most;
+        sized = record { least = x .least; most = x .most; size = size-is F L b x };
         few = x .few;
         front = front-is;
       }
 
-  book-good : SlotsGood F b (length s)
+  pub book-good : SlotsGood F b (length s)
   book-good i h =
       let r : Rec = at-some s i h .0 in
       let e : getElem? s i ≡ some r = at-some s i h .1 in
@@ -216,8 +214,8 @@ module _ (F : Form) (L : Lawful F) (b : List ℕ) (n : ℕ) (f : Frame F b n) wh
   count-is : (x : Book F b) → length (x .records) ≡ n
   count-is x = L .header-inj (x .extra) (f .extra) (length (x .records)) n (sym (front-is F L b x) ∙ f .front) .1
 
-  pub frame-room : place F n ≤ length b
-  frame-room = omega (arith, f .size, place-up F L n (f .room) (f .few))
+  pub frame-room : (n ≤ 200) × (place F n ≤ length b)
+  frame-room = omega (arith, f .sized, f .few, place-up F L n (f .room) (f .few))
 
   pub no-good : (r : Bool) → Tells r (SlotsGood F b n) → r ≡ false → Book F b → ⊥
   no-good r t e x = t .fails e (rw (count-is x) at (book-good F L b x))

@@ -12,6 +12,7 @@ use Rattle.text.specs.Order.{cmp, Before}
 use Rattle.text.specs.OrderLaws.{cmp-flip, flip-gt, before-trans, Keys, key-lt, key-eq, key-gt, keys}
 use Rattle.text.specs.PlaceLaws.{at-some, drop-place}
 use Rattle.text.specs.Put.{put}
+use Rattle.text.specs.Put as buffer
 use Rattle.keys.specs.Records.{get, del, After}
 use Rattle.keys.specs.Records as records
 use Rattle.keys.specs.SplitLaws.{AllBefore, put-between, put-over, get-between, get-over, del-over, sorted-at, sorted-drop, after-head, before-take}
@@ -125,10 +126,10 @@ module _ (F : Form) (L : Lawful F) (b k : List ℕ) (x : Book F b) (p : ℕ) (pl
     fy : AllFit F (y ∷ drop (suc p) s)
     fy = rw (drop-place s p y ey) at (fit-drop F L p s (x .fit))
 
-    pub looked-found : (out out₁ v : List ℕ) → v ≡ F .recordOf (drop (place F p) b) .1 → out₁ ≡ put out 0 v → Found F b (looks k) out 0 out₁
+    pub looked-found : (out out₁ v : List ℕ) → v ≡ F .recordOf (drop (place F p) b) .1 → out₁ ≡ put out 0 v → Found F b (looks k) out (buffer.done (length v)) out₁
     looked-found out out₁ v ev w =
         let there : F .recordOf (drop (place F p) b) .1 ≡ y .1 = ap (λ (q : Rec). q .1) (record-is F L b x p y ey) in
-        record { answer = gives (y .1); outcome = way-found x k (y .1) held; number = refl; value = w ∙ ap (put out 0) (ev ∙ there) }
+        record { answer = gives (y .1); outcome = way-found x k (y .1) held; written = ap (λ (u : List ℕ). buffer.done (length u)) (ev ∙ there); value = w ∙ ap (put out 0) (ev ∙ there) }
 
     pub write-replaced : (v b₁ : List ℕ) → F .Fit (k, v) → b₁ ≡ put b (place F p) (F .slot (k, v)) → Changed F b (writes k v) 0 b₁
     write-replaced v b₁ hf w =
@@ -180,8 +181,8 @@ module _ (F : Form) (L : Lawful F) (b k : List ℕ) (x : Book F b) (p : ℕ) (pl
     lacks : get s k ≡ none
     lacks = ap (λ (l : List Rec). get l k) (sym whole) ∙ get-between (take p s) (drop p s) k befores later
 
-    pub looked-absent : (out : List ℕ) → Found F b (looks k) out 12 out
-    looked-absent out = record { answer = says 12; outcome = way-not-found x k lacks; number = refl; value = refl }
+    pub looked-absent : (out : List ℕ) → Found F b (looks k) out (buffer.refusal 12) out
+    looked-absent out = record { answer = says 12; outcome = way-not-found x k lacks; written = refl; value = refl }
 
     pub remove-absent : Changed F b (removes k) 12 b
     remove-absent = record { answer = says 12; outcome = way-absent x k lacks; number = refl }
@@ -199,8 +200,8 @@ module _ (F : Form) (L : Lawful F) (b k : List ℕ) (x : Book F b) (p : ℕ) (pl
         record { answer = done; outcome = way-added x k v b₁ lacks (λ q. omega arith) e; number = refl }
 
 -- refusals that the arguments decide
-pub looked-refused : (F : Form) (b : List ℕ) (n : ℕ) → Counts F b n → (m : Meaning) (r : ℕ) → m ≡ refuses r → (out : List ℕ) → Found F b m out r out
-looked-refused F b n h m r e out = record { answer = says r; outcome = way-refused (h .0) m r e; number = refl; value = refl }
+pub looked-refused : (F : Form) (b : List ℕ) (n : ℕ) → Counts F b n → (m : Meaning) (r : ℕ) → m ≡ refuses r → (out : List ℕ) → Found F b m out (buffer.refusal r) out
+looked-refused F b n h m r e out = record { answer = says r; outcome = way-refused (h .0) m r e; written = refl; value = refl }
 
 pub changed-refused : (F : Form) (b : List ℕ) (n : ℕ) → Counts F b n → (m : Meaning) (r : ℕ) → m ≡ refuses r → Changed F b m r b
 changed-refused F b n h m r e = record { answer = says r; outcome = way-refused (h .0) m r e; number = refl }

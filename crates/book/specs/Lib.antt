@@ -6,10 +6,13 @@ pub mod OutcomeLaws
 pub mod WayLaws
 pub mod Check
 pub mod CheckLaws
-pub mod CheckV1Laws
+pub mod SizeLaws
+pub mod CheckWayLaws
 pub mod Find
 pub mod FindLaws
 pub mod RecordLaws
+pub mod Convert
+pub mod ConvertLaws
 pub mod PrefixLaws
 pub mod Oldest
 pub mod OldestLaws

@@ -3,14 +3,16 @@
 -- Assumes nothing.
 use mathlib.Core.Path.{_≡_}
 use mathlib.Core.List.{List, []}
-use Prim.Native.Nat.{ℕ, _≤_}
+use Prim.Native.Nat.{ℕ}
 use lib.ListN.{length}
 use Rattle.text.specs.Refusal.{badBook}
+use Rattle.text.specs.declared.Written.{Written}
 use Rattle.text.specs.Put.{put}
+use Rattle.text.specs.Put as buffer
 use Rattle.keys.specs.Act.{Meaning, Answer, says, done, gives, number}
 use Rattle.keys.specs.Calls.{write, remove, look, meaning}
-use Rattle.form.specs.Form.{Form, layout, place}
-use Rattle.book.specs.Book.{Book, bytesWith, acts}
+use Rattle.form.specs.Form.{Form, layout}
+use Rattle.book.specs.Book.{Sized, Book, bytesWith, acts}
 
 -- a call that means m, on the buffer b: its answer, and the bytes after
 pub data Outcome (F : Form) (m : Meaning) (b : List ℕ) (a : Answer) (b₁ : List ℕ) : Type 0 where
@@ -23,16 +25,21 @@ pub record Changed (F : Form) (b : List ℕ) (m : Meaning) (r : ℕ) (b₁ : Lis
   pub outcome : Outcome F m b answer b₁
   pub number : r ≡ number answer
 
--- a lookup: the book is only lent to be read; a value stands from byte 0 of `out` on, and else `out` is unchanged
+-- a lookup: the book is only lent to be read; a value stands from byte 0 of `out` on, and its length is answered; else `out` is unchanged
+abbrev pub writtenBy : Answer → Written
+writtenBy (says n) = buffer.refusal n
+writtenBy done = buffer.done 0
+writtenBy (gives v) = buffer.done (length v)
+
 abbrev pub shown : Answer → List ℕ → List ℕ
 shown (says n) out = out
 shown done out = out
 shown (gives v) out = put out 0 v
 
-pub record Found (F : Form) (b : List ℕ) (m : Meaning) (out : List ℕ) (r : ℕ) (out₁ : List ℕ) : Type 0 where
+pub record Found (F : Form) (b : List ℕ) (m : Meaning) (out : List ℕ) (r : Written) (out₁ : List ℕ) : Type 0 where
   pub answer : Answer
   pub outcome : Outcome F m b answer b
-  pub number : r ≡ number answer
+  pub written : r ≡ writtenBy answer
   pub value : out₁ ≡ shown answer out
 
 -- ---- what the contracts of the functions say
@@ -42,14 +49,8 @@ Wrote F b t v r b₁ = Changed F b (meaning (write t v)) r b₁
 abbrev pub Removed : Form → List ℕ → List ℕ → ℕ → List ℕ → Type 0
 Removed F b t r b₁ = Changed F b (meaning (remove t)) r b₁
 
-abbrev pub Looked : Form → List ℕ → List ℕ → List ℕ → ℕ → List ℕ → Type 0
+abbrev pub Looked : Form → List ℕ → List ℕ → List ℕ → Written → List ℕ → Type 0
 Looked F b t out r out₁ = Found F b (meaning (look t (length out))) out r out₁
-
--- a buffer of as many bytes as a book with C slots has
-pub record Sized (F : Form) (b : List ℕ) (C : ℕ) : Type 0 where
-  pub least : 1 ≤ C
-  pub most : C ≤ 200
-  pub size : length b ≡ place F C
 
 -- making a book: 9 and nothing changed where no book has that length; or the layout of no records
 pub data Made (F : Form) (e : F .Extra) (b : List ℕ) (r : ℕ) (b₁ : List ℕ) : Type 0 where

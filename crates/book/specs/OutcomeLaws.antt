@@ -4,20 +4,22 @@ use mathlib.Core.Path.{_≡_, refl, sym, ap, _∙_}
 use mathlib.Core.List.{List, []}
 use Prim.Native.Nat.{ℕ}
 use native.Mathlib.Omega.{arith}
+use Rattle.text.specs.declared.Written.{Written}
+use Rattle.text.specs.Put as buffer
 use Rattle.keys.specs.Act.{Rec, Meaning, Answer, says, number, actIn}
 use Rattle.form.specs.Form.{Form, layout}
 use Rattle.form.specs.FormLaws.{Lawful, place-back}
 use Rattle.book.specs.Book.{Book, bytesWith, acts}
 use Rattle.book.specs.BookLaws.{one-book}
-use Rattle.book.specs.Outcome.{Outcome, no-book, this-book, Changed, Found, shown, Made}
+use Rattle.book.specs.Outcome.{Outcome, no-book, this-book, Changed, writtenBy, Found, shown, Made}
 use Rattle.book.specs.Outcome as o
 
 -- no book
 pub changed-none : {F : Form} {b : List ℕ} {m : Meaning} → (Book F b → ⊥) → Changed F b m 9 b
 changed-none n = record { answer = says 9; outcome = no-book n refl refl; number = refl }
 
-pub found-none : {F : Form} {b : List ℕ} {m : Meaning} {out : List ℕ} → (Book F b → ⊥) → Found F b m out 9 out
-found-none n = record { answer = says 9; outcome = no-book n refl refl; number = refl; value = refl }
+pub found-none : {F : Form} {b : List ℕ} {m : Meaning} {out : List ℕ} → (Book F b → ⊥) → Found F b m out (buffer.refusal 9) out
+found-none n = record { answer = says 9; outcome = no-book n refl refl; written = refl; value = refl }
 
 module _ {F : Form} (L : Lawful F) where
   -- the bytes tell what the calls do
@@ -44,10 +46,10 @@ module _ {F : Form} (L : Lawful F) where
       let o = one-outcome (x .outcome) (y .outcome) in
       (x .number ∙ ap number (o .0) ∙ sym (y .number), o .1)
 
-  pub one-found : {b : List ℕ} {m : Meaning} {out : List ℕ} {r q : ℕ} {out₁ out₂ : List ℕ} → Found F b m out r out₁ → Found F b m out q out₂ → (r ≡ q) × (out₁ ≡ out₂)
+  pub one-found : {b : List ℕ} {m : Meaning} {out : List ℕ} {r q : Written} {out₁ out₂ : List ℕ} → Found F b m out r out₁ → Found F b m out q out₂ → (r ≡ q) × (out₁ ≡ out₂)
   one-found {out = out} x y =
       let o = one-outcome (x .outcome) (y .outcome) .0 in
-      (x .number ∙ ap number o ∙ sym (y .number), x .value ∙ ap (λ (a : Answer). shown a out) o ∙ sym (y .value))
+      (x .written ∙ ap writtenBy o ∙ sym (y .written), x .value ∙ ap (λ (a : Answer). shown a out) o ∙ sym (y .value))
 
   pub one-made : (e : F .Extra) (b : List ℕ) (r q : ℕ) (b₁ b₂ : List ℕ) → Made F e b r b₁ → Made F e b q b₂ → (r ≡ q) × (b₁ ≡ b₂)
   one-made x b r q b₁ b₂ (o.Made.no-size n e f) (o.Made.no-size k g h) = (e ∙ sym g, f ∙ sym h)

@@ -1,4 +1,6 @@
 // Where a key stands in a book.
+use form::HEAD;
+use form::SLOT;
 use form::compare_key;
 ghost use mathlib.Core.Path.{_≡_};
 ghost use Prim.Native.Nat.{_+_, _*_, _≤_, _<_};
@@ -21,7 +23,7 @@ pub(crate) fn place(book: &[u8], n: usize, key: &[u8]) -> usize
     let mut hi = n;
     while lo < hi {
         let mid = lo + (hi - lo) / 2;
-        if compare_key(book, 8 + 288 * mid, key) == 2 {
+        if compare_key(book, HEAD + SLOT * mid, key) == 2 {
             lo = mid + 1;
         } else {
             hi = mid;
@@ -39,7 +41,7 @@ pub(crate) fn find(book: &[u8], n: usize, key: &[u8]) -> Spot
     if p == n {
         return Spot::Free(p);
     }
-    if compare_key(book, 8 + 288 * p, key) != 1 {
+    if compare_key(book, HEAD + SLOT * p, key) != 1 {
         return Spot::Free(p);
     }
     Spot::Taken(p)

@@ -1,5 +1,6 @@
 // The record book: new, write, remove, lookup. Each call checks the book once.
 pub mod check;
+pub mod convert;
 pub mod field;
 pub mod find;
 pub mod oldest;
@@ -7,12 +8,15 @@ pub mod record;
 
 use check::BookAnswer;
 use check::check_book;
+use check::slots_of;
 use field::key_into;
+use form::Version;
 use form::clear;
 use form::put_header;
 use record::look_record;
 use record::put_record;
 use record::take_record;
+use text::Written;
 use text::refusal::BAD_BOOK;
 use text::refusal::BAD_LENGTH;
 use text::refusal::NO_ROOM;
@@ -20,21 +24,27 @@ ghost use mathlib.Core.Path.{_≡_};
 ghost use Rattle.book.specs.Book.{Current};
 ghost use Rattle.book.specs.Outcome.{Wrote, Removed, Looked, Made};
 
-// Copies what the path of a text holds: 9, 1, 2, 3, 10, 4, 12.
-pub fn lookup(book: &[u8], text: &[u8], out: &mut [u8]) -> u8
+// Copies what the path of a text holds, and answers its length: 9, 1, 2, 3, 10, 4, 12.
+pub fn lookup(book: &[u8], text: &[u8], out: &mut [u8]) -> Written
     ensures { λ r. ⌜ Looked Current (now (book .entry)) (now (text .entry)) (now (out .entry)) r (now (out .exit)) ⌝ }
 {
-    let BookAnswer::Count(n) = check_book(book) else {
-        return BAD_BOOK;
+    let BookAnswer::Count(n) = check_book(book, Version::Two) else {
+        return Written {
+            refusal: BAD_BOOK,
+            length: 0,
+        };
     };
     let mut field = [0u8; 255];
     let w = key_into(text, &mut field);
     let refusal = w.refusal;
     if refusal != 0 {
-        return refusal;
+        return Written { refusal, length: 0 };
     }
-    if out.len() < 32 {
-        return NO_ROOM;
+    if out.len() < 64 {
+        return Written {
+            refusal: NO_ROOM,
+            length: 0,
+        };
     }
     let len = w.length as usize;
     look_record(book, n, &field[0..len], out)
@@ -44,7 +54,7 @@ pub fn lookup(book: &[u8], text: &[u8], out: &mut [u8]) -> u8
 pub fn write(book: &mut [u8], text: &[u8], value: &[u8]) -> u8
     ensures { λ r. ⌜ Wrote Current (now (book .entry)) (now (text .entry)) (now (value .entry)) r (now (book .exit)) ⌝ }
 {
-    let BookAnswer::Count(n) = check_book(book) else {
+    let BookAnswer::Count(n) = check_book(book, Version::Two) else {
         return BAD_BOOK;
     };
     let mut field = [0u8; 255];
@@ -53,7 +63,10 @@ pub fn write(book: &mut [u8], text: &[u8], value: &[u8]) -> u8
     if refusal != 0 {
         return refusal;
     }
-    if value.len() != 32 {
+    if value.len() < 1 {
+        return BAD_LENGTH;
+    }
+    if 64 < value.len() {
         return BAD_LENGTH;
     }
     let len = w.length as usize;
@@ -64,7 +77,7 @@ pub fn write(book: &mut [u8], text: &[u8], value: &[u8]) -> u8
 pub fn remove(book: &mut [u8], text: &[u8]) -> u8
     ensures { λ r. ⌜ Removed Current (now (book .entry)) (now (text .entry)) r (now (book .exit)) ⌝ }
 {
-    let BookAnswer::Count(n) = check_book(book) else {
+    let BookAnswer::Count(n) = check_book(book, Version::Two) else {
         return BAD_BOOK;
     };
     let mut field = [0u8; 255];
@@ -81,16 +94,10 @@ pub fn remove(book: &mut [u8], text: &[u8]) -> u8
 pub fn new_book(book: &mut [u8]) -> u8
     ensures { λ r. ⌜ Made Current tt (now (book .entry)) r (now (book .exit)) ⌝ }
 {
+    if slots_of(book, Version::Two) == 0 {
+        return BAD_BOOK;
+    }
     let size = book.len();
-    if size < 296 {
-        return BAD_BOOK;
-    }
-    if 57608 < size {
-        return BAD_BOOK;
-    }
-    if (size - 8) % 288 != 0 {
-        return BAD_BOOK;
-    }
     clear(book, 0, size);
     put_header(book, 0);
     0

@@ -2,6 +2,9 @@
 use crate::check::BookAnswer;
 use crate::check::check_book;
 use crate::find::place;
+use form::HEAD;
+use form::SLOT;
+use form::Version;
 use form::key_at;
 use path::Pair;
 use path::Reading;
@@ -69,8 +72,8 @@ fn oldest_below(book: &[u8], n: usize, client: &[u8], parent: &[u8]) -> StateAns
 {
     let mut best = StateAnswer::Nothing;
     let mut i = place(book, n, parent);
-    while i < n && same_at(key_at(book, 8 + 288 * i), 0, parent) {
-        best = older(best, state_in(key_at(book, 8 + 288 * i), client));
+    while i < n && same_at(key_at(book, HEAD + SLOT * i), 0, parent) {
+        best = older(best, state_in(key_at(book, HEAD + SLOT * i), client));
         i += 1;
     }
     best
@@ -91,7 +94,7 @@ pub(crate) fn oldest_state(book: &[u8], n: usize, client: &[u8]) -> StateAnswer
 pub fn oldest(book: &[u8], client: &[u8]) -> Pair
     ensures { λ r. ⌜ Oldest Current (now (book .entry)) (now (client .entry)) r ⌝ }
 {
-    let BookAnswer::Count(n) = check_book(book) else {
+    let BookAnswer::Count(n) = check_book(book, Version::Two) else {
         return Pair {
             refusal: BAD_BOOK,
             number: 0,

@@ -2,16 +2,15 @@
 -- it, is what `calls` permits.
 -- Assumes nothing.
 use mathlib.Core.Path.{_≡_, subst}
-use mathlib.Core.Bool.{cond}
 use mathlib.Core.List.{List, []}
 use Prim.Native.Nat.{ℕ}
-use lib.Dec.{eqb}
 use lib.ListN.{length, take}
 use contract.Lifetimes.{Lfts}
 use denote.Ref.{now}
 use borrow.Fn.World.{ArgsD, ResD}
 use borrow.Fn.Kinds.{endedOf}
 use denote.Triple.Clauses.{AtExit}
+use Rattle.text.specs.declared.Written.{Written}
 use Rattle.keys.specs.Act.{Seen}
 use Rattle.keys.specs.Calls.{Asked, to-write, to-remove, to-look, Call, look, meaning}
 use Rattle.book.specs.Book.{Current}
@@ -53,7 +52,7 @@ pub record Removes (b t : List ℕ) (r : ℕ) (b₁ : List ℕ) : Type 0 where
   pub book-out : now (exits .0) ≡ b₁
   pub ensures : dr.Post lifetimes args result exits
 
-pub record Looks (b t out : List ℕ) (r : ℕ) (out₁ : List ℕ) : Type 0 where
+pub record Looks (b t out : List ℕ) (r : Written) (out₁ : List ℕ) : Type 0 where
   pub lifetimes : Lfts 3
   pub args : ArgsD l.signature lifetimes
   pub result : ResD l.signature lifetimes
@@ -61,7 +60,7 @@ pub record Looks (b t out : List ℕ) (r : ℕ) (out₁ : List ℕ) : Type 0 whe
   pub book-in : now (args .0) ≡ b
   pub text-in : now (args .1 .0) ≡ t
   pub out-in : now (args .1 .1 .0) ≡ out
-  pub number-out : result ≡ r
+  pub answer-out : result ≡ r
   pub out-out : now (exits .1 .1 .0) ≡ out₁
   pub ensures : lr.Post lifetimes args result exits
 
@@ -75,10 +74,10 @@ removed b t r b₁ x =
     let p : Removed Current (now (x .args .0)) (now (x .args .1 .0)) (x .result) (now (x .exits .0)) = x .ensures in
     rw (x .book-in, x .text-in, x .number-out, x .book-out) at p
 
-pub looked : (b t out : List ℕ) (r : ℕ) (out₁ : List ℕ) → Looks b t out r out₁ → Looked Current b t out r out₁
+pub looked : (b t out : List ℕ) (r : Written) (out₁ : List ℕ) → Looks b t out r out₁ → Looked Current b t out r out₁
 looked b t out r out₁ x =
     let p : Looked Current (now (x .args .0)) (now (x .args .1 .0)) (now (x .args .1 .1 .0)) (x .result) (now (x .exits .1 .1 .0)) = x .ensures in
-    rw (x .book-in, x .text-in, x .out-in, x .number-out, x .out-out) at p
+    rw (x .book-in, x .text-in, x .out-in, x .answer-out, x .out-out) at p
 
 -- ---- demand 3
 -- a lookup with that much room, in some buffer, and what it gives
@@ -86,8 +85,10 @@ pub record LooksIn (b t : List ℕ) (room : ℕ) (a : Seen) : Type 0 where
   pub out : List ℕ
   pub out₁ : List ℕ
   pub size : length out ≡ room
-  pub looks : Looks b t out (a .number) out₁
-  pub gives : a .value ≡ cond (eqb (a .number) 0) (take 32 out₁) []
+  pub written : Written
+  pub looks : Looks b t out written out₁
+  pub number : a .number ≡ written .refusal
+  pub gives : a .value ≡ take (written .length) out₁
 
 abbrev pub DoesTo : Asked → List ℕ → List ℕ → Seen → List ℕ → Type 0
 DoesTo (to-write v) b t a b₁ = Writes b t v (a .number) b₁ × (a .value ≡ [])
@@ -102,8 +103,8 @@ permits-to (to-write v) b t a b₁ x = (wrote b t v (a .number) b₁ (x .0), x .
 permits-to to-remove b t a b₁ x = (removed b t (a .number) b₁ (x .0), x .1)
 permits-to (to-look room) b t a b₁ x =
     let y = x .0 in
-    let f : Looked Current b t (y .out) (a .number) (y .out₁) = looked b t (y .out) (a .number) (y .out₁) (y .looks) in
-    (record { out = y .out; out₁ = y .out₁; size = y .size; found = subst (λ (n : ℕ). Found Current b (meaning (look t n)) (y .out) (a .number) (y .out₁)) (y .size) f; gives = y .gives }, x .1)
+    let f : Looked Current b t (y .out) (y .written) (y .out₁) = looked b t (y .out) (y .written) (y .out₁) (y .looks) in
+    (record { out = y .out; out₁ = y .out₁; size = y .size; written = y .written; found = subst (λ (n : ℕ). Found Current b (meaning (look t n)) (y .out) (y .written) (y .out₁)) (y .size) f; number = y .number; gives = y .gives }, x .1)
 
 -- THE THEOREM: demand 3 of the three functions
 pub demand3 : (x : Taken Does) → Demand3 Does x

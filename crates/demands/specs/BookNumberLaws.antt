@@ -15,6 +15,7 @@ use Rattle.path.specs.declared.Refusal.{Refusal}
 use Rattle.path.specs.declared.Refusal.the-variants.{TooLong, NotAscii, NotAPath, NoDigits, NotADigit, TooLarge}
 use Rattle.path.specs.Read.{whyNot, refusalOf}
 use Rattle.path.specs.View.{provable, provableFlag}
+use Rattle.text.specs.declared.Written.{Written}
 use Rattle.keys.specs.Records.{Key, get, put, del}
 use Rattle.keys.specs.Act.{Rec, Meaning, Answer, act, addTo, takeFrom, lookIn, seen}
 use Rattle.keys.specs.Calls.{Call, write, remove, look, meaning}
@@ -22,13 +23,15 @@ use Rattle.keys.specs.Refusals.{GoodWrite, GoodRemoval, GoodLookup, Declined, t
 use Rattle.keys.specs.CallLaws.{Means, declines, writing, removing, looking, means}
 use Rattle.book.specs.Book.{Current, fullIn}
 use Rattle.book.specs.Outcome.{Outcome, no-book, this-book, Changed, Found, Looked, Made, no-size, new-book}
+use Rattle.book.specs.Convert.{Converted, no-old, other-size, converted}
 use Rattle.book.specs.declared.oldest.StateAnswer.{StateAnswer}
 use Rattle.book.specs.declared.oldest.StateAnswer.the-variants.{State, Nothing}
 use Rattle.path.specs.declared.Pair.{Pair}
 use Rattle.path.specs.Pair.{pair}
 use Rattle.book.specs.Oldest.{oldestState, pairOf, oldestIn, Oldest}
 use Rattle.book.specs.Oldest as oldest
-use Rattle.demands.specs.KeepsLaws.{made-keeps, changed-keeps, found-keeps}
+use Rattle.demands.specs.KeepsLaws.{made-keeps, changed-keeps, found-keeps, converted-keeps}
+use Rattle.demands.specs.AnswerLaws.{written-number, written-zero}
 use Rattle.demands.specs.Shape.{Listed, AllZero, Demand1}
 use Rattle.demands.specs.ShapeLaws.{plain-of}
 
@@ -162,16 +165,28 @@ module _ {L : Type 0} {A R S : L → Type 0} {Pre : (κs : L) → A κs → Type
           keeps = λ κs a r s p. changed-keeps (says κs a r s p);
         }
 
-    pub found-demand : (book text : (κs : L) → A κs → List ℕ)
-        → ((κs : L) (a : A κs) (r : R κs) (s : S κs) → Post κs a r s → Looked Current (book κs a) (text κs a) (before κs a) (number κs r) (after κs s))
-        → Demand1 Pre Post lookNumbers number (λ κs r. []) before after
-    found-demand book text says =
-        record {
-          accepts = accepts;
-          numbered = λ κs a r s p. let c = says κs a r s p in subst (Listed lookNumbers) (sym (c .number)) (look-listed (text κs a) (length (before κs a)) (c .outcome));
-          nothing-else = λ κs a r s p h. tt;
-          keeps = λ κs a r s p. found-keeps (says κs a r s p);
-        }
+    -- the conversion; `before` and `after` are of its second buffer
+    pub converted-demand : (old : (κs : L) → A κs → List ℕ)
+        → ((κs : L) (a : A κs) (r : R κs) (s : S κs) → Post κs a r s → Converted (old κs a) (before κs a) (number κs r) (after κs s))
+        → Demand1 Pre Post (9 ∷ 4 ∷ []) number (λ κs r. []) before after
+    converted-demand old says =
+        record { accepts = accepts; numbered = λ κs a r s p. go (says κs a r s p); nothing-else = λ κs a r s p h. tt; keeps = λ κs a r s p. converted-keeps (says κs a r s p) }
+      where
+        go : {o n : List ℕ} {r : ℕ} {n₁ : List ℕ} → Converted o n r n₁ → Listed (9 ∷ 4 ∷ []) r
+        go (no-old n e f) = rw e
+        go (other-size x n e f) = rw e
+        go (converted x n e f) = rw e
+
+  pub found-demand : (written : (κs : L) → R κs → Written) (book text before : (κs : L) → A κs → List ℕ) (after : (κs : L) → S κs → List ℕ)
+      → ((κs : L) (a : A κs) (r : R κs) (s : S κs) → Post κs a r s → Looked Current (book κs a) (text κs a) (before κs a) (written κs r) (after κs s))
+      → Demand1 Pre Post lookNumbers (λ κs r. written κs r .refusal) (λ κs r. written κs r .length ∷ []) before after
+  found-demand written book text before after says =
+      record {
+        accepts = accepts;
+        numbered = λ κs a r s p. let c = says κs a r s p in subst (Listed lookNumbers) (sym (ap (λ (w : Written). w .refusal) (c .written) ∙ written-number (c .answer))) (look-listed (text κs a) (length (before κs a)) (c .outcome));
+        nothing-else = λ κs a r s p h. let c = says κs a r s p in (ap (λ (w : Written). w .length) (c .written) ∙ written-zero (c .answer) (λ e. h (ap (λ (w : Written). w .refusal) (c .written) ∙ e)), tt);
+        keeps = λ κs a r s p. found-keeps (says κs a r s p);
+      }
 
   pub oldest-demand : (pairs : (κs : L) → R κs → Pair) (book client : (κs : L) → A κs → List ℕ)
       → ((κs : L) (a : A κs) (r : R κs) (s : S κs) → Post κs a r s → Oldest Current (book κs a) (client κs a) (pairs κs r))

@@ -12,7 +12,8 @@ use Rattle.path.specs.Read.{readPath, keyOf}
 use Rattle.demands.specs.Cases.{Outcome, gives, cases-hold}
 use Rattle.form.specs.Form.{layout, slots, AllFit, zeros}
 use Rattle.form.specs.FormLaws.{append-parts}
-use Rattle.form.specs.V1.{slot}
+use Rattle.form.specs.Counted.{counted}
+use Rattle.form.specs.Version.{slot}
 use Rattle.book.specs.BookLaws.{lawful}
 use Rattle.keys.specs.Act.{Rec}
 use Rattle.demands.specs.Held.{ProperBook}
@@ -27,8 +28,8 @@ no-empty e =
     let z : _≡_ {A = ℕ} 0 1 = cc in
     omega arith
 
-no-slot : (r : Rec) → keyOf (r .0) ≡ text (r .0) → (n : ℕ) (l : List ℕ) → zeros n ≡ slot r ++ l → ⊥
-unfolding slot
+no-slot : (r : Rec) → keyOf (r .0) ≡ text (r .0) → (n : ℕ) (l : List ℕ) → zeros n ≡ Current .slot r ++ l → ⊥
+unfolding slot counted
 no-slot r k zero l e = let z : _≡_ {A = ℕ} 0 1 = cc in omega arith
 no-slot r k (suc n) l e = go (r .0) k (head-eq-of-cons-eq e)
   where
@@ -39,11 +40,11 @@ no-slot r k (suc n) l e = go (r .0) k (head-eq-of-cons-eq e)
 same-count : (s q : List Rec) (m n : ℕ) → AllFit Current s → AllExact s → AllFit Current q → AllExact q → slots Current s ++ zeros m ≡ slots Current q ++ zeros n → length s ≡ length q
 unfolding slots
 same-count [] [] m n fs es fq eq e = refl
-same-count [] (r ∷ q) m n fs es fq eq e = absurd (no-slot r (eq .0) m (slots Current q ++ zeros n) (e ∙ append-assoc (slot r) (slots Current q) (zeros n)))
-same-count (r ∷ s) [] m n fs es fq eq e = absurd (no-slot r (es .0) n (slots Current s ++ zeros m) (sym e ∙ append-assoc (slot r) (slots Current s) (zeros m)))
+same-count [] (r ∷ q) m n fs es fq eq e = absurd (no-slot r (eq .0) m (slots Current q ++ zeros n) (e ∙ append-assoc (Current .slot r) (slots Current q) (zeros n)))
+same-count (r ∷ s) [] m n fs es fq eq e = absurd (no-slot r (es .0) n (slots Current s ++ zeros m) (sym e ∙ append-assoc (Current .slot r) (slots Current s) (zeros m)))
 same-count (r ∷ s) (p ∷ q) m n fs es fq eq e =
-    let e′ = sym (append-assoc (slot r) (slots Current s) (zeros m)) ∙ e ∙ append-assoc (slot p) (slots Current q) (zeros n) in
-    let w = append-parts (slot r) (slot p) (slots Current s ++ zeros m) (slots Current q ++ zeros n) (lawful .slot-length r (fs .0) ∙ sym (lawful .slot-length p (fq .0))) e′ in
+    let e′ = sym (append-assoc (Current .slot r) (slots Current s) (zeros m)) ∙ e ∙ append-assoc (Current .slot p) (slots Current q) (zeros n) in
+    let w = append-parts (Current .slot r) (Current .slot p) (slots Current s ++ zeros m) (slots Current q ++ zeros n) (lawful .slot-length r (fs .0) ∙ sym (lawful .slot-length p (fq .0))) e′ in
     ap suc (same-count s q m n (fs .1) (es .1) (fq .1) (eq .1) (w .1))
 
 pub count-right : (n m : ℕ) (s : List Rec) → AllFit Current s → AllExact s → ProperBook (Current .header tt n ++ (slots Current s ++ zeros m)) → n ≡ length s

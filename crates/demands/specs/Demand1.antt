@@ -21,7 +21,7 @@ use Rattle.iteration.specs.Key.{iterationKey, revision, keyIn, answered}
 use Rattle.demands.specs.Shape.{Listed, Demand1}
 use Rattle.demands.specs.ShapeLaws.{writes, writes-number, checks, readings, key-wants, reading-wants, renderings, render-wants, clients, client-wants, channel-wants, leaf-wants, update-wants, parent-wants, ends, packets-wants, plain-of, indexed-of, chars-number, length-number, prefix-number, named-index-number}
 use Rattle.demands.specs.IterationLaws.{pairs, key-refuses, scan-refuses}
-use Rattle.demands.specs.BookNumberLaws.{writeNumbers, removeNumbers, lookNumbers, write-listed, remove-listed, provable-demand, made-demand, changed-demand, found-demand, oldest-demand}
+use Rattle.demands.specs.BookNumberLaws.{writeNumbers, removeNumbers, lookNumbers, write-listed, remove-listed, provable-demand, made-demand, changed-demand, found-demand, converted-demand, oldest-demand}
 use Rattle.hostpath.proofs.hp_client_id_new.Reads as hp-client-id-new
 use Rattle.hostpath.proofs.hp_channel_id_new.Reads as hp-channel-id-new
 use Rattle.hostpath.proofs.hp_key.Reads as hp-key
@@ -60,6 +60,7 @@ use Rattle.hostpath.proofs.hp_book_write.Reads as hp-book-write
 use Rattle.hostpath.proofs.hp_book_remove.Reads as hp-book-remove
 use Rattle.hostpath.proofs.hp_book_lookup.Reads as hp-book-lookup
 use Rattle.hostpath.proofs.hp_book_oldest.Reads as hp-book-oldest
+use Rattle.hostpath.proofs.hp_book_convert.Reads as hp-book-convert
 use Rattle.render.proofs.render.Reads as render
 use Rattle.key.proofs.write_key.Reads as write-key
 use Rattle.reader.proofs.write_reading.Reads as write-reading
@@ -189,7 +190,7 @@ hp-validate-channel-identifier-holds = checks indexes (λ κs a. tt) (λ κs r. 
 pub hp-is-provable-holds : Demand1 hp-is-provable.Pre hp-is-provable.Post (14 ∷ []) (λ κs r. r .refusal) (λ κs r. r .value ∷ []) (λ κs a. []) (λ κs s. [])
 hp-is-provable-holds = provable-demand (λ κs a. tt) (λ κs a. a .0) (λ κs r. r) (λ κs a r s p. p)
 
--- ---- the book's calls; a lookup and `oldest` are lent the book only to be read
+-- ---- the book's calls; a lookup and `oldest` are lent the book only to be read, and so is the first of a conversion
 pub hp-book-new-holds : Demand1 hp-book-new.Pre hp-book-new.Post (9 ∷ []) (λ κs r. r) (λ κs r. []) (λ κs a. now (a .0)) (λ κs s. now (s .0))
 hp-book-new-holds = made-demand (λ κs a. tt) (λ κs r. r) (λ κs a. now (a .0)) (λ κs s. now (s .0)) (λ κs a r s p. p)
 
@@ -199,8 +200,11 @@ hp-book-write-holds = changed-demand (λ κs a. tt) (λ κs r. r) (λ κs a. now
 pub hp-book-remove-holds : Demand1 hp-book-remove.Pre hp-book-remove.Post removeNumbers (λ κs r. r) (λ κs r. []) (λ κs a. now (a .0)) (λ κs s. now (s .0))
 hp-book-remove-holds = changed-demand (λ κs a. tt) (λ κs r. r) (λ κs a. now (a .0)) (λ κs s. now (s .0)) removeNumbers (λ κs a. remove (now (a .1 .0))) (λ κs a b x b₁ o. remove-listed _ o) (λ κs a r s p. p)
 
-pub hp-book-lookup-holds : Demand1 hp-book-lookup.Pre hp-book-lookup.Post lookNumbers (λ κs r. r) (λ κs r. []) (λ κs a. now (a .1 .1 .0)) (λ κs s. now (s .1 .1 .0))
-hp-book-lookup-holds = found-demand (λ κs a. tt) (λ κs r. r) (λ κs a. now (a .1 .1 .0)) (λ κs s. now (s .1 .1 .0)) (λ κs a. now (a .0)) (λ κs a. now (a .1 .0)) (λ κs a r s p. p)
+pub hp-book-lookup-holds : Demand1 hp-book-lookup.Pre hp-book-lookup.Post lookNumbers (λ κs r. r .refusal) (λ κs r. r .length ∷ []) (λ κs a. now (a .1 .1 .0)) (λ κs s. now (s .1 .1 .0))
+hp-book-lookup-holds = found-demand (λ κs a. tt) (λ κs r. r) (λ κs a. now (a .0)) (λ κs a. now (a .1 .0)) (λ κs a. now (a .1 .1 .0)) (λ κs s. now (s .1 .1 .0)) (λ κs a r s p. p)
+
+pub hp-book-convert-holds : Demand1 hp-book-convert.Pre hp-book-convert.Post (9 ∷ 4 ∷ []) (λ κs r. r) (λ κs r. []) (λ κs a. now (a .1 .0)) (λ κs s. now (s .1 .0))
+hp-book-convert-holds = converted-demand (λ κs a. tt) (λ κs r. r) (λ κs a. now (a .1 .0)) (λ κs s. now (s .1 .0)) (λ κs a. now (a .0)) (λ κs a r s p. p)
 
 pub hp-book-oldest-holds : Demand1 hp-book-oldest.Pre hp-book-oldest.Post (9 ∷ 2 ∷ 5 ∷ 6 ∷ 12 ∷ []) (λ κs r. r .refusal) (λ κs r. r .number ∷ r .height ∷ []) (λ κs a. []) (λ κs s. [])
 hp-book-oldest-holds = oldest-demand (λ κs a. tt) (λ κs r. r) (λ κs a. now (a .0)) (λ κs a. now (a .1 .0)) (λ κs a r s p. p)

@@ -5,6 +5,7 @@ use mathlib.Core.List.{List, []}
 use Prim.Native.Nat.{ℕ}
 use denote.Ref.{RefT}
 use Rattle.runs.specs.Runs.{Runs, stop, next}
+use Rattle.text.specs.declared.Written.{Written}
 use Rattle.keys.specs.Act.{Seen}
 use Rattle.keys.specs.Calls.{Asked, to-write, to-remove, to-look, Call, look, meaning}
 use Rattle.book.specs.Book.{Current}
@@ -37,7 +38,7 @@ removes : (b t : List ℕ) (r : ℕ) (b₁ : List ℕ) → Removed Current b t r
 removes b t r b₁ w =
     record { lifetimes = ([], ([], tt)); args = (lent b, (lent t, tt)); result = r; exits = (lent b₁, (lent t, tt)); book-in = refl; text-in = refl; number-out = refl; book-out = refl; ensures = w }
 
-looks : (b t out : List ℕ) (r : ℕ) (out₁ : List ℕ) → Looked Current b t out r out₁ → Looks b t out r out₁
+looks : (b t out : List ℕ) (r : Written) (out₁ : List ℕ) → Looked Current b t out r out₁ → Looks b t out r out₁
 looks b t out r out₁ w =
     record {
       lifetimes = ([], ([], ([], tt)));
@@ -47,7 +48,7 @@ looks b t out r out₁ w =
       book-in = refl;
       text-in = refl;
       out-in = refl;
-      number-out = refl;
+      answer-out = refl;
       out-out = refl;
       ensures = w;
     }
@@ -57,8 +58,8 @@ allows-to (to-write v) b t a b₁ p = (writes b t v (a .number) b₁ (p .0), p .
 allows-to to-remove b t a b₁ p = (removes b t (a .number) b₁ (p .0), p .1)
 allows-to (to-look room) b t a b₁ p =
     let y = p .0 in
-    let f : Looked Current b t (y .out) (a .number) (y .out₁) = subst (λ (n : ℕ). Found Current b (meaning (look t n)) (y .out) (a .number) (y .out₁)) (sym (y .size)) (y .found) in
-    (record { out = y .out; out₁ = y .out₁; size = y .size; looks = looks b t (y .out) (a .number) (y .out₁) f; gives = y .gives }, p .1)
+    let f : Looked Current b t (y .out) (y .written) (y .out₁) = subst (λ (n : ℕ). Found Current b (meaning (look t n)) (y .out) (y .written) (y .out₁)) (sym (y .size)) (y .found) in
+    (record { out = y .out; out₁ = y .out₁; size = y .size; written = y .written; looks = looks b t (y .out) (y .written) (y .out₁) f; number = y .number; gives = y .gives }, p .1)
 
 allows-run : {b : List ℕ} {cs : List Call} {rs : List Seen} {b₁ : List ℕ} → Runs Permitted b cs rs b₁ → Runs Does b cs rs b₁
 allows-run stop = stop

@@ -46,16 +46,6 @@ module _ (All : List Rec → Type 0) (P : Rec → Type 0) (nil : All []) (cons :
       go (key-eq e) ih = rw e (tail r s h)
       go (key-gt e) ih = rw e (cons r (del s k) (head r s h) ih)
 
-  pub all-get : (s : List Rec) (k : Key) (v : List ℕ) → All s → get s k ≡ some v → (r : Rec) × P r × (r .1 ≡ v)
-  unfolding get
-  all-get [] k v h e = let z : _≡_ {A = ℕ} 0 1 = cc in absurd (omega arith)
-  all-get (r ∷ s) k v h e = go (keys k (r .0)) (all-get s k v (tail r s h)) e
-    where
-      go : Keys k (r .0) → (get s k ≡ some v → (q : Rec) × P q × (q .1 ≡ v)) → by (cmp k (r .0)) (get s k) (some (r .1)) (get s k) ≡ some v → (q : Rec) × P q × (q .1 ≡ v)
-      go (key-lt w) ih f = ih (rw w at f)
-      go (key-eq w) ih f = let f₁ = rw w at f in (r, head r s h, (cc))
-      go (key-gt w) ih f = ih (rw w at f)
-
   pub all-act : (full : Key → List Rec → Bool) (s : List Rec) (m : Meaning) → ((k : Key) (v : List ℕ) → m ≡ writes k v → P (k, v)) → All s → All (act full m s .1)
   unfolding act
   all-act full s (refuses n) w h = h
@@ -75,12 +65,6 @@ module _ (All : List Rec → Type 0) (P : Rec → Type 0) (nil : All []) (cons :
       go : (x : Option (List ℕ)) → All (lookIn x s .1)
       go none = h
       go (some u) = h
-
--- the value of a record that fits
-pub fit-get : (s : List Rec) (k : Key) (v : List ℕ) → AllFit Current s → get s k ≡ some v → length v ≡ 32
-fit-get s k v h e =
-    let r = all-get (AllFit Current) (Current .Fit) tt (λ r s p q. (p, q)) (λ r s q. q .0) (λ r s q. q .1) s k v h e in
-    ap length (sym (r .2)) ∙ r .1 .1
 
 -- what a call writes fits, and its key is exact
 wrote-by : {c : Call} {m : Meaning} → Means c m → (k : Key) (v : List ℕ) → m ≡ writes k v → Current .Fit (k, v) × (keyOf k ≡ text k)

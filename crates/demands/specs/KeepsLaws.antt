@@ -5,10 +5,13 @@ use mathlib.Core.Path.{_≡_, refl, sym, ap, _∙_}
 use mathlib.Core.Bool.{Bool, true, false}
 use mathlib.Core.List.{List}
 use mathlib.Core.Option.{Option, none, some}
+use Rattle.text.specs.declared.Written.{Written}
 use Rattle.keys.specs.Records.{Key, get, put, del}
 use Rattle.keys.specs.Act.{Rec, Meaning, refuses, writes, removes, looks, Answer, says, done, gives, addTo, takeFrom, lookIn, act, seen}
 use Rattle.book.specs.Book.{Current, bytesWith, fullIn}
 use Rattle.book.specs.Outcome.{Outcome, no-book, this-book, Changed, Found, shown, Made, no-size, new-book}
+use Rattle.book.specs.Convert.{Converted, no-old, other-size, converted}
+use Rattle.demands.specs.AnswerLaws.{written-number}
 
 -- ---- a refusal changes no byte
 act-keeps : (full : Key → List Rec → Bool) (m : Meaning) (s : List Rec) → (seen (act full m s .0) .number ≡ 0 → ⊥) → act full m s .1 ≡ s
@@ -44,9 +47,14 @@ shown-keeps (says n) out z = refl
 shown-keeps done out z = refl
 shown-keeps (gives v) out z = absurd (z refl)
 
-pub found-keeps : {b : List ℕ} {m : Meaning} {out : List ℕ} {r : ℕ} {out₁ : List ℕ} → Found Current b m out r out₁ → (r ≡ 0 → ⊥) → out₁ ≡ out
-found-keeps {out = out} x z = x .value ∙ shown-keeps (x .answer) out (λ e. z (x .number ∙ e))
+pub found-keeps : {b : List ℕ} {m : Meaning} {out : List ℕ} {r : Written} {out₁ : List ℕ} → Found Current b m out r out₁ → (r .refusal ≡ 0 → ⊥) → out₁ ≡ out
+found-keeps {out = out} x z = x .value ∙ shown-keeps (x .answer) out (λ e. z (ap (λ (w : Written). w .refusal) (x .written) ∙ written-number (x .answer) ∙ e))
 
 pub made-keeps : {b : List ℕ} {r : ℕ} {b₁ : List ℕ} → Made Current tt b r b₁ → (r ≡ 0 → ⊥) → b₁ ≡ b
 made-keeps (no-size n e f) z = f
 made-keeps (new-book C s e f) z = absurd (z e)
+
+pub converted-keeps : {old new : List ℕ} {r : ℕ} {new₁ : List ℕ} → Converted old new r new₁ → (r ≡ 0 → ⊥) → new₁ ≡ new
+converted-keeps (no-old n e f) z = f
+converted-keeps (other-size x n e f) z = f
+converted-keeps (converted x n e f) z = absurd (z e)

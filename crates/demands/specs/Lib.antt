@@ -22,6 +22,7 @@ pub mod Cases
 pub mod Held
 pub mod HeldLaws
 pub mod Refusals
+pub mod AnswerLaws
 pub mod Permitted
 pub mod PermittedLaws
 pub mod CountLaws
@@ -33,3 +34,5 @@ pub mod BookCalls
 pub mod ExistsLaws
 pub mod OldestCall
 pub mod OldestCallLaws
+pub mod ConvertCall
+pub mod ConvertCallLaws

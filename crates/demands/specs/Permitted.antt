@@ -2,23 +2,24 @@
 -- Assumes nothing.
 use Prim.Native.Nat.{ℕ}
 use mathlib.Core.Path.{_≡_}
-use mathlib.Core.Bool.{cond}
 use mathlib.Core.List.{List, []}
-use lib.Dec.{eqb}
 use lib.ListN.{length, take}
+use Rattle.text.specs.declared.Written.{Written}
 use Rattle.keys.specs.Act.{Seen}
 use Rattle.keys.specs.Calls.{Asked, to-write, to-remove, to-look, Call, meaning}
 use Rattle.book.specs.Book.{Current}
 use Rattle.book.specs.Outcome.{Changed, Found}
 
 -- The three contracts as one: the call c on the bytes b may be answered by a, and leave the bytes b₁
--- A lookup is lent some buffer of its room, and gives the first 32 bytes of it where it is not refused.
+-- A lookup is lent some buffer of its room, and gives as many bytes of it as it answers.
 pub record FoundIn (room : ℕ) (b : List ℕ) (c : Call) (a : Seen) : Type 0 where
   pub out : List ℕ
   pub out₁ : List ℕ
   pub size : length out ≡ room
-  pub found : Found Current b (meaning c) out (a .number) out₁
-  pub gives : a .value ≡ cond (eqb (a .number) 0) (take 32 out₁) []
+  pub written : Written
+  pub found : Found Current b (meaning c) out written out₁
+  pub number : a .number ≡ written .refusal
+  pub gives : a .value ≡ take (written .length) out₁
 
 abbrev pub PermittedTo : Asked → List ℕ → Call → Seen → List ℕ → Type 0
 PermittedTo (to-write v) b c a b₁ = Changed Current b (meaning c) (a .number) b₁ × (a .value ≡ [])

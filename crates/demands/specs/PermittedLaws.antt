@@ -2,28 +2,24 @@
 -- Assumes nothing.
 use Prim.Native.Nat.{ℕ}
 use mathlib.Core.Path.{_≡_, refl, sym, ap, _∙_}
-use mathlib.Core.Bool.{Bool, true, false, cond}
+use mathlib.Core.Bool.{Bool, true, false}
 use mathlib.Core.List.{List, []}
 use mathlib.Core.Option.{Option, none, some}
-use lib.Dec.{eqb}
-use lib.ListN.{length, take, drop, replicate, length-replicate}
-use lib.Seq.{take-at}
-use borrow.Author.Tests.{ne-eqb}
-use Rattle.text.specs.Put as out
-use Rattle.text.specs.PutLaws.{put-zero}
+use lib.ListN.{length, take, replicate, length-replicate}
+use Rattle.text.specs.declared.Written.{Written}
 use Rattle.keys.specs.Records.{Key, get, put, del}
 use Rattle.keys.specs.Act.{Rec, Meaning, Answer, gives, addTo, takeFrom, lookIn, act, Seen, seen}
 use Rattle.keys.specs.Calls.{Asked, to-write, to-remove, to-look, Call, meaning}
 use Rattle.book.specs.Book.{Current, bytesWith, fullIn, acts}
-use Rattle.book.specs.Outcome.{Outcome, no-book, this-book, Found, shown}
+use Rattle.book.specs.Outcome.{Outcome, no-book, this-book, writtenBy, Found, shown}
 use Rattle.demands.specs.Held.{Looks, ProperBook}
 use Rattle.demands.specs.Permitted.{PermittedTo, Permitted}
 use Rattle.demands.specs.Refusals.{Refused, bad-book, declined, book-full, absent, not-found}
-use Rattle.keys.specs.CallLaws.{Means, declines, writing, removing, looking, means, declined-means, declined-not, writing-means, removing-means, looking-means}
-use Rattle.form.specs.Form.{AllFit}
+use Rattle.keys.specs.CallLaws.{Means, declines, writing, removing, looking, means, declined-means, writing-means, removing-means, looking-means}
 use Rattle.book.specs.BookLaws.{lawful}
 use Rattle.book.specs.OutcomeLaws.{one-outcome}
-use Rattle.demands.specs.HeldLaws.{holds-in, fit-get, is-full, full-is, full-as}
+use Rattle.demands.specs.HeldLaws.{holds-in, is-full, full-is, full-as}
+use Rattle.demands.specs.AnswerLaws.{written-number, written-shown}
 
 same-seen : (a b : Seen) → a .number ≡ b .number → a .value ≡ b .value → a ≡ b
 same-seen a b p q = λ i. record { number = p i; value = q i }
@@ -57,24 +53,11 @@ silent (removing {k = k} ok) n full s = go (get s k)
     go (some u) = refl
 silent {c} (looking {room = room} ok) n full s = absurd (n (look-is c room (ok .asked)))
 
--- what a lookup gives, from the buffer that it is lent
-given : {c : Call} {m : Meaning} → Means c m → Looks c → (full : Key → List Rec → Bool) (s : List Rec) → AllFit Current s → (o : List ℕ)
-    → cond (eqb (seen (act full m s .0) .number) 0) (take 32 (shown (act full m s .0) o)) [] ≡ seen (act full m s .0) .value
-unfolding act
-given (declines {n = n} d) w full s h o = rw (ne-eqb n 0 (declined-not d .0))
-given {c} (writing {v = v} ok) w full s h o = absurd (no-look-write c v (ok .asked) w)
-given {c} (removing ok) w full s h o = absurd (no-look-remove c (ok .asked) w)
-given (looking {k = k} ok) w full s h o = go (get s k) refl
-  where
-    go : (x : Option (List ℕ)) → get s k ≡ x → cond (eqb (seen (lookIn x s .0) .number) 0) (take 32 (shown (lookIn x s .0) o)) [] ≡ seen (lookIn x s .0) .value
-    go none e = refl
-    go (some u) e = rw (put-zero o u) (take-at u (drop (length u) o) 32 (fit-get s k u h e))
-
 -- the outcome behind what is permitted
 outcome-to : (q : Asked) (b : List ℕ) (c : Call) (a : Seen) (b₁ : List ℕ) → PermittedTo q b c a b₁ → (ans : Answer) × Outcome Current (meaning c) b ans b₁ × (a .number ≡ seen ans .number)
 outcome-to (to-write v) b c a b₁ p = (p .0 .answer, p .0 .outcome, p .0 .number)
 outcome-to to-remove b c a b₁ p = (p .0 .answer, p .0 .outcome, p .0 .number)
-outcome-to (to-look room) b c a b₁ p = let f = p .0 .found in (f .answer, rw (p .1) (f .outcome), f .number)
+outcome-to (to-look room) b c a b₁ p = let f = p .0 .found in (f .answer, rw (p .1) (f .outcome), p .0 .number ∙ ap (λ (w : Written). w .refusal) (f .written) ∙ written-number (f .answer))
 
 outcome-of : (b : List ℕ) (c : Call) (a : Seen) (b₁ : List ℕ) → Permitted b c a b₁ → (ans : Answer) × Outcome Current (meaning c) b ans b₁ × (a .number ≡ seen ans .number)
 outcome-of b c a b₁ p = outcome-to (c .asked) b c a b₁ p
@@ -86,9 +69,11 @@ value-to to-remove b c a b₁ o x p = p .1 ∙ sym (silent (means c) (no-look-re
 value-to (to-look room) b c a b₁ o x p =
     let f = p .0 .found in
     let e = on-book x (f .outcome) .0 in
-    let n : a .number ≡ seen (acts x (meaning c) .0) .number = f .number ∙ ap (λ (y : Answer). seen y .number) e in
-    let u : p .0 .out₁ ≡ shown (acts x (meaning c) .0) (p .0 .out) = f .value ∙ ap (λ (y : Answer). shown y (p .0 .out)) e in
-    p .0 .gives ∙ rw (n, u) (given (means c) (look-is c room o) (fullIn x) (x .records) (x .fit) (p .0 .out))
+    p .0 .gives
+    ∙ ap (λ (w : Written). take (w .length) (p .0 .out₁)) (f .written)
+    ∙ ap (λ (l : List ℕ). take (writtenBy (f .answer) .length) l) (f .value)
+    ∙ written-shown (f .answer) (p .0 .out)
+    ∙ ap (λ (y : Answer). seen y .value) e
 
 pub permitted-book : (b : List ℕ) (c : Call) (a : Seen) (b₁ : List ℕ) (x : ProperBook b) → Permitted b c a b₁
     → (a ≡ seen (acts x (meaning c) .0)) × (b₁ ≡ bytesWith x (acts x (meaning c) .1))
@@ -121,8 +106,8 @@ exists-to (to-look room) b c o x =
     let w : List ℕ = replicate room 0 in
     let s = acts x (meaning c) in
     let left = x .bytes ∙ ap (bytesWith x) (sym (kept (means c) (look-is c room o) (fullIn x) (x .records))) in
-    let f : Found Current b (meaning c) w (seen (s .0) .number) (shown (s .0) w) = record { answer = s .0; outcome = this-book x refl left; number = refl; value = refl } in
-    (record { number = seen (s .0) .number; value = cond (eqb (seen (s .0) .number) 0) (take 32 (shown (s .0) w)) [] }, b, (record { out = w; out₁ = shown (s .0) w; size = length-replicate room 0; found = f; gives = refl }, refl))
+    let f : Found Current b (meaning c) w (writtenBy (s .0)) (shown (s .0) w) = record { answer = s .0; outcome = this-book x refl left; written = refl; value = refl } in
+    (record { number = writtenBy (s .0) .refusal; value = take (writtenBy (s .0) .length) (shown (s .0) w) }, b, (record { out = w; out₁ = shown (s .0) w; size = length-replicate room 0; written = writtenBy (s .0); found = f; number = refl; gives = refl }, refl))
 
 pub permitted-exists : (b : List ℕ) (c : Call) (x : ProperBook b) → (a : Seen) × (b₁ : List ℕ) × Permitted b c a b₁
 permitted-exists b c x = exists-to (c .asked) b c refl x

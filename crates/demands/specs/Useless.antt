@@ -22,7 +22,7 @@ use Rattle.form.specs.FormLaws.{length-zeros}
 use Rattle.text.specs.OrderLaws.{cmp-self}
 use Rattle.keys.specs.Records.{Key, get, put}
 use Rattle.keys.specs.Act.{writes, act, done, Seen, seen}
-use Rattle.keys.specs.Calls.{Call, write, remove, look, meaning}
+use Rattle.keys.specs.Calls.{Call, write, remove, look, meaning, ValueFits}
 use Rattle.book.specs.Book.{Current, acts}
 use Rattle.demands.specs.Held.{Holds, isWrite, ProperBook}
 use Rattle.demands.specs.Permitted.{Permitted}
@@ -76,8 +76,11 @@ value = zeros 32
 abbrev W : Call
 W = write port value
 
+sized : ValueFits value
+sized = record { least = omega (arith, length-zeros 32); most = omega (arith, length-zeros 32) }
+
 write-means : meaning W ≡ writes port value
-write-means = writing-means W port value (record { asked = refl; key = record { path = port-key; fits = omega arith }; size = length-zeros 32 })
+write-means = writing-means W port value (record { asked = refl; key = record { path = port-key; fits = omega arith }; size = sized })
 
 -- the write is accepted there, and the record then stands in the book
 abbrev filled : List ℕ
@@ -172,7 +175,7 @@ pub data Once (b : List ℕ) (c : Call) (a : Seen) (b₁ : List ℕ) : Type 0 wh
   later-call : (x : ProperBook b) → (x .records ≡ [] → ⊥) → a ≡ seen done → b₁ ≡ b → Once b c a b₁
 
 one-record : ProperBook filled
-one-record = record { slots = 2; extra = tt; records = (port, value) ∷ []; least = omega arith; most = omega arith; fit = ((omega arith, length-zeros 32), tt); exact = (port-key, tt); sorted = (tt, tt); few = omega arith; bytes = refl }
+one-record = record { slots = 2; extra = tt; records = (port, value) ∷ []; least = omega arith; most = omega arith; fit = ((omega arith, sized), tt); exact = (port-key, tt); sorted = (tt, tt); few = omega arith; bytes = refl }
 
 has-record : one-record .records ≡ [] → ⊥
 unfolding one-record
@@ -213,7 +216,7 @@ once-refused h = still-there (h obeyed-once .last-accepted port 1 (record { here
 abbrev asked-once : Taken Once
 asked-once =
     record {
-      calls = W ∷ look port 32 ∷ [];
+      calls = W ∷ look port 64 ∷ [];
       start = two;
       book = empty;
       room = one-of-two;
@@ -225,8 +228,8 @@ asked-once =
 pub once-gives-refused : ((x : Taken Once) → Demand3 Once x) → ⊥
 unfolding before
 once-gives-refused h =
-    let g = h asked-once .lookup-gives 1 (record { call = look port 32; answer = seen done; there = refl; said = refl }) tt refl in
-    not-empty (subst (λ (k : Key). Holds filled k (some [])) (one-path (look port 32) (g .0) port (g .1) port-key) (g .2))
+    let g = h asked-once .lookup-gives 1 (record { call = look port 64; answer = seen done; there = refl; said = refl }) tt refl in
+    not-empty (subst (λ (k : Key). Holds filled k (some [])) (one-path (look port 64) (g .0) port (g .1) port-key) (g .2))
 
 -- ---- a book whose count is not the number of its keys: the header says one more. It breaks `stays-a-book`
 pub record Miscounts (b : List ℕ) (c : Call) (a : Seen) (b₁ : List ℕ) : Type 0 where

@@ -4,6 +4,8 @@ use mathlib.Core.Path.{_≡_, refl, sym, _∙_}
 use denote.Ref.{now}
 use Rattle.text.specs.Outcome.{One, OneWith}
 use Rattle.form.specs.Tells.{one-told}
+use Rattle.form.proofs.width.Reads as width
+use Rattle.form.proofs.slot_at.Reads as slot-at
 use Rattle.form.proofs.clear.Reads as clear
 use Rattle.form.proofs.put_slot.Reads as put-slot
 use Rattle.form.proofs.put_header.Reads as put-header
@@ -12,10 +14,17 @@ use Rattle.form.proofs.take_out.Reads as take-out
 use Rattle.form.proofs.compare_key.Reads as compare-key
 use Rattle.form.proofs.compare_next.Reads as compare-next
 use Rattle.form.proofs.count_of.Reads as count-of
+use Rattle.form.proofs.text_at.Reads as text-at
 use Rattle.form.proofs.key_at.Reads as key-at
 use Rattle.form.proofs.all_zero.Reads as all-zero
 use Rattle.form.proofs.slot_ok.Reads as slot-ok
 use Rattle.form.proofs.header_ok.Reads as header-ok
+
+pub one-width : One width.Post
+one-width κs a r₁ r₂ s₁ s₂ p q = p ∙ sym q
+
+pub one-slot-at : One slot-at.Post
+one-slot-at κs a r₁ r₂ s₁ s₂ p q = p ∙ sym q
 
 pub one-clear : OneWith clear.Post (λ κs s. now (s .0))
 one-clear κs a r₁ r₂ s₁ s₂ p q = (refl, p ∙ sym q)
@@ -42,6 +51,9 @@ pub one-count-of : One count-of.Post
 one-count-of κs a r₁ r₂ s₁ s₂ p q = p ∙ sym q
 
 -- the bytes of the part
+pub one-text-at : (κs : _) (a : _) (r₁ r₂ : _) (s₁ s₂ : _) → text-at.Post κs a r₁ s₁ → text-at.Post κs a r₂ s₂ → now r₁ ≡ now r₂
+one-text-at κs a r₁ r₂ s₁ s₂ p q = p ∙ sym q
+
 pub one-key-at : (κs : _) (a : _) (r₁ r₂ : _) (s₁ s₂ : _) → key-at.Post κs a r₁ s₁ → key-at.Post κs a r₂ s₂ → now r₁ ≡ now r₂
 one-key-at κs a r₁ r₂ s₁ s₂ p q = p ∙ sym q
 

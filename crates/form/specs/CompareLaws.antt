@@ -9,7 +9,7 @@ use lib.ListN.{length, take, drop, getD, length-take, length-drop, drop-of-lengt
 use lib.Seq.{drop-drop, drop-cons, getD-take, getD-drop, length-take-le}
 use Rattle.text.specs.Order.{cmp}
 use Rattle.text.specs.OrderLaws.{cmp-cons-lt, cmp-cons-gt, cmp-cons-eq, cmp-nil, cmp-nil-cons, cmp-cons-nil}
-use Rattle.form.specs.V1.{recordOf, stored}
+use Rattle.form.specs.Counted.{countedIn, stored}
 use Rattle.form.specs.Compare.{code, Agree, Alike}
 
 module _ (a b : List ℕ) (i : ℕ) where
@@ -41,11 +41,11 @@ first-is b at = getD-drop at b 0 0 ∙ ap (λ (q : ℕ). getD b q 0) (let e : at
 
 -- the key in a slot
 pub length-stored : (b : List ℕ) (at : ℕ) → at + 1 + getD b at 0 ≤ length b → length (stored b at) ≡ getD b at 0
-unfolding recordOf
+unfolding countedIn
 length-stored b at h = length-take-le (getD (drop at b) 0 0) (drop 1 (drop at b)) (omega (arith, length-drop 1 (drop at b), length-drop at b, first-is b at)) ∙ first-is b at
 
 pub getD-stored : (b : List ℕ) (at i : ℕ) → i < getD b at 0 → getD (stored b at) i 0 ≡ getD b (at + 1 + i) 0
-unfolding recordOf
+unfolding countedIn
 getD-stored b at i h =
     getD-take (getD (drop at b) 0 0) (drop 1 (drop at b)) i 0 (omega (arith, first-is b at))
     ∙ getD-drop 1 (drop at b) i 0
@@ -54,7 +54,7 @@ getD-stored b at i h =
 
 -- a key as a part of the book
 pub stored-part : (b : List ℕ) (at n : ℕ) → n ≡ getD b at 0 → take n (drop (at + 1) b) ≡ stored b at
-unfolding recordOf
+unfolding countedIn
 stored-part b at n e = ap (λ (m : ℕ). take m (drop (at + 1) b)) (e ∙ sym (first-is b at)) ∙ ap (λ (l : List ℕ). take (getD (drop at b) 0 0) l) (sym (drop-drop 1 at b))
 
 -- The loop that compares: at i the rest decides, and each way out of the loop answers so.
@@ -96,10 +96,10 @@ agree-rest key book at start hb hn g =
     let lb : length (stored book at) ≡ getD book at 0 = length-stored book at (omega arith) in
     skip-same key (stored book at) start (g .short) (omega (arith, g .within)) (λ j l. g .same j l ∙ sym (getD-stored book at j (omega (arith, g .within))))
 
-pub alike-agree : (s key : List ℕ) (at n r : ℕ) → at + 576 ≤ length s → getD s at 0 ≤ 255 → getD s (at + 288) 0 ≤ 255 → key ≡ stored s at → n ≤ getD s at 0 → n ≤ getD s (at + 288) 0 → r ≤ n → Alike s (at + 1) (at + 289) r → Agree key s (at + 288) r
-alike-agree s key at n r hs ha hb ek na nb rn g =
+pub alike-agree : (s key : List ℕ) (at by n r : ℕ) → at + by + 256 ≤ length s → getD s at 0 ≤ 255 → getD s (at + by) 0 ≤ 255 → key ≡ stored s at → n ≤ getD s at 0 → n ≤ getD s (at + by) 0 → r ≤ n → Alike s (at + 1) (at + by + 1) r → Agree key s (at + by) r
+alike-agree s key at by n r hs ha hb ek na nb rn g =
     record {
       short = rw ek (omega (arith, length-stored s at (omega arith)));
       within = omega arith;
-      same = λ j l. rw ek (getD-stored s at j (omega arith) ∙ g j l ∙ ap (λ (m : ℕ). getD s m 0) (let w : at + 289 + j ≡ at + 288 + 1 + j = omega arith in w));
+      same = λ j l. rw ek (getD-stored s at j (omega arith) ∙ g j l);
     }

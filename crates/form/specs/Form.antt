@@ -1,4 +1,4 @@
--- A form of the book: how the header and a record stand in bytes, and so the whole book. Version 1 is one form (V1).
+-- A form of the book: how the header and a record stand in bytes, and so the whole book. Each version is a form (Version).
 -- Assumes nothing.
 use mathlib.Core.Path.{_≡_}
 use mathlib.Core.List.{List, [], _∷_, _++_}

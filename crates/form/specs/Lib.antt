@@ -3,8 +3,10 @@ pub mod Moves
 pub mod MovesLaws
 pub mod Form
 pub mod FormLaws
-pub mod V1
-pub mod V1Laws
+pub mod Counted
+pub mod CountedLaws
+pub mod Version
+pub mod VersionLaws
 pub mod Compare
 pub mod CompareLaws
 pub mod WordsLaws

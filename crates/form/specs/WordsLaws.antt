@@ -10,7 +10,7 @@ use lib.ListN.{length, getD}
 use Rattle.text.specs.Number.{Bytes}
 use Rattle.text.specs.Order.{cmp}
 use Rattle.text.specs.OrderLaws.{Tri, below, equal, above, tri}
-use Rattle.form.specs.V1.{stored}
+use Rattle.form.specs.Counted.{stored}
 use Rattle.form.specs.Compare.{code, Agree, Alike, highSum, lowSum}
 use Rattle.form.specs.CompareLaws.{length-stored, getD-stored, agree-rest, alike-agree, out-lt, out-gt}
 
@@ -89,8 +89,8 @@ unfolding low
 low-same s a b g = number-same (λ j. getD s (a + (7 - j)) 0) (λ j. getD s (b + (7 - j)) 0) 8 (λ j l. g (7 - j) (omega arith))
 
 -- The keys of two neighbouring slots that share n - 8 or fewer bytes: the eight bytes behind these decide.
-module _ (s key : List ℕ) (at n i : ℕ) (hs : at + 576 ≤ length s) (h : Bytes s) (ek : key ≡ stored s at) (nk : n ≤ length key) (nb : n ≤ getD s (at + 288) 0)
-    (hi : i + 8 ≤ n) (g : Alike s (at + 1) (at + 289) i) where
+module _ (s key : List ℕ) (at by n i : ℕ) (hs : at + by + 256 ≤ length s) (h : Bytes s) (ek : key ≡ stored s at) (nk : n ≤ length key) (nb : n ≤ getD s (at + by) 0)
+    (hi : i + 8 ≤ n) (g : Alike s (at + 1) (at + by + 1) i) where
   ha : getD s at 0 ≤ 255
   ha = omega (arith, h at)
 
@@ -100,38 +100,38 @@ module _ (s key : List ℕ) (at n i : ℕ) (hs : at + 576 ≤ length s) (h : Byt
   na : n ≤ getD s at 0
   na = omega (arith, ap length ek, la)
 
-  hb : getD s (at + 288) 0 ≤ 255
-  hb = omega (arith, h (at + 288))
+  hb : getD s (at + by) 0 ≤ 255
+  hb = omega (arith, h (at + by))
 
-  agrees : (j : ℕ) → j ≤ n → Alike s (at + 1) (at + 289) j → Agree (stored s at) s (at + 288) j
-  agrees j l e = alike-agree s (stored s at) at n j hs ha hb refl na nb l e
+  agrees : (j : ℕ) → j ≤ n → Alike s (at + 1) (at + by + 1) j → Agree (stored s at) s (at + by) j
+  agrees j l e = alike-agree s (stored s at) at by n j hs ha hb refl na nb l e
 
   -- what both keys have at i + p
   left : (p : ℕ) → i + p < n → getD (stored s at) (i + p) 0 ≡ getD s (at + 1 + i + p) 0
   left p l = getD-stored s at (i + p) (omega (arith, na)) ∙ at-place s (at + 1 + (i + p)) (at + 1 + i + p) (omega arith)
 
-  right : (p : ℕ) → getD s (at + 288 + 1 + (i + p)) 0 ≡ getD s (at + 289 + i + p) 0
-  right p = at-place s (at + 288 + 1 + (i + p)) (at + 289 + i + p) (omega arith)
+  right : (p : ℕ) → getD s (at + by + 1 + (i + p)) 0 ≡ getD s (at + by + 1 + i + p) 0
+  right p = at-place s (at + by + 1 + (i + p)) (at + by + 1 + i + p) (omega arith)
 
-  pub next-lt : high s (at + 1 + i) < high s (at + 289 + i) → _≡_ {A = ℕ} 0 (code (cmp (stored s at) (stored s (at + 288))))
+  pub next-lt : high s (at + 1 + i) < high s (at + by + 1 + i) → _≡_ {A = ℕ} 0 (code (cmp (stored s at) (stored s (at + by))))
   unfolding high
   next-lt l =
-      let x = number-lt (λ j. getD s (at + 1 + i + j) 0) (λ j. getD s (at + 289 + i + j) 0) (λ j. h (at + 1 + i + j)) (λ j. h (at + 289 + i + j)) 8 l in
+      let x = number-lt (λ j. getD s (at + 1 + i + j) 0) (λ j. getD s (at + by + 1 + i + j) 0) (λ j. h (at + 1 + i + j)) (λ j. h (at + by + 1 + i + j)) 8 l in
       let p = x .place in
-      let a = agrees (i + p) (omega arith) (alike-join s (at + 1) (at + 289) i p g (x .alike)) in
-      out-lt s (stored s at) (at + 288) (getD s (at + 288) 0) (i + p) (omega arith) refl hb (agree-rest (stored s at) s (at + 288) (i + p) (omega arith) hb a) (omega (arith, la, na)) (omega arith) (omega (arith, left p (omega arith), right p))
+      let a = agrees (i + p) (omega arith) (alike-join s (at + 1) (at + by + 1) i p g (x .alike)) in
+      out-lt s (stored s at) (at + by) (getD s (at + by) 0) (i + p) (omega arith) refl hb (agree-rest (stored s at) s (at + by) (i + p) (omega arith) hb a) (omega (arith, la, na)) (omega arith) (omega (arith, left p (omega arith), right p))
 
-  pub next-gt : high s (at + 289 + i) < high s (at + 1 + i) → _≡_ {A = ℕ} 2 (code (cmp (stored s at) (stored s (at + 288))))
+  pub next-gt : high s (at + by + 1 + i) < high s (at + 1 + i) → _≡_ {A = ℕ} 2 (code (cmp (stored s at) (stored s (at + by))))
   unfolding high
   next-gt l =
-      let x = number-lt (λ j. getD s (at + 289 + i + j) 0) (λ j. getD s (at + 1 + i + j) 0) (λ j. h (at + 289 + i + j)) (λ j. h (at + 1 + i + j)) 8 l in
+      let x = number-lt (λ j. getD s (at + by + 1 + i + j) 0) (λ j. getD s (at + 1 + i + j) 0) (λ j. h (at + by + 1 + i + j)) (λ j. h (at + 1 + i + j)) 8 l in
       let p = x .place in
-      let a = agrees (i + p) (omega arith) (alike-join s (at + 1) (at + 289) i p g (λ j k. sym (x .alike j k))) in
-      out-gt s (stored s at) (at + 288) (getD s (at + 288) 0) (i + p) (omega arith) refl hb (agree-rest (stored s at) s (at + 288) (i + p) (omega arith) hb a) (omega (arith, la, na)) (omega arith) (omega (arith, left p (omega arith), right p))
+      let a = agrees (i + p) (omega arith) (alike-join s (at + 1) (at + by + 1) i p g (λ j k. sym (x .alike j k))) in
+      out-gt s (stored s at) (at + by) (getD s (at + by) 0) (i + p) (omega arith) refl hb (agree-rest (stored s at) s (at + by) (i + p) (omega arith) hb a) (omega (arith, la, na)) (omega arith) (omega (arith, left p (omega arith), right p))
 
-  pub next-same : (Alike s (at + 1 + i) (at + 289 + i) 8 → i ≡ n - 8) → high s (at + 1 + i) ≡ high s (at + 289 + i) → Agree key s (at + 288) n
+  pub next-same : (Alike s (at + 1 + i) (at + by + 1 + i) 8 → i ≡ n - 8) → high s (at + 1 + i) ≡ high s (at + by + 1 + i) → Agree key s (at + by) n
   unfolding high
   next-same last e =
-      let q = number-eq (λ j. getD s (at + 1 + i + j) 0) (λ j. getD s (at + 289 + i + j) 0) (λ j. h (at + 1 + i + j)) (λ j. h (at + 289 + i + j)) 8 e in
+      let q = number-eq (λ j. getD s (at + 1 + i + j) 0) (λ j. getD s (at + by + 1 + i + j) 0) (λ j. h (at + 1 + i + j)) (λ j. h (at + by + 1 + i + j)) 8 e in
       let ei : i + 8 ≡ n = omega (arith, last q) in
-      rw (ek, ← ei) (agrees (i + 8) hi (alike-join s (at + 1) (at + 289) i 8 g q))
+      rw (ek, ← ei) (agrees (i + 8) hi (alike-join s (at + 1) (at + by + 1) i 8 g q))

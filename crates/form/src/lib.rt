@@ -10,10 +10,48 @@ ghost use Rattle.text.specs.Order.{cmp};
 ghost use Rattle.text.specs.Part.{every, same};
 ghost use Rattle.text.specs.Put.{put};
 ghost use Rattle.form.specs.Moves.{raised, lowered};
-ghost use Rattle.form.specs.Form.{zeros, inserted, removed, SlotOk};
-ghost use Rattle.form.specs.V1.{V1, slot, header, countIn, stored};
+ghost use Rattle.form.specs.Form.{zeros, place, inserted, removed, SlotOk};
+ghost use Rattle.form.specs.Counted.{counted, stored, CountedOk};
+ghost use Rattle.form.specs.Version.{formOf, fieldOf, FieldOk, numberOf, header, countIn, V2};
+ghost use Rattle.form.specs.declared.Version.the-variants.{Two};
 ghost use Rattle.form.specs.Compare.{code, Agree, quad, highSum, lowSum, Apart};
 ghost use Rattle.form.specs.Tells.{Tells};
+
+// The bytes of the header, of a key with its length, and of a slot: in version 2, which the calls take, and in version 1.
+pub const HEAD: usize = 8;
+
+pub const KEY: usize = 256;
+
+pub const SLOT: usize = 321;
+
+const SLOT_ONE: usize = 288;
+
+// The versions of the book. The calls take and make version 2; a book of version 1 is only converted.
+pub enum Version {
+    One,
+    Two,
+}
+
+// The bytes of a slot.
+pub fn width(version: Version) -> usize
+    ensures { λ r. ⌜ r ≡ formOf version .width ⌝ }
+{
+    match version {
+        Version::One => SLOT_ONE,
+        Version::Two => SLOT,
+    }
+}
+
+// Where slot i starts.
+pub fn slot_at(version: Version, i: usize) -> usize
+    requires { ⌜ i ≤ 200 ⌝ }
+    ensures { λ r. ⌜ r ≡ place (formOf version) i ⌝ }
+{
+    match version {
+        Version::One => HEAD + SLOT_ONE * i,
+        Version::Two => HEAD + SLOT * i,
+    }
+}
 
 // Moves the bytes from `from` up to `to` up by `by` places, the last one first.
 fn raise(book: &mut [u8], from: usize, to: usize, by: usize)
@@ -53,26 +91,32 @@ pub fn clear(book: &mut [u8], from: usize, n: usize)
     }
 }
 
+// Writes a text of at most `most` bytes behind its length, from `at` on, and fills its field with zeros.
+fn put_counted(book: &mut [u8], at: usize, most: usize, s: &[u8])
+    requires { ⌜ (at + 1 + most ≤ length (now book)) × (most ≤ 255) × (length (now s) ≤ most) ⌝ }
+    ensures { λ _. ⌜ now (book .exit) ≡ put (now (book .entry)) at (counted most (now (s .entry))) ⌝ }
+{
+    write_byte(book, at, s.len() as u8);
+    write_text(book, at + 1, s);
+    clear(book, at + 1 + s.len(), most - s.len());
+}
+
 // Writes a record's slot, from `at` on.
 pub fn put_slot(book: &mut [u8], at: usize, key: &[u8], value: &[u8])
-    requires { do ⌜ at + 288 ≤ (← ⟦book.len()⟧) ⌝ }
-    requires { do ⌜ (← ⟦key.len()⟧) ≤ 255 ⌝ }
-    requires { do ⌜ (← ⟦value.len()⟧) ≡ 32 ⌝ }
-    ensures { λ _. ⌜ now (book .exit) ≡ put (now (book .entry)) at (slot (now (key .entry), now (value .entry))) ⌝ }
+    requires { ⌜ (at + 321 ≤ length (now book)) × (length (now key) ≤ 255) × (length (now value) ≤ 64) ⌝ }
+    ensures { λ _. ⌜ now (book .exit) ≡ put (now (book .entry)) at (V2 .slot (now (key .entry), now (value .entry))) ⌝ }
 {
-    write_byte(book, at, key.len() as u8);
-    write_text(book, at + 1, key);
-    clear(book, at + 1 + key.len(), 255 - key.len());
-    write_text(book, at + 256, value);
+    put_counted(book, at, 255, key);
+    put_counted(book, at + KEY, 64, value);
 }
 
 // Writes the header of a book with n records.
 pub fn put_header(book: &mut [u8], n: usize)
     requires { ⌜ n < 65536 ⌝ }
     requires { do ⌜ 8 ≤ (← ⟦book.len()⟧) ⌝ }
-    ensures { λ _. ⌜ now (book .exit) ≡ put (now (book .entry)) 0 (header n) ⌝ }
+    ensures { λ _. ⌜ now (book .exit) ≡ put (now (book .entry)) 0 (header 2 n) ⌝ }
 {
-    let head: [u8; 8] = [72, 80, 66, 0, 1, (n / 256) as u8, (n % 256) as u8, 0];
+    let head: [u8; 8] = [72, 80, 66, 0, 2, (n / 256) as u8, (n % 256) as u8, 0];
     write_text(book, 0, &head);
 }
 
@@ -80,14 +124,13 @@ pub fn put_header(book: &mut [u8], n: usize)
 pub fn insert(book: &mut [u8], place: usize, count: usize, key: &[u8], value: &[u8])
     requires { ⌜ place ≤ count ⌝ }
     requires { ⌜ count < 200 ⌝ }
-    requires { do ⌜ 8 + 288 * (count + 1) ≤ (← ⟦book.len()⟧) ⌝ }
-    requires { do ⌜ (← ⟦key.len()⟧) ≤ 255 ⌝ }
-    requires { do ⌜ (← ⟦value.len()⟧) ≡ 32 ⌝ }
-    ensures { λ _. ⌜ now (book .exit) ≡ inserted V1 tt place count (now (book .entry)) (now (key .entry), now (value .entry)) ⌝ }
+    requires { do ⌜ 8 + 321 * (count + 1) ≤ (← ⟦book.len()⟧) ⌝ }
+    requires { ⌜ (length (now key) ≤ 255) × (length (now value) ≤ 64) ⌝ }
+    ensures { λ _. ⌜ now (book .exit) ≡ inserted V2 tt place count (now (book .entry)) (now (key .entry), now (value .entry)) ⌝ }
 {
-    let at = 8 + 288 * place;
-    let end = 8 + 288 * count;
-    raise(book, at, end, 288);
+    let at = HEAD + SLOT * place;
+    let end = HEAD + SLOT * count;
+    raise(book, at, end, SLOT);
     put_slot(book, at, key, value);
     put_header(book, count + 1);
 }
@@ -96,11 +139,16 @@ pub fn insert(book: &mut [u8], place: usize, count: usize, key: &[u8], value: &[
 pub fn take_out(book: &mut [u8], place: usize, count: usize)
     requires { ⌜ place ≤ count ⌝ }
     requires { ⌜ count < 200 ⌝ }
-    requires { do ⌜ 8 + 288 * (count + 1) ≤ (← ⟦book.len()⟧) ⌝ }
-    ensures { λ _. ⌜ now (book .exit) ≡ removed V1 tt place count (now (book .entry)) ⌝ }
+    requires { do ⌜ 8 + 321 * (count + 1) ≤ (← ⟦book.len()⟧) ⌝ }
+    ensures { λ _. ⌜ now (book .exit) ≡ removed V2 tt place count (now (book .entry)) ⌝ }
 {
-    lower(book, 8 + 288 * (place + 1), 8 + 288 * (count + 1), 288);
-    clear(book, 8 + 288 * count, 288);
+    lower(
+        book,
+        HEAD + SLOT * (place + 1),
+        HEAD + SLOT * (count + 1),
+        SLOT,
+    );
+    clear(book, HEAD + SLOT * count, SLOT);
     put_header(book, count);
 }
 
@@ -189,26 +237,26 @@ fn least(a: usize, b: usize) -> usize
     if a < b { a } else { b }
 }
 
-// How the key in the slot at `at` stands to that in the next slot.
-pub fn compare_next(book: &[u8], at: usize) -> u8
-    requires { do ⌜ at + 576 ≤ (← ⟦book.len()⟧) ⌝ }
-    ensures { λ r. ⌜ r ≡ code (cmp (stored (now (book .entry)) at) (stored (now (book .entry)) (at + 288))) ⌝ }
+// How the key in the slot at `at` stands to that in the next slot, which starts `by` bytes behind it.
+pub fn compare_next(book: &[u8], at: usize, by: usize) -> u8
+    requires { do ⌜ at + by + 256 ≤ (← ⟦book.len()⟧) ⌝ }
+    ensures { λ r. ⌜ r ≡ code (cmp (stored (now (book .entry)) at) (stored (now (book .entry)) (at + by))) ⌝ }
 {
     let key = key_at(book, at);
-    let n = least(key.len(), wide(book[at + 288]));
+    let n = least(key.len(), wide(book[at + by]));
     if n < 8 {
-        return compare_key(book, at + 288, key);
+        return compare_key(book, at + by, key);
     }
-    let i = apart(book, at + 1, at + 289, n - 8);
+    let i = apart(book, at + 1, at + by + 1, n - 8);
     let x = high_eight(book, at + 1 + i);
-    let y = high_eight(book, at + 289 + i);
+    let y = high_eight(book, at + by + 1 + i);
     if x < y {
         return 0;
     }
     if y < x {
         return 2;
     }
-    compare_from(book, at + 288, key, n)
+    compare_from(book, at + by, key, n)
 }
 
 fn wide(x: u8) -> usize
@@ -225,14 +273,22 @@ pub fn count_of(book: &[u8]) -> usize
     text::read_big_endian(book, 5, 2) as usize
 }
 
-// The key in the slot at `at`, as a part of the book.
-pub fn key_at(book: &[u8], at: usize) -> &[u8]
-    requires { do ⌜ at + 256 ≤ (← ⟦book.len()⟧) ⌝ }
+// The text that stands at `at` behind its length, as a part of the book.
+pub fn text_at(book: &[u8], at: usize) -> &[u8]
+    requires { ⌜ at + 1 + getD (now book) at 0 ≤ length (now book) ⌝ }
     ensures { λ r. ⌜ now r ≡ stored (now (book .entry)) at ⌝ }
 {
     let start = at + 1;
     let end = start + wide(book[at]);
     &book[start..end]
+}
+
+// The key in the slot at `at`, as a part of the book.
+pub fn key_at(book: &[u8], at: usize) -> &[u8]
+    requires { do ⌜ at + 256 ≤ (← ⟦book.len()⟧) ⌝ }
+    ensures { λ r. ⌜ now r ≡ stored (now (book .entry)) at ⌝ }
+{
+    text_at(book, at)
 }
 
 // Whether each byte of `s` is zero, where `s` is short.
@@ -262,21 +318,60 @@ pub fn all_zero(s: &[u8]) -> bool
     blank(&s[last..n])
 }
 
-// Whether the slot at `at` is a record's: the bytes behind its key are zero.
-pub fn slot_ok(book: &[u8], at: usize) -> bool
-    requires { do ⌜ at + 288 ≤ (← ⟦book.len()⟧) ⌝ }
-    ensures { λ r. ⌜ Tells r (SlotOk V1 (drop at (now (book .entry)))) ⌝ }
+// Whether a text of at most `most` bytes stands at `at` behind its length, its field filled with zeros.
+fn counted_ok(book: &[u8], at: usize, most: usize) -> bool
+    requires { do ⌜ at + 1 + most ≤ (← ⟦book.len()⟧) ⌝ }
+    ensures { λ r. ⌜ Tells r (CountedOk most (drop at (now (book .entry)))) ⌝ }
 {
-    let start = at + 1 + wide(book[at]);
-    let end = at + 256;
+    let n = wide(book[at]);
+    if most < n {
+        return false;
+    }
+    let start = at + 1 + n;
+    let end = at + 1 + most;
     all_zero(&book[start..end])
 }
 
-// Whether the header is that of a book with as many records as it says.
-pub fn header_ok(book: &[u8]) -> bool
-    requires { do ⌜ 8 ≤ (← ⟦book.len()⟧) ⌝ }
-    ensures { λ r. ⌜ r ≡ same (take 8 (now (book .entry))) (header (countIn (now (book .entry)))) ⌝ }
+// Whether the field at `at` is that of a value of version 2: 1 to 64 bytes.
+fn value_ok(book: &[u8], at: usize) -> bool
+    requires { do ⌜ at + 65 ≤ (← ⟦book.len()⟧) ⌝ }
+    ensures { λ r. ⌜ Tells r (FieldOk (fieldOf Two) (drop at (now (book .entry)))) ⌝ }
 {
-    let head: [u8; 8] = [72, 80, 66, 0, 1, book[5], book[6], 0];
+    if book[at] == 0 {
+        return false;
+    }
+    counted_ok(book, at, 64)
+}
+
+// Whether the slot at `at` is a record's: the bytes behind its key, and in version 2 behind its value, are zero.
+pub fn slot_ok(book: &[u8], at: usize, version: Version) -> bool
+    requires { do ⌜ at + formOf version .width ≤ (← ⟦book.len()⟧) ⌝ }
+    ensures { λ r. ⌜ Tells r (SlotOk (formOf version) (drop at (now (book .entry)))) ⌝ }
+{
+    if !counted_ok(book, at, 255) {
+        return false;
+    }
+    match version {
+        Version::One => true,
+        Version::Two => value_ok(book, at + KEY),
+    }
+}
+
+// The number of a version, as the header has it.
+fn version_number(version: Version) -> u8
+    ensures { λ r. ⌜ r ≡ numberOf version ⌝ }
+{
+    match version {
+        Version::One => 1,
+        Version::Two => 2,
+    }
+}
+
+// Whether the header is that of a book with as many records as it says.
+pub fn header_ok(book: &[u8], version: Version) -> bool
+    requires { do ⌜ 8 ≤ (← ⟦book.len()⟧) ⌝ }
+    ensures { λ r. ⌜ r ≡ same (take 8 (now (book .entry))) (header (numberOf version) (countIn (now (book .entry)))) ⌝ }
+{
+    let head: [u8; 8] = [72, 80, 66, 0, version_number(version), book[5], book[6], 0];
     text::part::equal(&book[0..8], &head)
 }

@@ -7,6 +7,7 @@ use Rattle.text.specs.OutcomeLaws.{agree}
 use Rattle.book.specs.Book.{Current}
 use Rattle.book.specs.BookLaws.{lawful}
 use Rattle.book.specs.OutcomeLaws.{one-changed, one-found, one-made}
+use Rattle.book.specs.ConvertLaws.{one-converted}
 use Rattle.book.specs.OldestLaws.{one-oldest}
 use Rattle.hostpath.proofs.hp_validate_identifier_chars.Reads as hp-validate-identifier-chars
 use Rattle.hostpath.proofs.hp_validate_identifier_length.Reads as hp-validate-identifier-length
@@ -46,6 +47,7 @@ use Rattle.hostpath.proofs.hp_book_write.Reads as hp-book-write
 use Rattle.hostpath.proofs.hp_book_remove.Reads as hp-book-remove
 use Rattle.hostpath.proofs.hp_book_lookup.Reads as hp-book-lookup
 use Rattle.hostpath.proofs.hp_book_oldest.Reads as hp-book-oldest
+use Rattle.hostpath.proofs.hp_book_convert.Reads as hp-book-convert
 
 pub one-hp-validate-identifier-chars : One hp-validate-identifier-chars.Post
 one-hp-validate-identifier-chars κs a r₁ r₂ s₁ s₂ p q = p ∙ sym q
@@ -160,3 +162,7 @@ one-hp-book-lookup κs a r₁ r₂ s₁ s₂ p q = one-found lawful p q
 
 pub one-hp-book-oldest : One hp-book-oldest.Post
 one-hp-book-oldest κs a r₁ r₂ s₁ s₂ p q = one-oldest Current lawful _ _ _ _ p q
+
+-- the second buffer
+pub one-hp-book-convert : OneWith hp-book-convert.Post (λ κs s. now (s .1 .0))
+one-hp-book-convert κs a r₁ r₂ s₁ s₂ p q = one-converted p q

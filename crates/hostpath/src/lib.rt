@@ -5,11 +5,11 @@
 // TOO_LONG: the text, or the path that it makes, has more than 4,096 bytes: shorten it
 // NOT_ASCII: a byte of the text is 128 or more: write the text in ASCII alone
 // NOT_A_PATH: the text fits none of the nineteen kinds of path: hold its words and numbers against the table of kinds
-// NO_ROOM: the lent buffer is shorter than the answer: lend a longer one
+// NO_ROOM: the lent buffer is too short, or not of the size that a converted book has: lend one of the right size
 // BAD_CHAR: a byte is none of A-Z, a-z, 0-9 and . _ + - # [ ] < >, which identifiers are made of: take it out
-// BAD_LENGTH: the identifier is too short or too long, or the value is not of 32 bytes: give one of the right length
+// BAD_LENGTH: the identifier is too short or too long, or the value is empty or over 64 bytes: give one of the right length
 // BAD_PREFIX: the identifier is not its name, a dash and a number without leading zeros: write it as in channel-7
-// BAD_BOOK: the buffer holds no book: make a new one in it, or lend the bytes that a book left
+// BAD_BOOK: the buffer holds no book of the version that the call takes: make a new one in it, or convert a book of version 1
 // KEY_TOO_LONG: the path's key has more than the 255 bytes that a book keeps: shorten its upgrade path
 // FULL: every slot of the book holds another key: remove a record, or take a book of more slots
 // ABSENT: the book holds no such record, or the block no such key: ask for the key of the text to see which record was looked for
@@ -46,6 +46,7 @@ ghost use Rattle.iteration.specs.Block.{blockOf, firstAbove, lastBelow, scanned
 ghost use Rattle.iteration.specs.Key.{iterationKey, revision, keyIn, answered, pairOf};
 ghost use Rattle.book.specs.Book.{Current};
 ghost use Rattle.book.specs.Outcome.{Wrote, Removed, Looked, Made};
+ghost use Rattle.book.specs.Convert.{Converted};
 ghost use Rattle.book.specs.Oldest.{Oldest};
 
 // Identifier checks.
@@ -366,7 +367,7 @@ pub extern "C" fn hp_receipt_prefix(out: &mut [u8]) -> Written
 
 // Books.
 
-// Makes the buffer, whatever it holds, a book without records; its size alone is looked at: 9.
+// Makes the buffer, whatever it holds, a book of version 2 without records; its size alone is looked at: 9.
 #[no_mangle]
 pub extern "C" fn hp_book_new(book: &mut [u8]) -> u8
     ensures { λ r. ⌜ Made Current tt (now (book .entry)) r (now (book .exit)) ⌝ }
@@ -391,10 +392,10 @@ pub extern "C" fn hp_book_remove(book: &mut [u8], text: &[u8]) -> u8
     book::remove(book, text)
 }
 
-// What the rendering of the text holds, in 32 bytes; wants that room even where it holds nothing:
+// What the rendering of the text holds, 1 to 64 bytes; wants room for 64 whatever it holds:
 // 9, 1, 2, 3 (17, 18, 19), 10, 4, 12.
 #[no_mangle]
-pub extern "C" fn hp_book_lookup(book: &[u8], text: &[u8], out: &mut [u8]) -> u8
+pub extern "C" fn hp_book_lookup(book: &[u8], text: &[u8], out: &mut [u8]) -> Written
     ensures { λ r. ⌜ Looked Current (now (book .entry)) (now (text .entry)) (now (out .entry)) r (now (out .exit)) ⌝ }
 {
     book::lookup(book, text, out)
@@ -407,4 +408,13 @@ pub extern "C" fn hp_book_oldest(book: &[u8], client: &[u8]) -> Pair
     ensures { λ r. ⌜ Oldest Current (now (book .entry)) (now (client .entry)) r ⌝ }
 {
     book::oldest::oldest(book, client)
+}
+
+// Makes the buffer `new`, whatever it holds, the book of version 2 that has the slots and the records of `old`, a book of
+// version 1: 9 where the first is none, then 4 where the second is not of that book's size.
+#[no_mangle]
+pub extern "C" fn hp_book_convert(old: &[u8], new: &mut [u8]) -> u8
+    ensures { λ r. ⌜ Converted (now (old .entry)) (now (new .entry)) r (now (new .exit)) ⌝ }
+{
+    book::convert::convert(old, new)
 }

@@ -2,12 +2,12 @@
 -- Assumes nothing.
 use Prim.Native.Nat.{ℕ}
 use mathlib.Core.Path.{_≡_, refl, _∙_}
-use mathlib.Core.Bool.{Bool, true, false, cond}
+use mathlib.Core.Bool.{Bool, true, false, cond, _&&_}
 use mathlib.Core.List.{List}
 use native.Mathlib.Omega.{arith}
-use lib.Dec.{eqb, ltb, leb}
+use lib.Dec.{ltb, leb}
 use lib.ListN.{length}
-use borrow.Author.Tests.{ltb-true, ltb-false, leb-true, leb-false, eqb-true, eqb-false, lt-ltb, le-ltb, le-leb, lt-leb, eq-eqb, ne-eqb}
+use borrow.Author.Tests.{ltb-true, ltb-false, leb-true, leb-false, lt-ltb, le-ltb, le-leb, lt-leb}
 use Rattle.text.specs.Part.{ascii}
 use Rattle.text.specs.Put.{Wanted, refused, text}
 use Rattle.path.specs.declared.PathAnswer.{PathAnswer}
@@ -19,7 +19,7 @@ use Rattle.path.specs.Kinds.{kinds}
 use Rattle.path.specs.Read.{readFirst, whyNot, refusalOf, readingOf, readPath, keyBy, keyOf}
 use Rattle.keys.specs.Records.{Key}
 use Rattle.keys.specs.Act.{Meaning, refuses, writes, removes, looks}
-use Rattle.keys.specs.Calls.{keyed, Asked, to-write, to-remove, to-look, Call, under, meaning, PathOf}
+use Rattle.keys.specs.Calls.{keyed, Asked, to-write, to-remove, to-look, Call, under, meaning, PathOf, ValueFits}
 use Rattle.keys.specs.Refusals.{HasKey, GoodWrite, GoodRemoval, GoodLookup, Declined, too-long, not-ascii, not-a-path, key-too-long, bad-length, no-room}
 
 -- a text that has no rendering
@@ -45,17 +45,18 @@ pub data Means (c : Call) : Meaning → Type 0 where
   looking : {k : Key} {room : ℕ} → GoodLookup c k room → Means c (looks k)
 
 under-means : (c : Call) (k : Key) → HasKey c k → (q : Asked) → c .asked ≡ q → Means c (under q k)
-under-means c k h (to-write v) p = go (eqb (length v) 32) refl
+under-means c k h (to-write v) p = go (leb 1 (length v)) refl (leb (length v) 64) refl
   where
-    go : (b : Bool) → eqb (length v) 32 ≡ b → Means c (cond b (writes k v) (refuses 6))
-    go true e = writing (record { asked = p; key = h; size = eqb-true (length v) 32 e })
-    go false e = declines (bad-length p h (eqb-false (length v) 32 e))
+    go : (a : Bool) → leb 1 (length v) ≡ a → (b : Bool) → leb (length v) 64 ≡ b → Means c (cond (a && b) (writes k v) (refuses 6))
+    go true e true f = writing (record { asked = p; key = h; size = record { least = leb-true 1 (length v) e; most = leb-true (length v) 64 f } })
+    go true e false f = declines (bad-length p h (λ s. omega (arith, leb-false (length v) 64 f, s .most)))
+    go false e b f = declines (bad-length p h (λ s. omega (arith, leb-false 1 (length v) e, s .least)))
 under-means c k h to-remove p = removing (record { asked = p; key = h })
-under-means c k h (to-look room) p = go (leb 32 room) refl
+under-means c k h (to-look room) p = go (leb 64 room) refl
   where
-    go : (b : Bool) → leb 32 room ≡ b → Means c (cond b (looks k) (refuses 4))
-    go true e = looking (record { asked = p; key = h; wide = leb-true 32 room e })
-    go false e = declines (no-room p h (leb-false 32 room e))
+    go : (b : Bool) → leb 64 room ≡ b → Means c (cond b (looks k) (refuses 4))
+    go true e = looking (record { asked = p; key = h; wide = leb-true 64 room e })
+    go false e = declines (no-room p h (leb-false 64 room e))
 
 pub means : (c : Call) → Means c (meaning c)
 unfolding meaning keyed
@@ -78,23 +79,31 @@ keyed-fits : (c : Call) (k : Key) → HasKey c k → meaning c ≡ under (c .ask
 unfolding meaning keyed
 keyed-fits c k h = rw (h .path, le-leb (length k) 255 (h .fits))
 
+not-sized : (k : Key) (v : List ℕ) → (ValueFits v → ⊥) → under (to-write v) k ≡ refuses 6
+not-sized k v n = go (leb 1 (length v)) refl (leb (length v) 64) refl
+  where
+    go : (a : Bool) → leb 1 (length v) ≡ a → (b : Bool) → leb (length v) 64 ≡ b → cond (a && b) (writes k v) (refuses 6) ≡ refuses 6
+    go true e true f = absurd (n (record { least = leb-true 1 (length v) e; most = leb-true (length v) 64 f }))
+    go true e false f = refl
+    go false e b f = refl
+
 pub declined-means : (c : Call) {n : ℕ} → Declined c n → meaning c ≡ refuses n
 unfolding keyOf readPath meaning keyed
 declined-means c (too-long h) = keyed-refused c 1 (rw (lt-ltb 4096 (length (c .text)) h))
 declined-means c (not-ascii h a) = keyed-refused c 2 (rw (le-ltb 4096 (length (c .text)) h, a))
 declined-means c (not-a-path h a r) = keyed-refused c _ (rw (le-ltb 4096 (length (c .text)) h, a, r))
 declined-means c (key-too-long {k = k} p l) = rw (p, lt-leb (length k) 255 l)
-declined-means c (bad-length {k = k} {v = v} q h n) = keyed-fits c k h ∙ rw (q, ne-eqb (length v) 32 n)
-declined-means c (no-room {k = k} {room = room} q h l) = keyed-fits c k h ∙ rw (q, lt-leb 32 room l)
+declined-means c (bad-length {k = k} {v = v} q h n) = keyed-fits c k h ∙ rw q (not-sized k v n)
+declined-means c (no-room {k = k} {room = room} q h l) = keyed-fits c k h ∙ rw (q, lt-leb 64 room l)
 
 pub writing-means : (c : Call) (k : Key) (v : List ℕ) → GoodWrite c k v → meaning c ≡ writes k v
-writing-means c k v ok = keyed-fits c k (ok .key) ∙ rw (ok .asked, eq-eqb (length v) 32 (ok .size))
+writing-means c k v ok = keyed-fits c k (ok .key) ∙ rw (ok .asked, le-leb 1 (length v) (ok .size .least), le-leb (length v) 64 (ok .size .most))
 
 pub removing-means : (c : Call) (k : Key) → GoodRemoval c k → meaning c ≡ removes k
 removing-means c k ok = keyed-fits c k (ok .key) ∙ rw (ok .asked)
 
 pub looking-means : (c : Call) (k : Key) (room : ℕ) → GoodLookup c k room → meaning c ≡ looks k
-looking-means c k room ok = keyed-fits c k (ok .key) ∙ rw (ok .asked, le-leb 32 room (ok .wide))
+looking-means c k room ok = keyed-fits c k (ok .key) ∙ rw (ok .asked, le-leb 64 room (ok .wide))
 
 unread-not : (w : Refusal) → ((refusalOf w ≡ 0) → ⊥) × ((refusalOf w ≡ 9) → ⊥) × ((refusalOf w ≡ 11) → ⊥) × ((refusalOf w ≡ 12) → ⊥)
 unread-not TooLong = (λ e. omega arith, λ e. omega arith, λ e. omega arith, λ e. omega arith)

@@ -1,10 +1,10 @@
 -- The calls on a book: writes, removals and lookups on texts, and what each means.
 -- Assumes nothing.
-use Prim.Native.Nat.{ℕ}
+use Prim.Native.Nat.{ℕ, _≤_}
 use mathlib.Core.Path.{_≡_}
-use mathlib.Core.Bool.{cond}
+use mathlib.Core.Bool.{cond, _&&_}
 use mathlib.Core.List.{List}
-use lib.Dec.{eqb, leb}
+use lib.Dec.{leb}
 use lib.ListN.{length}
 use Rattle.text.specs.Refusal.{noRoom, badLength, keyTooLong}
 use Rattle.text.specs.Put.{Wanted, refused, text}
@@ -48,11 +48,16 @@ unfoldable pub keyed : Wanted → (Key → Meaning) → Meaning
 keyed (refused n) f = refuses n
 keyed (text k) f = cond (leb (length k) 255) (f k) (refuses keyTooLong)
 
--- what is asked of a key: a value has 32 bytes; a lookup wants its room whether it finds the key or not
+-- a value has from 1 to 64 bytes
+pub record ValueFits (v : List ℕ) : Type 0 where
+  pub least : 1 ≤ length v
+  pub most : length v ≤ 64
+
+-- what is asked of a key: to hold a value of those sizes; a lookup wants room for the longest, whatever it finds
 abbrev pub under : Asked → Key → Meaning
-under (to-write v) k = cond (eqb (length v) 32) (writes k v) (refuses badLength)
+under (to-write v) k = cond (leb 1 (length v) && leb (length v) 64) (writes k v) (refuses badLength)
 under to-remove k = removes k
-under (to-look room) k = cond (leb 32 room) (looks k) (refuses noRoom)
+under (to-look room) k = cond (leb 64 room) (looks k) (refuses noRoom)
 
 unfoldable pub meaning : Call → Meaning
 meaning c = keyed (keyOf (c .text)) (under (c .asked))

@@ -13,7 +13,7 @@ use Rattle.path.specs.declared.PathAnswer.the-variants.{Nothing}
 use Rattle.path.specs.Kinds.{kinds}
 use Rattle.path.specs.Read.{readFirst, whyNot, refusalOf}
 use Rattle.keys.specs.Records.{Key}
-use Rattle.keys.specs.Calls.{to-write, to-remove, to-look, Call, PathOf}
+use Rattle.keys.specs.Calls.{to-write, to-remove, to-look, Call, PathOf, ValueFits}
 
 -- ---- a call that its own arguments do not refuse
 -- the key of a call: its path, where the rendering fits
@@ -24,7 +24,7 @@ pub record HasKey (c : Call) (k : Key) : Type 0 where
 pub record GoodWrite (c : Call) (k : Key) (v : List ℕ) : Type 0 where
   pub asked : c .asked ≡ to-write v
   pub key : HasKey c k
-  pub size : length v ≡ 32
+  pub size : ValueFits v
 
 pub record GoodRemoval (c : Call) (k : Key) : Type 0 where
   pub asked : c .asked ≡ to-remove
@@ -33,7 +33,7 @@ pub record GoodRemoval (c : Call) (k : Key) : Type 0 where
 pub record GoodLookup (c : Call) (k : Key) (room : ℕ) : Type 0 where
   pub asked : c .asked ≡ to-look room
   pub key : HasKey c k
-  pub wide : 32 ≤ room
+  pub wide : 64 ≤ room
 
 -- ---- refusals
 -- by the call alone: its text, the rendering, the value's length, the room
@@ -42,5 +42,5 @@ pub data Declined (c : Call) : ℕ → Type 0 where
   not-ascii : length (c .text) ≤ 4096 → ascii (c .text) ≡ false → Declined c notAscii
   not-a-path : length (c .text) ≤ 4096 → ascii (c .text) ≡ true → readFirst kinds (c .text) ≡ Nothing → Declined c (refusalOf (whyNot (c .text)))
   key-too-long : {k : Key} → PathOf c k → 255 < length k → Declined c keyTooLong
-  bad-length : {k : Key} {v : List ℕ} → c .asked ≡ to-write v → HasKey c k → (length v ≡ 32 → ⊥) → Declined c badLength
-  no-room : {k : Key} {room : ℕ} → c .asked ≡ to-look room → HasKey c k → room < 32 → Declined c noRoom
+  bad-length : {k : Key} {v : List ℕ} → c .asked ≡ to-write v → HasKey c k → (ValueFits v → ⊥) → Declined c badLength
+  no-room : {k : Key} {room : ℕ} → c .asked ≡ to-look room → HasKey c k → room < 64 → Declined c noRoom

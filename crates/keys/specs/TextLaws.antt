@@ -25,7 +25,7 @@ use Rattle.keys.specs.Act.{Meaning, refuses, writes, removes, looks}
 use Rattle.text.specs.declared.Written.{Written}
 use Rattle.keys.specs.Refusals.{HasKey, bad-length, no-room}
 use Rattle.keys.specs.CallLaws.{declined-means, writing-means, removing-means, looking-means}
-use Rattle.keys.specs.Calls.{Asked, to-write, to-remove, to-look, write, remove, look, under, meaning, Exact, keyed, keyAnswer}
+use Rattle.keys.specs.Calls.{Asked, to-write, to-remove, to-look, write, remove, look, under, meaning, Exact, ValueFits, keyed, keyAnswer}
 
 -- ---- exact keys, by the mark of a reading
 key-read : (t : List ℕ) (p : Path) (e : Bool) → readPath t ≡ Read p e → keyOf t ≡ text (renderPath t p)
@@ -142,16 +142,16 @@ module _ (t field : List ℕ) (n : ℕ) (k : Keyed t field n) where
   has : (q : Asked) → HasKey (record { text = t; asked = q }) (k .key)
   has q = record { path = k .reads; fits = k .short }
 
-  pub look-means : (room : ℕ) → 32 ≤ room → meaning (look t room) ≡ looks (k .key)
+  pub look-means : (room : ℕ) → 64 ≤ room → meaning (look t room) ≡ looks (k .key)
   look-means room h = looking-means (look t room) (k .key) room (record { asked = refl; key = has (to-look room); wide = h })
 
-  pub look-short : (room : ℕ) → room < 32 → meaning (look t room) ≡ refuses 4
+  pub look-short : (room : ℕ) → room < 64 → meaning (look t room) ≡ refuses 4
   look-short room h = declined-means (look t room) (no-room refl (has (to-look room)) h)
 
-  pub write-means : (v : List ℕ) → length v ≡ 32 → meaning (write t v) ≡ writes (k .key) v
+  pub write-means : (v : List ℕ) → ValueFits v → meaning (write t v) ≡ writes (k .key) v
   write-means v h = writing-means (write t v) (k .key) v (record { asked = refl; key = has (to-write v); size = h })
 
-  pub write-bad : (v : List ℕ) → (length v ≡ 32 → ⊥) → meaning (write t v) ≡ refuses 6
+  pub write-bad : (v : List ℕ) → (ValueFits v → ⊥) → meaning (write t v) ≡ refuses 6
   write-bad v h = declined-means (write t v) (bad-length refl (has (to-write v)) h)
 
   pub remove-means : meaning (remove t) ≡ removes (k .key)

@@ -17,6 +17,9 @@ pub const SETS: Sets = &[
     ("books, lengths of keys, values and rooms", edges),
 ];
 
+/// Lengths of values that tell.
+pub const SIZES: [usize; 6] = [1, 31, 32, 33, 63, VALUE];
+
 /// A buffer lent to the library and to the model.
 pub struct Lent(Buffer);
 
@@ -41,6 +44,7 @@ impl Lent {
             Call::Remove(text) => (asked(Function::BookRemove, [text, b""]), 0),
             Call::Lookup(text, room) => (asked(Function::BookLookup, [text, b""]), *room),
             Call::Oldest(client) => (asked(Function::BookOldest, [client, b""]), 0),
+            Call::Convert(old) => (asked(Function::BookConvert, [old, b""]), 0),
         };
         set.on_book(call, room, &answer, &self.0.bytes());
         answer
@@ -68,7 +72,8 @@ impl<'a> Chance<'a> {
         let used = self.random.of(&[0, some, most]);
         let mut book = Book::empty(slots);
         for path in &self.paths[..used.min(self.paths.len())] {
-            book.write(&path.exact(), &[self.random.word() as u8; VALUE]).expect("it has room");
+            let value = vec![self.random.word() as u8; self.random.of(&SIZES)];
+            book.write(&path.exact(), &value).expect("it has room");
         }
         book
     }
@@ -82,7 +87,11 @@ impl<'a> Chance<'a> {
     }
 
     fn write(&mut self) -> Call {
-        let length = if self.random.one_in(12) { self.random.of(&[0, 31, 33, 64]) } else { VALUE };
+        let length = match self.random.below(24) {
+            0 => self.random.of(&[0, 65]),
+            1..=12 => self.random.of(&SIZES),
+            _ => 1 + self.random.below(VALUE),
+        };
         let value = (0..length).map(|_| self.random.word() as u8).collect();
         Call::Write(self.text(), value)
     }
@@ -90,7 +99,7 @@ impl<'a> Chance<'a> {
     fn remove_or_lookup(&mut self) -> Call {
         match self.random.below(16) {
             0..=7 => Call::Remove(self.text()),
-            8 => Call::Lookup(self.text(), self.random.of(&[0, 31, 64])),
+            8 => Call::Lookup(self.text(), self.random.of(&[0, 32, 63, 65])),
             _ => Call::Lookup(self.text(), VALUE),
         }
     }
@@ -199,7 +208,7 @@ fn edges(set: &mut Set, _: Size) {
     for path in &paths {
         let texts = [path.exact(), path.spelling(&mut random), path.spelling(&mut random)];
         let mut with = Book::empty(2);
-        let _ = with.write(&path.exact(), &[1; VALUE]);
+        let _ = with.write(&path.exact(), &[1; 33]);
         let mut full = Book::empty(1);
         full.write(b"ports/transfer", &[2; VALUE]).expect("it has room");
         for book in [with, Book::empty(2), full] {
@@ -215,7 +224,7 @@ fn each_length(set: &mut Set, book: &[u8], text: &[u8]) {
     for room in 0..=70 {
         lent.check(set, &Call::Lookup(text.to_vec(), room));
     }
-    for length in (0..=70).chain([32, 255, 256, 288, 4096]) {
+    for length in (0..=70).chain([32, 255, 256, 257, 288, 320, 321, 4096]) {
         lent.check(set, &Call::Write(text.to_vec(), vec![length as u8; length]));
     }
     lent.check(set, &Call::Remove(text.to_vec()));

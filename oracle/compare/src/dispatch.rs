@@ -46,6 +46,7 @@ pub enum Function {
     BookRemove,
     BookLookup,
     BookOldest,
+    BookConvert,
     // Above, made by bin/interface.
     /// No call: the text is what calls on a book are lent from now on.
     BookLend,
@@ -94,6 +95,7 @@ impl Function {
             "hp_book_remove" => Self::BookRemove,
             "hp_book_lookup" => Self::BookLookup,
             "hp_book_oldest" => Self::BookOldest,
+            "hp_book_convert" => Self::BookConvert,
             // Above, made by bin/interface.
             _ => return None,
         })
@@ -141,6 +143,7 @@ impl Function {
             Self::BookRemove => [false, true, false],
             Self::BookLookup => [false, true, true],
             Self::BookOldest => [false, true, false],
+            Self::BookConvert => [false, true, false],
             // Above, made by bin/interface.
             Self::BookLend => [false, true, false],
         }
@@ -190,6 +193,7 @@ pub fn make(call: &Call, book: &mut [u8], out: &mut [u8]) -> Returned {
         Function::BookRemove => raw::book_remove(book, texts[0]).into(),
         Function::BookLookup => raw::book_lookup(book, texts[0], out).into(),
         Function::BookOldest => raw::book_oldest(book, texts[0]).into(),
+        Function::BookConvert => raw::book_convert(texts[0], book).into(),
         // Above, made by bin/interface.
         Function::BookLend => Returned::default(),
     }

@@ -6,6 +6,7 @@ pub mod batch;
 pub mod beside;
 pub mod books;
 pub mod call;
+pub mod conversions;
 #[rustfmt::skip]
 pub mod dispatch;
 pub mod identifiers;
@@ -51,4 +52,5 @@ pub const FAMILIES: &[Sets] = &[
     iteration::SETS,
     books::SETS,
     no_books::SETS,
+    conversions::SETS,
 ];

@@ -5,7 +5,7 @@ use model::pool::Pools;
 use model::random::Random;
 use model::spelling::Spelt;
 
-use crate::books::{slots, Chance, Lent};
+use crate::books::{slots, Chance, Lent, SIZES};
 use crate::set::Set;
 use crate::{Sets, Size};
 
@@ -38,12 +38,12 @@ fn probe(set: &mut Set, bytes: &[u8]) {
 /// Buffers of every length up to that of two slots, and around those of the largest books.
 fn lengths(set: &mut Set, _: Size) {
     let around = |slots| HEAD + SLOT * slots - 2..=HEAD + SLOT * slots + 2;
-    for length in (0..=600).chain((199..=201).flat_map(around)) {
+    for length in (0..=HEAD + 2 * SLOT + 2).chain((199..=201).flat_map(around)) {
         for byte in [0, 1, 0xff] {
             let mut bytes = vec![byte; length];
             probe(set, &bytes);
             let head = length.min(HEAD);
-            bytes[..head].copy_from_slice(&b"HPB\0\x01\0\0\0"[..head]);
+            bytes[..head].copy_from_slice(&b"HPB\0\x02\0\0\0"[..head]);
             probe(set, &bytes);
         }
         let mut bytes = one_record(1);
@@ -55,7 +55,7 @@ fn lengths(set: &mut Set, _: Size) {
 /// The state that `probe` asks for, in a book of so many slots.
 fn one_record(slots: usize) -> Vec<u8> {
     let mut book = Book::empty(slots);
-    book.write(STATE, &[1; VALUE]).expect("it has room");
+    book.write(STATE, &[1; 32]).expect("it has room");
     book.bytes()
 }
 
@@ -64,7 +64,8 @@ fn full(slots: usize, random: &mut Random) -> Vec<u8> {
     let mut book = Book::of(&one_record(slots)).expect("a book");
     let mut path = Spelt::longest();
     while book.free() > 0 {
-        book.write(&path.exact(), &[9; VALUE]).expect("it has room");
+        let value = vec![9; random.of(&SIZES)];
+        book.write(&path.exact(), &value).expect("it has room");
         path = Spelt::chance(random);
     }
     book.bytes()
@@ -102,7 +103,7 @@ fn slot(bytes: &[u8], random: &mut Random) -> usize {
 
 type Spoil = fn(&mut Vec<u8>, &mut Random);
 
-const SPOILS: [Spoil; 12] = [
+const SPOILS: [Spoil; 14] = [
     |bytes, random| bytes[6] = bytes[6].wrapping_add(random.of(&[1, 2, 254, 255])),
     |bytes, random| bytes[5..7].copy_from_slice(&random.word().to_be_bytes()[..2]),
     |bytes, random| exchange(bytes, random),
@@ -121,6 +122,14 @@ const SPOILS: [Spoil; 12] = [
     },
     |bytes, random| {
         let at = slot(bytes, random) + KEY;
+        bytes[at] = bytes[at].wrapping_add(1);
+    },
+    |bytes, random| {
+        let at = slot(bytes, random) + 1 + KEY;
+        bytes[at] = random.of(&[0, 1, 32, 64, 65, 255]);
+    },
+    |bytes, random| {
+        let at = slot(bytes, random) + SLOT - 1;
         bytes[at] = bytes[at].wrapping_add(1);
     },
     |bytes, random| {

@@ -183,7 +183,7 @@ impl<'a> Set<'a> {
     pub fn on_book(&mut self, call: Call, room: usize, answer: &Answer, after: &[u8]) {
         let (returned, text) = match answer {
             Ok(Given::Nothing) => (Returned::default(), &[][..]),
-            Ok(Given::Value(value)) => (Returned::default(), &value[..]),
+            Ok(Given::Value(value)) => (Returned::new(0, value.len() as u64), &value[..]),
             Ok(Given::Heights(numbers)) => (Returned { refusal: 0, numbers: *numbers }, &[][..]),
             Err(refusal) => (Returned::new(*refusal, 0), &[][..]),
         };

@@ -1,4 +1,4 @@
-//! The section 'The book' of document 01: a map from renderings to values, and its bytes.
+//! The section 'The book' of document 01, with request L4: a map from renderings to values, and its bytes.
 use std::collections::BTreeMap;
 
 use crate::identifier::Identifier;
@@ -6,14 +6,62 @@ use crate::path::{self, read_with_key};
 use crate::{hold, Refusal, ABSENT, BAD_BOOK, BAD_LENGTH, FULL, KEY_TOO_LONG, NO_ROOM};
 
 pub const HEAD: usize = 8;
-pub const SLOT: usize = 288;
 pub const KEY: usize = 255;
-pub const VALUE: usize = 32;
+
+/// The bytes of the longest value; the shortest has one.
+pub const VALUE: usize = 64;
 
 /// The slots of the largest book.
 pub const MOST: usize = 200;
 
-pub type Value = [u8; VALUE];
+pub type Value = Vec<u8>;
+
+/// How a book stands in bytes. Calls take and make version 2; a book of version 1 is only converted.
+#[derive(Clone, Copy, Debug, PartialEq, Eq)]
+pub enum Version {
+    One,
+    Two,
+}
+
+impl Version {
+    pub fn number(self) -> u8 {
+        match self {
+            Self::One => 1,
+            Self::Two => 2,
+        }
+    }
+
+    /// The bytes of a slot.
+    pub const fn slot(self) -> usize {
+        match self {
+            Self::One => 288,
+            Self::Two => 321,
+        }
+    }
+
+    /// The bytes of a book.
+    pub const fn size(self, slots: usize) -> usize {
+        HEAD + self.slot() * slots
+    }
+
+    /// The slots of a buffer of this length, where a book has such a length.
+    pub fn slots(self, length: usize) -> Option<usize> {
+        (1..=MOST).find(|slots| self.size(*slots) == length)
+    }
+
+    /// The value in its field: 32 bytes; or 1 to 64 behind their number, and zeros.
+    fn value(self, field: &[u8]) -> Option<&[u8]> {
+        if self == Self::One {
+            return Some(field);
+        }
+        let length = usize::from(field[0]);
+        let value = field[1..].get(..length).filter(|value| !value.is_empty())?;
+        field[1 + length..].iter().all(|byte| *byte == 0).then_some(value)
+    }
+}
+
+/// The bytes of a slot of version 2.
+pub const SLOT: usize = Version::Two.slot();
 
 /// The kind of a consensus state.
 pub const STATE: u8 = 5;
@@ -45,9 +93,9 @@ impl Book {
     /// 1, 2, 3, 10, 6, 11.
     pub fn write(&mut self, text: &[u8], value: &[u8]) -> Result<(), Refusal> {
         let key = key(text)?;
-        let value = Value::try_from(value).map_err(|_| BAD_LENGTH)?;
+        hold((1..=VALUE).contains(&value.len()), BAD_LENGTH)?;
         hold(self.free() > 0 || self.records.contains_key(&key), FULL)?;
-        self.records.insert(key, value);
+        self.records.insert(key, value.to_vec());
         Ok(())
     }
 
@@ -60,7 +108,7 @@ impl Book {
     pub fn lookup(&self, text: &[u8], room: usize) -> Result<Value, Refusal> {
         let key = key(text)?;
         hold(room >= VALUE, NO_ROOM)?;
-        self.records.get(&key).copied().ok_or(ABSENT)
+        self.records.get(&key).cloned().ok_or(ABSENT)
     }
 
     /// Client checks, 12.
@@ -76,57 +124,64 @@ impl Book {
 
     /// Header, a slot for each record in byte order of key, and zeros.
     pub fn bytes(&self) -> Vec<u8> {
+        self.bytes_of(Version::Two)
+    }
+
+    /// The same in a version; in version 1 each value has 32 bytes.
+    pub fn bytes_of(&self, version: Version) -> Vec<u8> {
         let count = self.records.len() as u16;
-        let mut bytes = [&b"HPB"[..], &1u16.to_be_bytes(), &count.to_be_bytes(), &[0]].concat();
-        for (key, value) in &self.records {
-            let filled = bytes.len() + 1 + KEY;
+        let mut bytes = [&b"HPB\0"[..], &[version.number()], &count.to_be_bytes(), &[0]].concat();
+        for (at, (key, value)) in self.records.iter().enumerate() {
             bytes.push(key.len() as u8);
             bytes.extend(key);
-            bytes.resize(filled, 0);
+            bytes.resize(version.size(at) + 1 + KEY, 0);
+            if version == Version::Two {
+                bytes.push(value.len() as u8);
+            }
             bytes.extend(value);
+            bytes.resize(version.size(at + 1), 0);
         }
-        bytes.resize(HEAD + SLOT * self.slots, 0);
+        bytes.resize(version.size(self.slots), 0);
         bytes
     }
 
     /// The book that a buffer is, if it is one.
     pub fn of(bytes: &[u8]) -> Option<Self> {
-        let keys = keys(bytes)?;
-        let record = |(at, key): (usize, &[u8])| {
-            let value = &bytes[HEAD + SLOT * at + 1 + KEY..HEAD + SLOT * (at + 1)];
-            (key.to_vec(), Value::try_from(value).expect("32 bytes"))
-        };
+        Self::of_version(Version::Two, bytes)
+    }
+
+    /// The same of a version.
+    pub fn of_version(version: Version, bytes: &[u8]) -> Option<Self> {
+        let record = |(key, value): (&[u8], &[u8])| (key.to_vec(), value.to_vec());
         Some(Self {
-            slots: slots(bytes.len())?,
-            records: keys.into_iter().enumerate().map(record).collect(),
+            slots: version.slots(bytes.len())?,
+            records: records(version, bytes)?.into_iter().map(record).collect(),
         })
     }
 }
 
-/// The slots of a buffer of this length, where a book has such a length.
-pub fn slots(length: usize) -> Option<usize> {
-    (1..=MOST).find(|slots| HEAD + SLOT * slots == length)
-}
-
 /// Whether a buffer is a book.
 pub fn is_book(bytes: &[u8]) -> bool {
-    keys(bytes).is_some()
+    records(Version::Two, bytes).is_some()
 }
 
-/// The keys of a book: document 01's sentences on a buffer's bytes, without the map and the layout
+type Records<'a> = Vec<(&'a [u8], &'a [u8])>;
+
+/// The records of a book: document 01's sentences on a buffer's bytes, without the map and the layout
 /// above.
-fn keys(bytes: &[u8]) -> Option<Vec<&[u8]>> {
-    let slots = slots(bytes.len())?;
+fn records(version: Version, bytes: &[u8]) -> Option<Records<'_>> {
+    let slots = version.slots(bytes.len())?;
     let (head, rest) = bytes.split_at(HEAD);
     let count = usize::from(head[5]) * 256 + usize::from(head[6]);
-    let framed = head[..5] == [b'H', b'P', b'B', 0, 1] && head[7] == 0;
+    let framed = head[..5] == [b'H', b'P', b'B', 0, version.number()] && head[7] == 0;
     if !framed || count > slots {
         return None;
     }
-    let (used, unused) = rest.split_at(SLOT * count);
-    let keys: Vec<&[u8]> = used.chunks(SLOT).map(slot_key).collect::<Option<_>>()?;
-    let rising = keys.windows(2).all(|pair| pair[0] < pair[1]);
-    (rising && unused.iter().all(|byte| *byte == 0)).then_some(keys)
+    let (used, unused) = rest.split_at(version.slot() * count);
+    let record = |slot| Some((slot_key(slot)?, version.value(&slot[1 + KEY..])?));
+    let records: Records = used.chunks(version.slot()).map(record).collect::<Option<_>>()?;
+    let rising = records.windows(2).all(|pair| pair[0].0 < pair[1].0);
+    (rising && unused.iter().all(|byte| *byte == 0)).then_some(records)
 }
 
 /// The key of a used slot: it reads back exact, and zeros fill its field.
@@ -145,6 +200,8 @@ pub enum Call {
     /// A text, and the room for what it holds.
     Lookup(Vec<u8>, usize),
     Oldest(Vec<u8>),
+    /// A book of version 1, to be turned into one of version 2 in the buffer that is lent.
+    Convert(Vec<u8>),
 }
 
 impl Call {
@@ -154,13 +211,13 @@ impl Call {
             Self::Write(text, _) | Self::Remove(text) | Self::Lookup(text, _) => {
                 read_with_key(text).ok().map(|(_, key)| key)
             }
-            Self::New | Self::Oldest(_) => None,
+            Self::New | Self::Oldest(_) | Self::Convert(_) => None,
         }
     }
 }
 
 /// What a call gives besides a changed book.
-#[derive(Clone, Copy, Debug, PartialEq, Eq)]
+#[derive(Clone, Debug, PartialEq, Eq)]
 pub enum Given {
     Nothing,
     Value(Value),
@@ -188,11 +245,12 @@ impl Buffer {
         }
     }
 
-    /// Making a new book looks at the length alone; every other call gives 9 first.
+    /// Making a new book and converting one look at the length alone; every other call gives 9 first.
     pub fn act(&mut self, call: &Call) -> Answer {
         let done = |()| Given::Nothing;
         match (call, &mut *self) {
             (Call::New, _) => self.renew().map(done),
+            (Call::Convert(old), _) => self.convert(old).map(done),
             (_, Self::Other(_)) => Err(BAD_BOOK),
             (Call::Write(text, value), Self::Book(book)) => book.write(text, value).map(done),
             (Call::Remove(text), Self::Book(book)) => book.remove(text).map(done),
@@ -204,8 +262,16 @@ impl Buffer {
     }
 
     fn renew(&mut self) -> Result<(), Refusal> {
-        let slots = slots(self.bytes().len()).ok_or(BAD_BOOK)?;
+        let slots = Version::Two.slots(self.bytes().len()).ok_or(BAD_BOOK)?;
         *self = Self::Book(Book::empty(slots));
+        Ok(())
+    }
+
+    /// 9, 4.
+    fn convert(&mut self, old: &[u8]) -> Result<(), Refusal> {
+        let book = Book::of_version(Version::One, old).ok_or(BAD_BOOK)?;
+        hold(self.bytes().len() == Version::Two.size(book.slots), NO_ROOM)?;
+        *self = Self::Book(book);
         Ok(())
     }
 }

@@ -1,5 +1,5 @@
 //! Document 01's sentences on the book, asked of the model.
-use model::book::{is_book, key, Book, Buffer, Call, Given, HEAD, SLOT, VALUE};
+use model::book::{is_book, key, Book, Buffer, Call, Given, Version, HEAD, SLOT, VALUE};
 use model::pool::Pools;
 use model::random::Random;
 use model::spelling::{odd, Spelt};
@@ -8,16 +8,16 @@ use model::{NO_DIGITS, NO_ROOM, TOO_LARGE, TOO_LONG};
 
 const LOOSE: &[u8] = b"clients/07-tendermint-4/consensusStates/007-+2";
 const EXACT: &[u8] = b"clients/07-tendermint-4/consensusStates/7-2";
-const ONE: [u8; VALUE] = [1; VALUE];
+const ONE: [u8; 32] = [1; 32];
 const TWO: [u8; VALUE] = [2; VALUE];
 
 #[test]
 fn spellings_are_one_path() {
     let mut book = Book::empty(1);
     assert_eq!(book.write(LOOSE, &ONE), Ok(()));
-    assert_eq!(book.lookup(EXACT, VALUE), Ok(ONE));
+    assert_eq!(book.lookup(EXACT, VALUE), Ok(ONE.to_vec()));
     assert_eq!(book.write(EXACT, &TWO), Ok(()));
-    assert_eq!(book.lookup(LOOSE, VALUE), Ok(TWO));
+    assert_eq!(book.lookup(LOOSE, VALUE), Ok(TWO.to_vec()));
     assert_eq!(book.remove(LOOSE), Ok(()));
     assert_eq!(book.lookup(EXACT, VALUE), Err(ABSENT));
 }
@@ -47,12 +47,12 @@ fn refusals_in_order() {
         assert_eq!(book.remove(text), Err(refusal));
         assert_eq!(book.lookup(text, 0), Err(refusal));
     }
-    assert_eq!(book.lookup(EXACT, 31), Err(NO_ROOM));
-    assert_eq!(book.lookup(EXACT, 32), Err(ABSENT));
+    assert_eq!(book.lookup(EXACT, 63), Err(NO_ROOM));
+    assert_eq!(book.lookup(EXACT, 64), Err(ABSENT));
     assert_eq!(book.remove(EXACT), Err(ABSENT));
     assert_eq!(book.write(b"ports/ab", &ONE), Ok(()));
-    assert_eq!(book.write(EXACT, &[0; 31]), Err(BAD_LENGTH));
-    assert_eq!(book.write(EXACT, &[0; 33]), Err(BAD_LENGTH));
+    assert_eq!(book.write(EXACT, &[]), Err(BAD_LENGTH));
+    assert_eq!(book.write(EXACT, &[0; 65]), Err(BAD_LENGTH));
     assert_eq!(book.write(EXACT, &ONE), Err(FULL));
     assert_eq!(book.write(b"ports/ab", &TWO), Ok(()));
     assert_eq!(book.oldest(b"short"), Err(BAD_LENGTH));
@@ -90,9 +90,10 @@ fn layout() {
     let mut book = Book::empty(2);
     book.write(b"ports/ab", &ONE).unwrap();
     let mut bytes = vec![0; HEAD + 2 * SLOT];
-    bytes[..HEAD].copy_from_slice(b"HPB\0\x01\0\x01\0");
+    bytes[..HEAD].copy_from_slice(b"HPB\0\x02\0\x01\0");
     bytes[8..17].copy_from_slice(b"\x08ports/ab");
-    bytes[264..296].copy_from_slice(&ONE);
+    bytes[264] = 32;
+    bytes[265..297].copy_from_slice(&ONE);
     assert_eq!(book.bytes(), bytes);
     assert_eq!(Book::of(&bytes), Some(book));
 }
@@ -109,9 +110,9 @@ type Damage = fn(&mut Vec<u8>);
 
 #[test]
 fn no_books() {
-    let damages: [(&str, Damage); 13] = [
+    let damages: [(&str, Damage); 16] = [
         ("mark", |b| b[2] = b'b'),
-        ("version", |b| b[4] = 2),
+        ("version", |b| b[4] = 1),
         ("last byte of the header", |b| b[7] = 1),
         ("count too small", |b| b[6] = 1),
         ("count too large", |b| b[6] = 3),
@@ -124,6 +125,9 @@ fn no_books() {
         }),
         ("fill after a key", |b| b[HEAD + 255] = 1),
         ("a key of no length", |b| b[HEAD..HEAD + 256].fill(0)),
+        ("fill after a value", |b| b[HEAD + SLOT - 1] = 1),
+        ("a value of no length", |b| b[HEAD + 256] = 0),
+        ("a value of 65 bytes", |b| b[HEAD + SLOT + 256] = 65),
         ("an unused slot", |b| *b.last_mut().unwrap() = 1),
         ("length", |b| b.push(0)),
     ];
@@ -143,14 +147,38 @@ fn new_looks_at_the_length_alone() {
     for (length, answer) in [
         (0, Err(BAD_BOOK)),
         (8, Err(BAD_BOOK)),
-        (296, Ok(Given::Nothing)),
-        (297, Err(BAD_BOOK)),
-        (57_608, Ok(Given::Nothing)),
-        (57_896, Err(BAD_BOOK)),
+        (329, Ok(Given::Nothing)),
+        (330, Err(BAD_BOOK)),
+        (64_208, Ok(Given::Nothing)),
+        (64_529, Err(BAD_BOOK)),
     ] {
         let mut buffer = Buffer::of(&vec![7; length]);
         assert_eq!(buffer.act(&Call::New), answer, "{length}");
         assert_eq!(is_book(&buffer.bytes()), answer.is_ok(), "{length}");
+    }
+}
+
+/// A book of version 1 and its conversion have the same records.
+#[test]
+fn conversions() {
+    let mut book = Book::empty(2);
+    book.write(EXACT, &ONE).unwrap();
+    let old = book.bytes_of(Version::One);
+    assert_eq!(old.len(), 584);
+    assert_eq!(old[..HEAD], *b"HPB\0\x01\0\x01\0");
+    assert_eq!(old[264..296], ONE);
+    for (length, answer) in [
+        (Version::Two.size(2), Ok(Given::Nothing)),
+        (Version::Two.size(2) - 1, Err(NO_ROOM)),
+        (Version::Two.size(2) + 1, Err(NO_ROOM)),
+        (Version::Two.size(1), Err(NO_ROOM)),
+        (0, Err(NO_ROOM)),
+    ] {
+        let mut buffer = Buffer::of(&vec![7; length]);
+        assert_eq!(buffer.act(&Call::Convert(old.clone())), answer, "{length}");
+        let after = if answer.is_ok() { book.bytes() } else { vec![7; length] };
+        assert_eq!(buffer.bytes(), after, "{length}");
+        assert_eq!(buffer.act(&Call::Convert(book.bytes())), Err(BAD_BOOK));
     }
 }
 

@@ -60,7 +60,7 @@ const OPERATIONS: [(&str, Operation); 8] = [
     ("oldest", Oldest),
 ];
 
-const VALUE: [u8; BOOK_VALUE] = [7; BOOK_VALUE];
+const VALUE: [u8; 32] = [7; 32];
 
 /// A full book, its keys, and whose turn it is.
 struct Desk {
@@ -90,7 +90,7 @@ impl Desk {
         let refusal = match operation {
             Readings => read_all(&self.keys),
             Check => u8::from(raw::book_oldest(book, b"").refusal != Refusal::BadLength.number()),
-            Lookup => raw::book_lookup(book, key, &mut black_box([0; BOOK_VALUE])),
+            Lookup => raw::book_lookup(book, key, &mut black_box([0; BOOK_VALUE])).refusal,
             Replace => raw::book_write(book, key, &VALUE),
             Fresh => {
                 book.copy_from_slice(black_box(&self.full));

@@ -4,20 +4,20 @@ use crate::{done, pair, raw, Refusal};
 /// The bytes before a book's slots.
 pub const BOOK_HEAD: usize = 8;
 /// The bytes of a slot.
-pub const BOOK_SLOT: usize = 288;
+pub const BOOK_SLOT: usize = 321;
 /// The slots of the largest book; the smallest has one.
 pub const BOOK_MOST: usize = 200;
 /// The bytes of the longest key.
 pub const BOOK_KEY: usize = 255;
-/// The bytes of a value.
-pub const BOOK_VALUE: usize = 32;
+/// The bytes of the longest value; the shortest has one.
+pub const BOOK_VALUE: usize = 64;
 
 /// The size of a book of so many slots.
 pub const fn book_size(slots: usize) -> usize {
     BOOK_HEAD + BOOK_SLOT * slots
 }
 
-/// A book in a lent buffer of [`book_size`] bytes. Texts with one rendering are one path, and a
+/// A book of version 2 in a lent buffer of [`book_size`] bytes. Texts with one rendering are one path, and a
 /// record stands under the rendering.
 ///
 /// ```
@@ -25,7 +25,7 @@ pub const fn book_size(slots: usize) -> usize {
 ///
 /// let mut buffer = [0; book_size(2)];
 /// let mut book = Book::new(&mut buffer)?;
-/// book.write(b"clients/07-tendermint-4/consensusStates/007-2", &[1; 32])?;
+/// book.write(b"clients/07-tendermint-4/consensusStates/007-2", b"a digest")?;
 /// assert_eq!(book.oldest(b"07-tendermint-4"), Ok((7, 2)));
 /// book.remove(b"clients/07-tendermint-4/consensusStates/7-2")?; // the same path
 /// assert_eq!(book.oldest(b"07-tendermint-4"), Err(Refusal::Absent));
@@ -47,13 +47,20 @@ impl<'a> Book<'a> {
         Self(buffer)
     }
 
+    /// Makes of a buffer, whatever that holds, the book that has the slots and the records of `old`, a book
+    /// of version 1: 9 where that is none, then 4 where the buffer is not of [`book_size`] for its slots.
+    pub fn convert(old: &[u8], buffer: &'a mut [u8]) -> Result<Self, Refusal> {
+        done(raw::book_convert(old, buffer))?;
+        Ok(Self(buffer))
+    }
+
     /// The book's bytes, as they may be stored and opened again.
     pub fn bytes(&self) -> &[u8] {
         self.0
     }
 
-    /// Adds a record, or replaces its value. 9, 1, 2, 3 (17, 18, 19), 10, 11.
-    pub fn write(&mut self, text: &[u8], value: &[u8; BOOK_VALUE]) -> Result<(), Refusal> {
+    /// Adds a record, or replaces its value, which has 1 to 64 bytes. 9, 1, 2, 3 (17, 18, 19), 10, 6, 11.
+    pub fn write(&mut self, text: &[u8], value: &[u8]) -> Result<(), Refusal> {
         done(raw::book_write(self.0, text, value))
     }
 
@@ -62,11 +69,15 @@ impl<'a> Book<'a> {
         done(raw::book_remove(self.0, text))
     }
 
-    /// A record's value. 9, 1, 2, 3 (17, 18, 19), 10, 12.
-    pub fn lookup(&self, text: &[u8]) -> Result<[u8; BOOK_VALUE], Refusal> {
-        let mut value = [0; BOOK_VALUE];
-        done(raw::book_lookup(self.0, text, &mut value))?;
-        Ok(value)
+    /// A record's value, in lent room for the longest. 9, 1, 2, 3 (17, 18, 19), 10, 12.
+    pub fn lookup<'b>(
+        &self,
+        text: &[u8],
+        room: &'b mut [u8; BOOK_VALUE],
+    ) -> Result<&'b [u8], Refusal> {
+        let answer = raw::book_lookup(self.0, text, room);
+        done(answer.refusal)?;
+        Ok(&room[..answer.length as usize])
     }
 
     /// The smallest pair of revision number and height among a client's consensus states: of `10-2` and

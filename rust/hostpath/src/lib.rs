@@ -6,7 +6,7 @@
 //! loose spelling of a path whose key in the store is another text:
 //!
 //! ```
-//! use hostpath::{book_size, Book, Path, Refusal};
+//! use hostpath::{book_size, Book, Path, Refusal, BOOK_VALUE};
 //!
 //! let text = b"clients/07-tendermint-4/consensusStates/007-2";
 //! let reading = Path::read(text)?;
@@ -20,11 +20,12 @@
 //! assert_eq!(client_id.as_str(), "07-tendermint-4"); // borrowed from the text, zeros and all
 //! assert_eq!((revision_number, revision_height), (7, 2));
 //!
-//! let mut buffer = [0; book_size(200)];
+//! let (mut buffer, mut room) = ([0; book_size(200)], [0; BOOK_VALUE]);
 //! let mut book = Book::new(&mut buffer)?;
-//! book.write(text, &[1; 32])?;
-//! assert_eq!(book.lookup(b"clients/07-tendermint-4/consensusStates/7-2"), Ok([1; 32]));
-//! let other = book.lookup(b"clients/007-tendermint-4/consensusStates/7-2");
+//! book.write(text, b"a digest")?;
+//! let held = book.lookup(b"clients/07-tendermint-4/consensusStates/7-2", &mut room);
+//! assert_eq!(held, Ok(&b"a digest"[..]));
+//! let other = book.lookup(b"clients/007-tendermint-4/consensusStates/7-2", &mut room);
 //! assert_eq!(other, Err(Refusal::Absent)); // another client
 //! # Ok::<(), Refusal>(())
 //! ```

@@ -131,9 +131,11 @@ pub mod c {
         /// [`book_remove`] on pointers.
         pub fn hp_book_remove(book: *mut u8, book_len: usize, text: *const u8, text_len: usize) -> u8;
         /// [`book_lookup`] on pointers.
-        pub fn hp_book_lookup(book: *const u8, book_len: usize, text: *const u8, text_len: usize, out: *mut u8, out_len: usize) -> u8;
+        pub fn hp_book_lookup(book: *const u8, book_len: usize, text: *const u8, text_len: usize, out: *mut u8, out_len: usize) -> Written;
         /// [`book_oldest`] on pointers.
         pub fn hp_book_oldest(book: *const u8, book_len: usize, client: *const u8, client_len: usize) -> Pair;
+        /// [`book_convert`] on pointers.
+        pub fn hp_book_convert(old: *const u8, old_len: usize, new: *mut u8, new_len: usize) -> u8;
         // Above, made by bin/interface.
     }
 }
@@ -347,7 +349,7 @@ pub fn receipt_prefix(out: &mut [u8]) -> Written {
     unsafe { c::hp_receipt_prefix(out.as_mut_ptr(), out.len()) }
 }
 
-/// Makes the buffer, whatever it holds, a book without records; its size alone is looked at: 9.
+/// Makes the buffer, whatever it holds, a book of version 2 without records; its size alone is looked at: 9.
 pub fn book_new(book: &mut [u8]) -> u8 {
     // SAFETY: each pointer and count are those of one live slice.
     unsafe { c::hp_book_new(book.as_mut_ptr(), book.len()) }
@@ -366,9 +368,9 @@ pub fn book_remove(book: &mut [u8], text: &[u8]) -> u8 {
     unsafe { c::hp_book_remove(book.as_mut_ptr(), book.len(), text.as_ptr(), text.len()) }
 }
 
-/// What the rendering of the text holds, in 32 bytes; wants that room even where it holds nothing:
+/// What the rendering of the text holds, 1 to 64 bytes; wants room for 64 whatever it holds:
 /// 9, 1, 2, 3 (17, 18, 19), 10, 4, 12.
-pub fn book_lookup(book: &[u8], text: &[u8], out: &mut [u8]) -> u8 {
+pub fn book_lookup(book: &[u8], text: &[u8], out: &mut [u8]) -> Written {
     // SAFETY: each pointer and count are those of one live slice.
     unsafe { c::hp_book_lookup(book.as_ptr(), book.len(), text.as_ptr(), text.len(), out.as_mut_ptr(), out.len()) }
 }
@@ -378,5 +380,12 @@ pub fn book_lookup(book: &[u8], text: &[u8], out: &mut [u8]) -> u8 {
 pub fn book_oldest(book: &[u8], client: &[u8]) -> Pair {
     // SAFETY: each pointer and count are those of one live slice.
     unsafe { c::hp_book_oldest(book.as_ptr(), book.len(), client.as_ptr(), client.len()) }
+}
+
+/// Makes the buffer `new`, whatever it holds, the book of version 2 that has the slots and the records of `old`, a book of
+/// version 1: 9 where the first is none, then 4 where the second is not of that book's size.
+pub fn book_convert(old: &[u8], new: &mut [u8]) -> u8 {
+    // SAFETY: each pointer and count are those of one live slice.
+    unsafe { c::hp_book_convert(old.as_ptr(), old.len(), new.as_mut_ptr(), new.len()) }
 }
 // Above, made by bin/interface.

@@ -13,15 +13,15 @@ pub enum Refusal {
     NotAscii = 2,
     /// 3: the text fits none of the nineteen kinds of path: hold its words and numbers against the table of kinds.
     NotAPath = 3,
-    /// 4: the lent buffer is shorter than the answer: lend a longer one.
+    /// 4: the lent buffer is too short, or not of the size that a converted book has: lend one of the right size.
     NoRoom = 4,
     /// 5: a byte is none of A-Z, a-z, 0-9 and . _ + - # [ ] < >, which identifiers are made of: take it out.
     BadChar = 5,
-    /// 6: the identifier is too short or too long, or the value is not of 32 bytes: give one of the right length.
+    /// 6: the identifier is too short or too long, or the value is empty or over 64 bytes: give one of the right length.
     BadLength = 6,
     /// 7: the identifier is not its name, a dash and a number without leading zeros: write it as in channel-7.
     BadPrefix = 7,
-    /// 9: the buffer holds no book: make a new one in it, or lend the bytes that a book left.
+    /// 9: the buffer holds no book of the version that the call takes: make a new one in it, or convert a book of version 1.
     BadBook = 9,
     /// 10: the path's key has more than the 255 bytes that a book keeps: shorten its upgrade path.
     KeyTooLong = 10,
@@ -86,11 +86,11 @@ impl Refusal {
             Self::TooLong => "the text, or the path that it makes, has more than 4,096 bytes: shorten it",
             Self::NotAscii => "a byte of the text is 128 or more: write the text in ASCII alone",
             Self::NotAPath => "the text fits none of the nineteen kinds of path: hold its words and numbers against the table of kinds",
-            Self::NoRoom => "the lent buffer is shorter than the answer: lend a longer one",
+            Self::NoRoom => "the lent buffer is too short, or not of the size that a converted book has: lend one of the right size",
             Self::BadChar => "a byte is none of A-Z, a-z, 0-9 and . _ + - # [ ] < >, which identifiers are made of: take it out",
-            Self::BadLength => "the identifier is too short or too long, or the value is not of 32 bytes: give one of the right length",
+            Self::BadLength => "the identifier is too short or too long, or the value is empty or over 64 bytes: give one of the right length",
             Self::BadPrefix => "the identifier is not its name, a dash and a number without leading zeros: write it as in channel-7",
-            Self::BadBook => "the buffer holds no book: make a new one in it, or lend the bytes that a book left",
+            Self::BadBook => "the buffer holds no book of the version that the call takes: make a new one in it, or convert a book of version 1",
             Self::KeyTooLong => "the path's key has more than the 255 bytes that a book keeps: shorten its upgrade path",
             Self::Full => "every slot of the book holds another key: remove a record, or take a book of more slots",
             Self::Absent => "the book holds no such record, or the block no such key: ask for the key of the text to see which record was looked for",

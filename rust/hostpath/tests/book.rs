@@ -1,25 +1,30 @@
 //! The book through its type.
-use hostpath::{book_size, Book, Refusal, BOOK_MOST, BOOK_VALUE};
+use hostpath::{book_size, Book, Refusal, BOOK_HEAD, BOOK_KEY, BOOK_MOST, BOOK_VALUE};
 
 const LOOSE: &[u8] = b"clients/07-tendermint-4/consensusStates/007-+2";
 const EXACT: &[u8] = b"clients/07-tendermint-4/consensusStates/7-2";
 
+/// What the book holds under a text.
+fn held(book: &Book, text: &[u8]) -> Result<Vec<u8>, Refusal> {
+    book.lookup(text, &mut [0xa5; BOOK_VALUE]).map(<[u8]>::to_vec)
+}
+
 #[test]
-fn records() {
+fn calls() {
     let mut buffer = [0xa5; book_size(2)];
     let mut book = Book::new(&mut buffer).unwrap();
-    assert_eq!(book.lookup(EXACT), Err(Refusal::Absent));
+    assert_eq!(held(&book, EXACT), Err(Refusal::Absent));
     assert_eq!(book.write(LOOSE, &[1; BOOK_VALUE]), Ok(()));
-    assert_eq!(book.write(EXACT, &[2; BOOK_VALUE]), Ok(()));
-    assert_eq!(book.write(b"ports/transfer", &[3; BOOK_VALUE]), Ok(()));
-    assert_eq!(book.write(b"ports/icahost", &[4; BOOK_VALUE]), Err(Refusal::Full));
-    assert_eq!(book.lookup(LOOSE), Ok([2; BOOK_VALUE]));
+    assert_eq!(book.write(EXACT, &[2; 32]), Ok(()));
+    assert_eq!(book.write(b"ports/transfer", &[3]), Ok(()));
+    assert_eq!(book.write(b"ports/icahost", &[4; 32]), Err(Refusal::Full));
+    assert_eq!(held(&book, LOOSE), Ok(vec![2; 32]));
     assert_eq!(book.oldest(b"07-tendermint-4"), Ok((7, 2)));
     assert_eq!(book.oldest(b"07-tendermint-5"), Err(Refusal::Absent));
     assert_eq!(book.remove(LOOSE), Ok(()));
     assert_eq!(book.remove(EXACT), Err(Refusal::Absent));
-    assert_eq!(book.bytes()[..8], *b"HPB\0\x01\0\x01\0");
-    assert_eq!(Book::open(&mut buffer).lookup(b"ports/transfer"), Ok([3; BOOK_VALUE]));
+    assert_eq!(book.bytes()[..8], *b"HPB\0\x02\0\x01\0");
+    assert_eq!(held(&Book::open(&mut buffer), b"ports/transfer"), Ok(vec![3]));
 }
 
 #[test]
@@ -29,26 +34,57 @@ fn no_book() {
     }
     let mut buffer = [0; book_size(1)];
     let mut book = Book::open(&mut buffer);
-    assert_eq!(book.write(EXACT, &[1; BOOK_VALUE]), Err(Refusal::BadBook));
+    assert_eq!(book.write(EXACT, &[1; 32]), Err(Refusal::BadBook));
     assert_eq!(book.remove(EXACT), Err(Refusal::BadBook));
-    assert_eq!(book.lookup(EXACT), Err(Refusal::BadBook));
+    assert_eq!(held(&book, EXACT), Err(Refusal::BadBook));
     assert_eq!(book.oldest(b"07-tendermint-4"), Err(Refusal::BadBook));
     assert_eq!(buffer, [0; book_size(1)]);
 }
 
-/// The sizes that the type keeps right.
+/// The sizes that tell, and what a lookup leaves of its room.
 #[test]
 fn sizes() {
-    use hostpath::raw::{book_lookup, book_write};
+    use hostpath::raw::{book_lookup, book_write, Written};
     let mut buffer = [0; book_size(BOOK_MOST)];
-    let mut out = [b'.'; BOOK_VALUE + 1];
     Book::new(&mut buffer).unwrap();
-    assert_eq!(book_write(&mut buffer, EXACT, b"short"), Refusal::BadLength.number());
-    assert_eq!(book_write(&mut buffer, EXACT, &[1; BOOK_VALUE]), 0);
-    assert_eq!(book_lookup(&buffer, EXACT, &mut out[..31]), Refusal::NoRoom.number());
-    assert_eq!(out, [b'.'; BOOK_VALUE + 1]);
-    assert_eq!(book_lookup(&buffer, EXACT, &mut out), 0);
-    assert_eq!((&out[..BOOK_VALUE], out[BOOK_VALUE]), (&[1; BOOK_VALUE][..], b'.'));
+    for length in [0, BOOK_VALUE + 1] {
+        let value = vec![1; length];
+        assert_eq!(book_write(&mut buffer, EXACT, &value), Refusal::BadLength.number());
+    }
+    for length in [1, 31, 32, 33, 63, 64] {
+        assert_eq!(book_write(&mut buffer, EXACT, &vec![1; length]), 0);
+        let mut out = [b'.'; BOOK_VALUE + 1];
+        let short = Written { refusal: Refusal::NoRoom.number(), length: 0 };
+        assert_eq!(book_lookup(&buffer, EXACT, &mut out[..BOOK_VALUE - 1]), short);
+        assert_eq!(out, [b'.'; BOOK_VALUE + 1]);
+        let done = Written { refusal: 0, length: length as u64 };
+        assert_eq!(book_lookup(&buffer, EXACT, &mut out), done);
+        let (value, rest) = out.split_at(length);
+        assert!(value.iter().all(|byte| *byte == 1) && rest.iter().all(|byte| *byte == b'.'));
+    }
+}
+
+/// A book of version 1 with one record, and what becomes of it.
+#[test]
+fn converted() {
+    let slot = 1 + BOOK_KEY + 32;
+    let mut old = vec![0; BOOK_HEAD + 2 * slot];
+    old[..BOOK_HEAD].copy_from_slice(b"HPB\0\x01\0\x01\0");
+    old[BOOK_HEAD] = EXACT.len() as u8;
+    old[BOOK_HEAD + 1..][..EXACT.len()].copy_from_slice(EXACT);
+    old[BOOK_HEAD + 1 + BOOK_KEY..][..32].fill(7);
+    let mut new = [0xa5; book_size(2)];
+    let book = Book::convert(&old, &mut new).unwrap();
+    assert_eq!(held(&book, LOOSE), Ok(vec![7; 32]));
+    assert_eq!(book.oldest(b"07-tendermint-4"), Ok((7, 2)));
+    assert_eq!(held(&Book::open(&mut old), EXACT), Err(Refusal::BadBook));
+    let none = Book::convert(&new, &mut [0; book_size(2)]).map(|_| ());
+    assert_eq!(none, Err(Refusal::BadBook));
+    for size in [0, book_size(1), book_size(2) - 1, book_size(2) + 1, book_size(3)] {
+        let mut other = vec![0xa5; size];
+        assert_eq!(Book::convert(&old, &mut other).map(|_| ()), Err(Refusal::NoRoom), "{size}");
+        assert_eq!(other, vec![0xa5; size]);
+    }
 }
 
 /// A lent buffer may begin at any address.
@@ -57,9 +93,9 @@ fn addresses() {
     let mut room = [0xa5; book_size(2) + 32];
     for at in 0..32 {
         let mut book = Book::new(&mut room[at..at + book_size(2)]).unwrap();
-        assert_eq!(book.write(b"ports/transfer", &[1; BOOK_VALUE]), Ok(()));
+        assert_eq!(book.write(b"ports/transfer", &[1; 33]), Ok(()));
         assert_eq!(book.write(EXACT, &[2; BOOK_VALUE]), Ok(()));
-        assert_eq!(book.lookup(b"ports/transfer"), Ok([1; BOOK_VALUE]));
+        assert_eq!(held(&book, b"ports/transfer"), Ok(vec![1; 33]));
         assert_eq!(book.remove(EXACT), Ok(()));
         assert!(room[at + book_size(2)..].iter().all(|byte| *byte == 0xa5));
     }

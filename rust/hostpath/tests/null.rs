@@ -62,12 +62,13 @@ fn books() {
         assert_eq!(hp_book_new(null_mut(), 0), 9);
         assert_eq!(hp_book_write(null_mut(), 0, port, size, out.as_ptr(), BOOK_VALUE), 9);
         assert_eq!(hp_book_remove(null_mut(), 0, port, size), 9);
-        assert_eq!(hp_book_lookup(null(), 0, port, size, out.as_mut_ptr(), BOOK_VALUE), 9);
+        assert_eq!(hp_book_lookup(null(), 0, port, size, out.as_mut_ptr(), BOOK_VALUE), refused(9));
         let none = Pair { refusal: 9, number: 0, height: 0 };
         assert_eq!(hp_book_oldest(null(), 0, port, size), none);
         assert_eq!(hp_book_write(null_mut(), 0, null(), 0, null(), 0), 9);
         assert_eq!(hp_book_remove(null_mut(), 0, null(), 0), 9);
-        assert_eq!(hp_book_lookup(null(), 0, null(), 0, null_mut(), 0), 9);
+        assert_eq!(hp_book_lookup(null(), 0, null(), 0, null_mut(), 0), refused(9));
+        assert_eq!(hp_book_convert(null(), 0, null_mut(), 0), 9);
         assert_eq!(hp_book_oldest(null(), 0, null(), 0), none);
     }
     assert_eq!(out, [0; BOOK_VALUE]);
@@ -85,8 +86,8 @@ fn texts_values_and_rooms() {
         assert_eq!(hp_book_write(book, n, null(), 0, out.as_ptr(), BOOK_VALUE), 3);
         assert_eq!(hp_book_write(book, n, port, size, null(), 0), 6);
         assert_eq!(hp_book_remove(book, n, null(), 0), 3);
-        assert_eq!(hp_book_lookup(book, n, null(), 0, out.as_mut_ptr(), BOOK_VALUE), 3);
-        assert_eq!(hp_book_lookup(book, n, port, size, null_mut(), 0), 4);
+        assert_eq!(hp_book_lookup(book, n, null(), 0, out.as_mut_ptr(), BOOK_VALUE), refused(3));
+        assert_eq!(hp_book_lookup(book, n, port, size, null_mut(), 0), refused(4));
         let short = Pair { refusal: 6, number: 0, height: 0 };
         assert_eq!(hp_book_oldest(book, n, null(), 0), short);
     }

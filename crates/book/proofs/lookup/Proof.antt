@@ -2,7 +2,7 @@
 -- Assumes nothing.
 use mathlib.Core.Path.{refl}
 use Rattle.keys.specs.TextLaws.{refused-by, key-of, look-short}
-use Rattle.form.specs.V1.{V1}
+use Rattle.book.specs.Book.{Current}
 use Rattle.book.specs.FindLaws.{looked-refused}
 use Rattle.book.specs.RecordLaws.{judged-holds, look-no-book, look-text}
 use borrow.Author.Needs.{needs}
@@ -13,10 +13,10 @@ returns : tie.Need-returns
 returns c = look-no-book _ _ (c .before .before .check-book .ensures) (c .enum-told .given .1) _ _
 
 returns-2 : tie.Need-returns-2
-returns-2 c = looked-refused V1 _ _ (judged-holds _ _ _ (c .before .before .before .before .before .before .before .check-book .ensures) (c .before .before .before .before .before .n .given .1)) _ _ (refused-by _ _ (c .before .before .key-into .ensures .0) _ (c .if1 .taken)) _
+returns-2 c = looked-refused Current _ _ (judged-holds _ _ _ (c .before .before .before .before .before .before .before .check-book .ensures) (c .before .before .before .before .before .n .given .1)) _ _ (refused-by _ _ (c .before .before .key-into .ensures .0) _ (c .if1 .taken)) _
 
 returns-3 : tie.Need-returns-3
-returns-3 c = looked-refused V1 _ _ (judged-holds _ _ _ (c .before .before .before .before .before .before .before .before .check-book .ensures) (c .before .before .before .before .before .before .n .given .1)) _ _ (look-short _ _ _ (key-of _ _ (c .before .before .before .key-into .ensures .0) _ _ refl (c .before .if1 .left) (c .before .before .before .key-into .ensures .1)) _ (c .if2 .taken)) _
+returns-3 c = looked-refused Current _ _ (judged-holds _ _ _ (c .before .before .before .before .before .before .before .before .check-book .ensures) (c .before .before .before .before .before .before .n .given .1)) _ _ (look-short _ _ _ (key-of _ _ (c .before .before .before .key-into .ensures .0) _ _ refl (c .before .if1 .left) (c .before .before .before .key-into .ensures .1)) _ (c .if2 .taken)) _
 
 part-look-record-end : tie.Need-part-look-record-end
 part-look-record-end c = (key-of _ _ (c .before .before .before .before .key-into .ensures .0) _ _ refl (c .before .before .if1 .left) (c .before .before .before .before .key-into .ensures .1)) .room

@@ -2,7 +2,7 @@
 -- Assumes nothing.
 use mathlib.Core.Path.{refl}
 use Rattle.keys.specs.TextLaws.{refused-by, key-of}
-use Rattle.form.specs.V1.{V1}
+use Rattle.book.specs.Book.{Current}
 use Rattle.book.specs.FindLaws.{changed-refused}
 use Rattle.book.specs.RecordLaws.{judged-holds, no-book, remove-text}
 use borrow.Author.Needs.{needs}
@@ -13,7 +13,7 @@ returns : tie.Need-returns
 returns c = no-book _ _ (c .before .before .check-book .ensures) (c .enum-told .given .1) _
 
 returns-2 : tie.Need-returns-2
-returns-2 c = changed-refused V1 _ _ (judged-holds _ _ _ (c .before .before .before .before .before .before .before .check-book .ensures) (c .before .before .before .before .before .n .given .1)) _ _ (refused-by _ _ (c .before .before .key-into .ensures .0) _ (c .if1 .taken))
+returns-2 c = changed-refused Current _ _ (judged-holds _ _ _ (c .before .before .before .before .before .before .before .check-book .ensures) (c .before .before .before .before .before .n .given .1)) _ _ (refused-by _ _ (c .before .before .key-into .ensures .0) _ (c .if1 .taken))
 
 part-take-record-end : tie.Need-part-take-record-end
 part-take-record-end c = (key-of _ _ (c .before .before .before .before .key-into .ensures .0) _ _ refl (c .before .before .if1 .left) (c .before .before .before .before .key-into .ensures .1)) .room

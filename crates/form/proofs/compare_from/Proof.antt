@@ -6,7 +6,7 @@ use native.Mathlib.Omega.{arith}
 use borrow.Author.Needs.{needs}
 use lib.ListN.{length, getD}
 use Rattle.text.specs.Order.{cmp}
-use Rattle.form.specs.V1.{stored}
+use Rattle.form.specs.Counted.{stored}
 use Rattle.form.specs.CompareLaws.{agree-rest, rest, out-longer, out-lt, out-gt, out-same, out-shorter, turn}
 use Rattle.form.proofs.compare_from.Statement.{statement}
 use Rattle.form.proofs.compare_from.Tie as tie

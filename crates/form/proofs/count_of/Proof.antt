@@ -3,7 +3,7 @@
 use mathlib.Core.Path.{_∙_}
 use native.Mathlib.Omega.{arith}
 use borrow.Author.Needs.{needs}
-use Rattle.form.specs.V1Laws.{count-read}
+use Rattle.form.specs.VersionLaws.{count-read}
 use Rattle.form.proofs.count_of.Statement.{statement}
 use Rattle.form.proofs.count_of.Tie as tie
 

@@ -1,28 +1,12 @@
 -- `form::key_at` meets its contract.
 -- Assumes nothing.
-use Prim.Native.Nat.{_+_, _-_}
-use lib.ListN.{getD}
 use native.Mathlib.Omega.{arith}
-use mathlib.Core.Path.{_≡_}
-use Rattle.form.specs.CompareLaws.{stored-part}
 use borrow.Author.Needs.{needs}
 use Rattle.form.proofs.key_at.Statement.{statement}
 use Rattle.form.proofs.key_at.Tie as tie
 
-returns : tie.Need-returns
-returns c =
-    let a = c .before .before .before .before .args in
-    stored-part (a .book .now) (a .at) _ (let q : a .at + 1 + c .before .wide .result - (a .at + 1) ≡ getD (a .book .now) (a .at) 0 = omega (arith, c .before .wide .ensures) in q)
+text-at-requires : tie.Need-text-at-requires
+text-at-requires c κs = omega (arith, c .shared-slice-known .given (c .before .args .at))
 
 pub key-at-spec : {M : Type 1} → statement M
-key-at-spec =
-    tie.close
-    (tie.spec
-    (λ c. search needs)
-    (λ c. search needs)
-    (λ c κs. search needs)
-    (λ c. search needs)
-    (λ c. search needs)
-    (λ c. search needs)
-    (λ c. search needs)
-    returns)
+key-at-spec = tie.close (tie.spec text-at-requires (λ c. search needs))

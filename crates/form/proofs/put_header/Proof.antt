@@ -1,7 +1,7 @@
 -- `form::put_header` meets its contract.
 -- Assumes nothing.
 use borrow.Author.Needs.{needs}
-use Rattle.form.specs.V1.{header}
+use Rattle.form.specs.Version.{header}
 use Rattle.form.proofs.put_header.Statement.{statement}
 use Rattle.form.proofs.put_header.Tie as tie
 

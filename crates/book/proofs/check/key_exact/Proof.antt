@@ -1,6 +1,6 @@
 -- `book::key_exact` meets its contract.
 -- Assumes nothing.
-use Rattle.book.specs.CheckV1Laws.{tells-refused, tells-exact}
+use Rattle.book.specs.CheckWayLaws.{tells-refused, tells-exact}
 use borrow.Author.Needs.{needs}
 use Rattle.book.proofs.check.key_exact.Statement.{statement}
 use Rattle.book.proofs.check.key_exact.Tie as tie

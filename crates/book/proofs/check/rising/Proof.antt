@@ -1,21 +1,23 @@
--- `book::rising` meets its contract.
+-- `book::check::rising` meets its contract.
 -- Assumes nothing.
-use Prim.Native.Nat.{ℕ, _≤_, _<_, _-_}
+use Prim.Native.Nat.{ℕ, _+_, _-_, _<_, _≤_}
 use borrow.Author.Count.{below-more}
+use Rattle.form.specs.FormLaws.{place-up}
 use Rattle.form.specs.Tells.{tells-true, tells-false}
-use Rattle.form.specs.V1.{V1}
+use Rattle.form.specs.Version.{formOf}
+use Rattle.form.specs.VersionLaws.{version-lawful}
 use Rattle.book.specs.Check.{Rises}
-use Rattle.book.specs.CheckV1Laws.{rises-yes, rises-no}
-use borrow.Author.Needs.{needs}
+use Rattle.book.specs.CheckWayLaws.{rises-yes, rises-no}
 use native.Mathlib.Omega.{arith}
+use borrow.Author.Needs.{needs}
 use Rattle.book.proofs.check.rising.Statement.{statement}
 use Rattle.book.proofs.check.rising.Tie as tie
 
 abbrev Inv-loop : tie.InvT-loop
-Inv-loop book n i₀ i = (i ≤ n) × ((j : ℕ) → j < i → Rises V1 book j)
+Inv-loop book n version i₀ i = (i ≤ n) × ((j : ℕ) → j < i → Rises (formOf version) book j)
 
 abbrev μ-loop : tie.MeasureT-loop
-μ-loop book n i₀ i = n - i
+μ-loop book n version i₀ i = n - i
 
 loop-holds : tie.Need-loop-holds Inv-loop μ-loop
 loop-holds c = (omega arith, λ j h. absurd (let z : ⊥ = omega arith in z))
@@ -23,31 +25,22 @@ loop-holds c = (omega arith, λ j h. absurd (let z : ⊥ = omega arith in z))
 add-loop : tie.Need-add-loop Inv-loop μ-loop
 add-loop c = omega arith
 
+compare-next-requires : tie.Need-compare-next-requires Inv-loop μ-loop
+compare-next-requires c κs = let s = c .before .before .before .before .before in
+    let i = c .before .before .before .loop .i in
+    omega (arith, c .width .ensures, c .before .slot-at .ensures, s .pre, place-up (formOf (s .args .version)) (version-lawful (s .args .version)) (i + 2) (s .args .n) (omega arith))
+
 returns : tie.Need-returns Inv-loop μ-loop
-returns c = tells-false (λ g. rises-no _ (c .before .before .before .loop .i) _ (c .before .compare-next .ensures) (c .if1 .taken) (g (c .before .before .before .loop .i) (omega arith)))
+returns c = tells-false (λ g. rises-no (c .before .before .before .before .before .before .before .args .version) _ (c .before .before .before .before .before .loop .i) _ _ _ (c .before .before .before .slot-at .ensures) (c .before .before .width .ensures) (c .before .compare-next .ensures) (c .if1 .taken) (g (c .before .before .before .before .before .loop .i) (omega arith)))
 
 loop-less : tie.Need-loop-less Inv-loop μ-loop
 loop-less c = omega arith
 
 loop-again : tie.Need-loop-again Inv-loop μ-loop
-loop-again c = (omega arith, below-more _ (c .before .before .before .loop .i) (c .before .before .before .loop .inv .1) (rises-yes _ (c .before .before .before .loop .i) _ (c .before .compare-next .ensures) (c .if1 .left)))
+loop-again c = (omega arith, below-more _ (c .before .before .before .before .before .loop .i) (c .before .before .before .before .before .loop .inv .1) (rises-yes (c .before .before .before .before .before .before .before .args .version) _ (c .before .before .before .before .before .loop .i) _ _ _ (c .before .before .before .slot-at .ensures) (c .before .before .width .ensures) (c .before .compare-next .ensures) (c .if1 .left)))
 
 returns-2 : tie.Need-returns-2 Inv-loop μ-loop
 returns-2 c = tells-true (λ j h. c .before .loop .inv .1 j (omega arith))
 
 pub rising-spec : {M : Type 1} → statement M
-rising-spec =
-    tie.close
-    (tie.spec
-    Inv-loop
-    μ-loop
-    loop-holds
-    add-loop
-    (λ c. search needs)
-    (λ c. search needs)
-    (λ c κs. search needs)
-    returns
-    (λ c. search needs)
-    loop-less
-    loop-again
-    returns-2)
+rising-spec = tie.close (tie.spec Inv-loop μ-loop loop-holds add-loop (λ c κs. search needs) (λ c κs. search needs) compare-next-requires returns (λ c. search needs) loop-less loop-again returns-2)

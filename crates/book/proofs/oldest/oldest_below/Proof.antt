@@ -3,8 +3,8 @@
 use mathlib.Core.Path.{sym, _∙_}
 use Prim.Native.Nat.{_≤_, _-_}
 use native.Mathlib.Omega.{arith}
-use Rattle.form.specs.V1.{V1}
-use Rattle.form.specs.V1Laws.{v1-lawful}
+use Rattle.book.specs.Book.{Current}
+use Rattle.book.specs.BookLaws.{lawful}
 use Rattle.book.specs.Find.{Placed}
 use Rattle.book.specs.BookLaws.{sizes}
 use Rattle.book.specs.OldestLaws.{OldestFrom, oldest-start, oldest-next, oldest-stop, oldest-end}
@@ -13,7 +13,7 @@ use Rattle.book.proofs.oldest.oldest_below.Statement.{statement}
 use Rattle.book.proofs.oldest.oldest_below.Tie as tie
 
 abbrev Inv-loop : tie.InvT-loop
-Inv-loop book n client parent best₀ i₀ best i = (i ≤ n) × (i₀ ≤ i) × OldestFrom V1 book client best i
+Inv-loop book n client parent best₀ i₀ best i = (i ≤ n) × (i₀ ≤ i) × OldestFrom Current book client best i
 
 abbrev μ-loop : tie.MeasureT-loop
 μ-loop book n client parent best₀ i₀ best i = n - i
@@ -21,30 +21,30 @@ abbrev μ-loop : tie.MeasureT-loop
 loop-holds : tie.Need-loop-holds Inv-loop μ-loop
 loop-holds c =
     let s = c .before .before .before .before in
-    (c .place .ensures .within, omega arith, oldest-start V1 v1-lawful _ _ (s .pre .0) _ _ (s .pre .1) _ (c .place .ensures))
+    (c .place .ensures .within, omega arith, oldest-start Current lawful _ _ (s .pre .0) _ _ (s .pre .1) _ (c .place .ensures))
 
 key-at-requires : tie.Need-key-at-requires Inv-loop μ-loop
-key-at-requires c κs = omega (arith, sizes V1 v1-lawful _ _ (c .before .before .before .before .before .before .pre .0) .used)
+key-at-requires c κs = omega (arith, sizes Current lawful _ _ (c .before .before .before .before .before .before .pre .0) .used)
 
 key-at-requires-2 : tie.Need-key-at-requires-2 Inv-loop μ-loop
-key-at-requires-2 c κs = omega (arith, sizes V1 v1-lawful _ _ (c .before .before .before .before .before .before .before .before .before .pre .0) .used)
+key-at-requires-2 c κs = omega (arith, sizes Current lawful _ _ (c .before .before .before .before .before .before .before .before .before .pre .0) .used)
 
 loop-again : tie.Need-loop-again Inv-loop μ-loop
 loop-again c =
     let l = c .before .before .before .before .before .before .before in
     let s = l .before .before .before .before .before in
-    (omega arith, omega arith, oldest-next V1 v1-lawful _ (s .args .n) (s .pre .0) _ _ (s .pre .1) _ (l .before .place .ensures) (l .loop .best) (l .loop .i) (l .loop .inv .2) (omega arith) _ (c .before .before .key-at2 .ensures) _ _ (c .before .state-in .ensures) (c .older .ensures))
+    (omega arith, omega arith, oldest-next Current lawful _ (s .args .n) (s .pre .0) _ _ (s .pre .1) _ (l .before .place .ensures) (l .loop .best) (l .loop .i) (l .loop .inv .2) (omega arith) _ (c .before .before .key-at2 .ensures) _ _ (c .before .state-in .ensures) (c .older .ensures))
 
 returns : tie.Need-returns Inv-loop μ-loop
 returns c =
     let l = c .before .before .before .before in
     let s = l .before .before .before .before .before in
-    oldest-stop V1 v1-lawful _ (s .args .n) (s .pre .0) _ _ (s .pre .1) (l .before .place .result) (l .before .place .ensures) (l .loop .best) (l .loop .i) (l .loop .inv .2) (omega arith) _ (c .before .before .key-at .ensures) (omega arith) (sym (c .before .same-at .ensures) ∙ c .if1 .left)
+    oldest-stop Current lawful _ (s .args .n) (s .pre .0) _ _ (s .pre .1) (l .before .place .result) (l .before .place .ensures) (l .loop .best) (l .loop .i) (l .loop .inv .2) (omega arith) _ (c .before .before .key-at .ensures) (omega arith) (sym (c .before .same-at .ensures) ∙ c .if1 .left)
 
 returns-2 : tie.Need-returns-2 Inv-loop μ-loop
 returns-2 c =
     let s = c .before .before .before .before .before .before in
-    oldest-end V1 v1-lawful _ (s .args .n) (s .pre .0) _ _ (s .pre .1) _ (c .before .before .place .ensures) (c .before .loop .best) (c .before .loop .i) (c .before .loop .inv .2) (omega arith)
+    oldest-end Current lawful _ (s .args .n) (s .pre .0) _ _ (s .pre .1) _ (c .before .before .place .ensures) (c .before .loop .best) (c .before .loop .i) (c .before .loop .inv .2) (omega arith)
 
 pub oldest-below-spec : {M : Type 1} → statement M
 oldest-below-spec =
