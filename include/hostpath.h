@@ -236,9 +236,9 @@ struct hp_written hp_book_lookup(const uint8_t *book, size_t book_len, const uin
 /* The smallest pair of revision number and height among the client's records `clients/C/consensusStates/R-h`: 9, the
  * client's 2, 5, 6; then 12. */
 struct hp_pair hp_book_oldest(const uint8_t *book, size_t book_len, const uint8_t *client, size_t client_len);
-/* Makes the buffer `new`, whatever it holds, the book of version 2 that has the slots and the records of `old`, a book of
- * version 1: 9 where the first is none, then 4 where the second is not of that book's size. */
-uint8_t hp_book_convert(const uint8_t *old, size_t old_len, uint8_t *new, size_t new_len);
+/* Makes the second buffer, whatever it holds, the book of version 2 that has the slots and the records of `old`, a book
+ * of version 1: 9 where that is none, then 4 where the second buffer is not of that book's size. */
+uint8_t hp_book_convert(const uint8_t *old, size_t old_len, uint8_t *book, size_t book_len);
 /* Above, made by bin/interface. */
 
 #ifdef __cplusplus

@@ -227,13 +227,8 @@ function rust_arguments(n, how,    i, all, id, mut) {
     return all
 }
 
-# What an argument is to the comparison: the buffer that a conversion fills is lent as a book is.
-function role(n, i) {
-    return name[n, i] == "new" ? "book" : name[n, i]
-}
-
 function has(n, argument,    i) {
-    for (i = 1; i <= count[n]; i++) if (role(n, i) == argument) return "true"
+    for (i = 1; i <= count[n]; i++) if (name[n, i] == argument) return "true"
     return "false"
 }
 
@@ -242,8 +237,8 @@ function from_call(n,    i, all, texts, numbers) {
     for (i = 1; i <= count[n]; i++) {
         all = all (i > 1 ? ", " : "")
         if (type[n, i] == "u64") all = all "numbers[" (numbers++) "]"
-        else if (type[n, i] == "&[u8]" && role(n, i) != "book") all = all "texts[" (texts++) "]"
-        else all = all role(n, i)
+        else if (type[n, i] == "&[u8]" && name[n, i] != "book") all = all "texts[" (texts++) "]"
+        else all = all name[n, i]
     }
     return all
 }

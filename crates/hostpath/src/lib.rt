@@ -410,11 +410,11 @@ pub extern "C" fn hp_book_oldest(book: &[u8], client: &[u8]) -> Pair
     book::oldest::oldest(book, client)
 }
 
-// Makes the buffer `new`, whatever it holds, the book of version 2 that has the slots and the records of `old`, a book of
-// version 1: 9 where the first is none, then 4 where the second is not of that book's size.
+// Makes the second buffer, whatever it holds, the book of version 2 that has the slots and the records of `old`, a book
+// of version 1: 9 where that is none, then 4 where the second buffer is not of that book's size.
 #[no_mangle]
-pub extern "C" fn hp_book_convert(old: &[u8], new: &mut [u8]) -> u8
-    ensures { λ r. ⌜ Converted (now (old .entry)) (now (new .entry)) r (now (new .exit)) ⌝ }
+pub extern "C" fn hp_book_convert(old: &[u8], book: &mut [u8]) -> u8
+    ensures { λ r. ⌜ Converted (now (old .entry)) (now (book .entry)) r (now (book .exit)) ⌝ }
 {
-    book::convert::convert(old, new)
+    book::convert::convert(old, book)
 }

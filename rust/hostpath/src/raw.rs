@@ -135,7 +135,7 @@ pub mod c {
         /// [`book_oldest`] on pointers.
         pub fn hp_book_oldest(book: *const u8, book_len: usize, client: *const u8, client_len: usize) -> Pair;
         /// [`book_convert`] on pointers.
-        pub fn hp_book_convert(old: *const u8, old_len: usize, new: *mut u8, new_len: usize) -> u8;
+        pub fn hp_book_convert(old: *const u8, old_len: usize, book: *mut u8, book_len: usize) -> u8;
         // Above, made by bin/interface.
     }
 }
@@ -382,10 +382,10 @@ pub fn book_oldest(book: &[u8], client: &[u8]) -> Pair {
     unsafe { c::hp_book_oldest(book.as_ptr(), book.len(), client.as_ptr(), client.len()) }
 }
 
-/// Makes the buffer `new`, whatever it holds, the book of version 2 that has the slots and the records of `old`, a book of
-/// version 1: 9 where the first is none, then 4 where the second is not of that book's size.
-pub fn book_convert(old: &[u8], new: &mut [u8]) -> u8 {
+/// Makes the second buffer, whatever it holds, the book of version 2 that has the slots and the records of `old`, a book
+/// of version 1: 9 where that is none, then 4 where the second buffer is not of that book's size.
+pub fn book_convert(old: &[u8], book: &mut [u8]) -> u8 {
     // SAFETY: each pointer and count are those of one live slice.
-    unsafe { c::hp_book_convert(old.as_ptr(), old.len(), new.as_mut_ptr(), new.len()) }
+    unsafe { c::hp_book_convert(old.as_ptr(), old.len(), book.as_mut_ptr(), book.len()) }
 }
 // Above, made by bin/interface.
