@@ -86,7 +86,7 @@ long-rendering k v low high =
     let f : 6 ≤ fixed (partsOf k) = rw (kind-parts k low high) (leb-true 6 _ (has-both (λ e. leb 6 (fixed (e .parts))) (λ e. true) (kind-has k low high) fixed-all)) in
     omega (arith, render-length (partsOf k) v, length-sums (partsOf k) (lengths v))
 
--- the place of a fault is below 10,000
+-- the place of a fault has four digits at most
 numbered : (t : List ℕ) (w : Refusal) → length t ≤ 4096 → (w ≡ NotAPath → ⊥) → whyNot t ≡ w → placeOf w ≤ 4096
 numbered t w h n e = let m = wrong-marks t w (why-wrong t w n e) in let i = m .mends .inside in omega (arith, m .inside, m .from, length-take (m .number .len) (drop (m .number .start) t))
 
