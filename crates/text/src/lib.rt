@@ -5,9 +5,9 @@ pub mod refusal;
 
 ghost use mathlib.Core.Path.{_≡_};
 ghost use mathlib.Core.Bool.{true, false};
-ghost use Prim.Native.Nat.{_+_, _*_, _≤_, _<_};
+ghost use Prim.Native.Nat.{_+_, _*_, _^_, _≤_, _<_};
 ghost use lib.ListN.{length, drop};
-ghost use Rattle.text.specs.Number.{numeralOf, digitsAt, width, decimal, bigEndian, lowBytes, bigAt};
+ghost use Rattle.text.specs.Number.{numeralOf, digitsAt, width, digits, decimal, bigEndian, lowBytes, bigAt};
 ghost use Rattle.text.specs.Put.{put};
 
 // What a text says as a number. A fault names its place in the text.
@@ -81,20 +81,71 @@ pub fn read_number(s: &[u8]) -> Numeral
     }
 }
 
+// How many decimal digits n has, which is k + 1 to k + 4; `unit` is the least number of k + 1. No number is divided.
+fn width_from(n: u64, k: usize, unit: u64) -> usize
+    requires { ⌜ (unit ≡ 10 ^ k) × (k ≤ 16) × (unit ≤ 10000000000000000) ⌝ }
+    requires { ⌜ (unit ≤ n) × (n < unit * 10000) ⌝ }
+    ensures { λ r. ⌜ r ≡ width n ⌝ }
+{
+    if n < unit * 100 {
+        if n < unit * 10 {
+            return k + 1;
+        }
+        return k + 2;
+    }
+    if n < unit * 1000 {
+        return k + 3;
+    }
+    k + 4
+}
+
 // How many decimal digits n has.
 pub fn number_width(n: u64) -> usize
     ensures { λ r. ⌜ r ≡ width n ⌝ }
 {
-    let mut w: usize = 1;
-    let mut m = n;
-    while 10 <= m {
-        m = m / 10;
-        w += 1;
+    if n < 10 {
+        return 1;
     }
-    w
+    if n < 10000 {
+        return width_from(n, 0, 1);
+    }
+    if n < 100000000 {
+        return width_from(n, 4, 10000);
+    }
+    if n < 1000000000000 {
+        return width_from(n, 8, 100000000);
+    }
+    if n < 10000000000000000 {
+        return width_from(n, 12, 1000000000000);
+    }
+    width_from(n, 16, 10000000000000000)
 }
 
-// Writes the decimal digits of n from out[at] on, each straight to its final place, and returns the place after them.
+// Writes the two digits of r from out[at] on. They are made as one number, low byte first, so that they are one store.
+fn write_pair(out: &mut [u8], at: usize, r: u64) -> usize
+    requires { ⌜ (r < 100) × (at + 2 ≤ length (now out)) ⌝ }
+    ensures { λ e. ⌜ e ≡ at + 2 ⌝ }
+    ensures { λ _. ⌜ now (out .exit) ≡ put (now (out .entry)) at (digits 2 r) ⌝ }
+{
+    let both = 12336 + r / 10 + r % 10 * 256;
+    let next = put::write_byte(out, at, (both % 256) as u8);
+    put::write_byte(out, next, (both / 256) as u8)
+}
+
+// The same of m, which has one digit or two.
+fn write_first(out: &mut [u8], at: usize, m: u64) -> usize
+    requires { ⌜ (m < 100) × (at + length (decimal m) ≤ length (now out)) ⌝ }
+    ensures { λ e. ⌜ e ≡ at + length (decimal m) ⌝ }
+    ensures { λ _. ⌜ now (out .exit) ≡ put (now (out .entry)) at (decimal m) ⌝ }
+{
+    if m < 10 {
+        return put::write_byte(out, at, 48 + m as u8);
+    }
+    write_pair(out, at, m)
+}
+
+// Writes the decimal digits of n from out[at] on, each straight to its final place, and returns the place after them. One
+// division gives two digits, from the last on.
 pub fn write_number(out: &mut [u8], at: usize, n: u64) -> usize
     requires { ⌜ at + length (decimal n) ≤ length (now out) ⌝ }
     ensures { λ r. ⌜ r ≡ at + length (decimal n) ⌝ }
@@ -103,11 +154,12 @@ pub fn write_number(out: &mut [u8], at: usize, n: u64) -> usize
     let w = number_width(n);
     let mut j = w;
     let mut m = n;
-    while 0 < j {
-        j -= 1;
-        out[at + j] = 48 + (m % 10) as u8;
-        m = m / 10;
+    while 100 <= m {
+        j -= 2;
+        write_pair(out, at + j, m % 100);
+        m = m / 100;
     }
+    write_first(out, at, m);
     at + w
 }
 
