@@ -10,7 +10,7 @@ use lib.Pow.{pow-add}
 use lib.ListN.{length, take, drop, length-append}
 use lib.Seq.{take-append-le, drop-at, length-take-le, take-take}
 use Rattle.text.specs.Number.{width, digits, decimal}
-use Rattle.text.specs.NumberLaws.{width-more, width-within, below-pow, length-digits, length-decimal, decimal-more}
+use Rattle.text.specs.NumberLaws.{width-within, below-pow, length-digits, length-decimal, decimal-more}
 use Rattle.text.specs.Put.{put}
 
 -- a number that is no less than the least of k + 1 digits has so many
@@ -35,11 +35,6 @@ unfolding decimal
 decimal-two n l h = rw (← width-in 1 0 n l h)
 
 -- the last two digits of more, and those before them
-pub width-pair : (n : ℕ) → 100 ≤ n → width n ≡ width (n / 100) + 2
-width-pair n h =
-    let e : n / 10 / 10 ≡ n / 100 = omega arith in
-    rw (width-more n (omega arith), width-more (n / 10) (omega arith), e) (omega arith)
-
 pub decimal-pair : (n : ℕ) → 100 ≤ n → decimal n ≡ decimal (n / 100) ++ digits 2 (n % 100)
 unfolding digits
 decimal-pair n h =
@@ -47,6 +42,28 @@ decimal-pair n h =
     let b : n / 10 % 10 ≡ n % 100 / 10 % 10 = omega arith in
     let c : n % 10 ≡ n % 100 % 10 = omega arith in
     rw (decimal-more n (omega arith), decimal-more (n / 10) (omega arith), a, b, c, append-assoc)
+
+pub length-pair : (n : ℕ) → 100 ≤ n → length (decimal n) ≡ length (decimal (n / 100)) + 2
+length-pair n h = rw (decimal-pair n h, length-append, length-digits 2 (n % 100))
+
+-- the last four
+pub digits-four : (r : ℕ) → r < 10000 → digits 4 r ≡ digits 2 (r / 100) ++ digits 2 (r % 100)
+unfolding digits
+digits-four r h =
+    let a : r / 10 / 10 ≡ r / 100 = omega arith in
+    let b : r / 10 % 10 ≡ r % 100 / 10 % 10 = omega arith in
+    let c : r % 10 ≡ r % 100 % 10 = omega arith in
+    rw (a, b, c)
+
+decimal-four : (n : ℕ) → 10000 ≤ n → decimal n ≡ decimal (n / 10000) ++ digits 4 (n % 10000)
+decimal-four n h =
+    let a : n / 100 / 100 ≡ n / 10000 = omega arith in
+    let b : n / 100 % 100 ≡ n % 10000 / 100 = omega arith in
+    let c : n % 100 ≡ n % 10000 % 100 = omega arith in
+    rw (decimal-pair n (omega arith), decimal-pair (n / 100) (omega arith), a, b, c, append-assoc, digits-four (n % 10000) (omega arith))
+
+pub width-four : (n : ℕ) → 10000 ≤ n → width n ≡ width (n / 10000) + 4
+width-four n h = rw (← length-decimal n, ← length-decimal (n / 10000), decimal-four n h, length-append, length-digits 4 (n % 10000))
 
 -- a text is written from its end as it is from its start
 put-behind : (out : List ℕ) (at p : ℕ) (a b : List ℕ) → p ≡ at + length a → p + length b ≤ length out → put out at (a ++ b) ≡ put (put out p b) at a
@@ -58,10 +75,10 @@ put-behind out at p a b e h =
     let q : at + (length a + length b) ≡ p + length b = omega arith in
     rw (t, d, length-append, q, append-assoc)
 
--- the last two digits stored: the others are left to be written
-pub pair-stored : (out out′ : List ℕ) (at p n : ℕ) → 100 ≤ n → p + 2 ≡ at + width n → at + width n ≤ length out → out′ ≡ put out p (digits 2 (n % 100)) → put out at (decimal n) ≡ put out′ at (decimal (n / 100))
-pair-stored out out′ at p n h e l s =
-    let few = length-decimal (n / 100) in
-    let two = length-digits 2 (n % 100) in
-    let w = width-pair n h in
-    rw (decimal-pair n h, s) (put-behind out at p (decimal (n / 100)) (digits 2 (n % 100)) (omega arith) (omega arith))
+-- the last four digits stored: the others are left to be written
+pub four-stored : (out out′ : List ℕ) (at p n : ℕ) → 10000 ≤ n → p + 4 ≡ at + width n → at + width n ≤ length out → out′ ≡ put out p (digits 4 (n % 10000)) → put out at (decimal n) ≡ put out′ at (decimal (n / 10000))
+four-stored out out′ at p n h e l s =
+    let few = length-decimal (n / 10000) in
+    let last = length-digits 4 (n % 10000) in
+    let w = width-four n h in
+    rw (decimal-four n h, s) (put-behind out at p (decimal (n / 10000)) (digits 4 (n % 10000)) (omega arith) (omega arith))

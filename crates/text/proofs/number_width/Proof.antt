@@ -11,6 +11,4 @@ returns : tie.Need-returns
 returns c = sym (width-small (c .before .args .n) (omega arith))
 
 pub number-width-spec : {M : Type 1} → statement M
-number-width-spec =
-    tie.close
-    (tie.spec returns (λ c κs. search needs) (λ c. search needs) (λ c κs. search needs) (λ c. search needs) (λ c κs. search needs) (λ c. search needs) (λ c κs. search needs) (λ c. search needs) (λ c κs. search needs) (λ c. search needs))
+number-width-spec = tie.close (tie.spec returns (λ c κs. search needs) (λ c κs. search needs) (λ c. search needs))
