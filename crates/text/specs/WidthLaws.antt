@@ -10,15 +10,15 @@ use lib.Pow.{pow-add}
 use lib.ListN.{length, take, drop, length-append}
 use lib.Seq.{take-append-le, drop-at, length-take-le, take-take}
 use Rattle.text.specs.Number.{width, digits, decimal}
-use Rattle.text.specs.NumberLaws.{width-within, below-pow, length-digits, length-decimal, decimal-more}
+use Rattle.text.specs.NumberLaws.{width-more, width-within, below-pow, length-digits, length-decimal}
 use Rattle.text.specs.Put.{put}
 
--- a number that is no less than the least of k + 1 digits has so many
+-- a number has more than k digits where it is no less than the least number that does
 at-least : (k n : ℕ) → 10 ^ k ≤ n → Dec (k < width n) → k < width n
 at-least k n h (yes l) = l
 at-least k n h (no l) = absurd (omega (arith, below-pow n, pow-le-pow-right {n = 10} (omega arith) {i = width n} {j = k} (omega arith)))
 
--- and has no more where it is below ten times that: k + 1 and d digits, by the least number of k + 1
+-- it has k + d + 1, where it is below ten times the least number of so many too
 pub width-in : (k d n : ℕ) → 10 ^ k * 10 ^ d ≤ n → n < 10 ^ k * 10 ^ d * 10 → k + suc d ≡ width n
 width-in k d n l h =
     let low = at-least (k + d) n (rw (pow-add 10 k d) l) (decLt (k + d) (width n)) in
@@ -34,33 +34,31 @@ pub decimal-two : (n : ℕ) → 10 ≤ n → n < 100 → decimal n ≡ digits 2 
 unfolding decimal
 decimal-two n l h = rw (← width-in 1 0 n l h)
 
--- the last two digits of more, and those before them
-pub decimal-pair : (n : ℕ) → 100 ≤ n → decimal n ≡ decimal (n / 100) ++ digits 2 (n % 100)
+-- the last two digits, and those before them
+pub digits-pair : (k n : ℕ) → digits (suc (suc k)) n ≡ digits k (n / 100) ++ digits 2 (n % 100)
 unfolding digits
-decimal-pair n h =
+digits-pair k n =
     let a : n / 10 / 10 ≡ n / 100 = omega arith in
     let b : n / 10 % 10 ≡ n % 100 / 10 % 10 = omega arith in
     let c : n % 10 ≡ n % 100 % 10 = omega arith in
-    rw (decimal-more n (omega arith), decimal-more (n / 10) (omega arith), a, b, c, append-assoc)
+    rw (a, b, c, append-assoc)
+
+pub decimal-pair : (n : ℕ) → 100 ≤ n → decimal n ≡ decimal (n / 100) ++ digits 2 (n % 100)
+unfolding decimal
+decimal-pair n h =
+    let e : n / 10 / 10 ≡ n / 100 = omega arith in
+    rw (width-more n (omega arith), width-more (n / 10) (omega arith), e) (digits-pair (width (n / 100)) n)
 
 pub length-pair : (n : ℕ) → 100 ≤ n → length (decimal n) ≡ length (decimal (n / 100)) + 2
 length-pair n h = rw (decimal-pair n h, length-append, length-digits 2 (n % 100))
 
 -- the last four
-pub digits-four : (r : ℕ) → r < 10000 → digits 4 r ≡ digits 2 (r / 100) ++ digits 2 (r % 100)
-unfolding digits
-digits-four r h =
-    let a : r / 10 / 10 ≡ r / 100 = omega arith in
-    let b : r / 10 % 10 ≡ r % 100 / 10 % 10 = omega arith in
-    let c : r % 10 ≡ r % 100 % 10 = omega arith in
-    rw (a, b, c)
-
 decimal-four : (n : ℕ) → 10000 ≤ n → decimal n ≡ decimal (n / 10000) ++ digits 4 (n % 10000)
 decimal-four n h =
     let a : n / 100 / 100 ≡ n / 10000 = omega arith in
     let b : n / 100 % 100 ≡ n % 10000 / 100 = omega arith in
     let c : n % 100 ≡ n % 10000 % 100 = omega arith in
-    rw (decimal-pair n (omega arith), decimal-pair (n / 100) (omega arith), a, b, c, append-assoc, digits-four (n % 10000) (omega arith))
+    rw (decimal-pair n (omega arith), decimal-pair (n / 100) (omega arith), a, b, c, append-assoc, digits-pair 2 (n % 10000))
 
 pub width-four : (n : ℕ) → 10000 ≤ n → width n ≡ width (n / 10000) + 4
 width-four n h = rw (← length-decimal n, ← length-decimal (n / 10000), decimal-four n h, length-append, length-digits 4 (n % 10000))

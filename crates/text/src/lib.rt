@@ -149,7 +149,8 @@ pub fn number_width(n: u64) -> usize
     width_from(n, band.digits, band.unit)
 }
 
-// Writes the two digits of r from out[at] on. They are made as one number, low byte first, so that they are one store.
+// Writes the two digits of r from out[at] on. They are made as one number, low byte first, so that they are one store; 12336
+// is `00`.
 fn write_pair(out: &mut [u8], at: usize, r: u64) -> usize
     requires { ⌜ (r < 100) × (at + 2 ≤ length (now out)) ⌝ }
     ensures { λ e. ⌜ e ≡ at + 2 ⌝ }

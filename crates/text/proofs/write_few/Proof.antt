@@ -1,6 +1,5 @@
 -- `text::write_few` meets its contract.
 -- Assumes nothing.
-use Prim.Native.Nat.{_/_}
 use borrow.Author.Needs.{needs}
 use native.Mathlib.Omega.{arith}
 use Rattle.text.specs.PutLaws.{put-then}
