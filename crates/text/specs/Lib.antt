@@ -15,4 +15,5 @@ pub mod Put
 pub mod PutLaws
 pub mod Refusal
 pub mod TableLaws
+pub mod WidthLaws
 pub mod WordLaws

@@ -10,7 +10,7 @@ ghost use mathlib.Core.Path.{_≡_};
 ghost use mathlib.Core.Bool.{true, false};
 ghost use Prim.Native.Nat.{_+_, _*_, _^_, _≤_, _<_};
 ghost use lib.ListN.{length, drop};
-ghost use Rattle.text.specs.Number.{numeralOf, digitsAt, width, decimal, bigEndian, lowBytes, bigAt};
+ghost use Rattle.text.specs.Number.{numeralOf, digitsAt, width, digits, decimal, bigEndian, lowBytes, bigAt};
 ghost use Rattle.text.specs.Fault.{fault, numeralFault, numeralPlace};
 ghost use Rattle.text.specs.Put.{put};
 
@@ -118,20 +118,123 @@ pub fn number_fault(n: Numeral, at: usize) -> Fault
     }
 }
 
-// How many decimal digits n has.
+// A number of digits, and the least number that has one digit more.
+struct Band {
+    digits: usize,
+    unit: u64,
+}
+
+// The multiple of four digits below those of n.
+fn band_of(n: u64) -> Band
+    requires { ⌜ 10 ≤ n ⌝ }
+    ensures { λ r. ⌜ (r .unit ≡ 10 ^ r .digits) × (r .digits ≤ 16) × (r .unit ≤ 10000000000000000) ⌝ }
+    ensures { λ r. ⌜ (r .unit ≤ n) × (n < r .unit * 10000) ⌝ }
+{
+    if n < 10000 {
+        return Band { digits: 0, unit: 1 };
+    }
+    if n < 100000000 {
+        return Band {
+            digits: 4,
+            unit: 10000,
+        };
+    }
+    if n < 1000000000000 {
+        return Band {
+            digits: 8,
+            unit: 100000000,
+        };
+    }
+    if n < 10000000000000000 {
+        return Band {
+            digits: 12,
+            unit: 1000000000000,
+        };
+    }
+    Band {
+        digits: 16,
+        unit: 10000000000000000,
+    }
+}
+
+// How many decimal digits n has, one to four more than k; `unit` is the least number of k + 1 digits.
+fn width_from(n: u64, k: usize, unit: u64) -> usize
+    requires { ⌜ (unit ≡ 10 ^ k) × (k ≤ 16) × (unit ≤ 10000000000000000) ⌝ }
+    requires { ⌜ (unit ≤ n) × (n < unit * 10000) ⌝ }
+    ensures { λ r. ⌜ r ≡ width n ⌝ }
+{
+    if n < unit * 100 {
+        if n < unit * 10 {
+            return k + 1;
+        }
+        return k + 2;
+    }
+    if n < unit * 1000 {
+        return k + 3;
+    }
+    k + 4
+}
+
+// How many decimal digits n has. It is compared with powers of ten, and never divided.
 pub fn number_width(n: u64) -> usize
     ensures { λ r. ⌜ r ≡ width n ⌝ }
 {
-    let mut w: usize = 1;
-    let mut m = n;
-    while 10 <= m {
-        m = m / 10;
-        w += 1;
+    if n < 10 {
+        return 1;
     }
-    w
+    let band = band_of(n);
+    width_from(n, band.digits, band.unit)
 }
 
-// Writes the decimal digits of n from out[at] on, each straight to its final place, and returns the place after them.
+// Writes the two digits of r from out[at] on. They are made as one number, low byte first, so that they are one store; 12336
+// is `00`.
+fn write_pair(out: &mut [u8], at: usize, r: u64) -> usize
+    requires { ⌜ (r < 100) × (at + 2 ≤ length (now out)) ⌝ }
+    ensures { λ e. ⌜ e ≡ at + 2 ⌝ }
+    ensures { λ _. ⌜ now (out .exit) ≡ put (now (out .entry)) at (digits 2 r) ⌝ }
+{
+    let both = 12336 + r / 10 + r % 10 * 256;
+    let next = put::write_byte(out, at, (both % 256) as u8);
+    put::write_byte(out, next, (both / 256) as u8)
+}
+
+// The same of four digits.
+fn write_four(out: &mut [u8], at: usize, r: u64) -> usize
+    requires { ⌜ (r < 10000) × (at + 4 ≤ length (now out)) ⌝ }
+    ensures { λ e. ⌜ e ≡ at + 4 ⌝ }
+    ensures { λ _. ⌜ now (out .exit) ≡ put (now (out .entry)) at (digits 4 r) ⌝ }
+{
+    let next = write_pair(out, at, r / 100);
+    write_pair(out, next, r % 100)
+}
+
+// Writes a number of one digit or two.
+fn write_first(out: &mut [u8], at: usize, m: u64) -> usize
+    requires { ⌜ (m < 100) × (at + length (decimal m) ≤ length (now out)) ⌝ }
+    ensures { λ e. ⌜ e ≡ at + length (decimal m) ⌝ }
+    ensures { λ _. ⌜ now (out .exit) ≡ put (now (out .entry)) at (decimal m) ⌝ }
+{
+    if m < 10 {
+        return put::write_byte(out, at, 48 + m as u8);
+    }
+    write_pair(out, at, m)
+}
+
+// Writes a number of one digit to four.
+fn write_few(out: &mut [u8], at: usize, m: u64) -> usize
+    requires { ⌜ (m < 10000) × (at + length (decimal m) ≤ length (now out)) ⌝ }
+    ensures { λ e. ⌜ e ≡ at + length (decimal m) ⌝ }
+    ensures { λ _. ⌜ now (out .exit) ≡ put (now (out .entry)) at (decimal m) ⌝ }
+{
+    if m < 100 {
+        return write_first(out, at, m);
+    }
+    let next = write_first(out, at, m / 100);
+    write_pair(out, next, m % 100)
+}
+
+// Writes the decimal digits of n from out[at] on, each straight to its final place, and returns the place after them. From
+// the last on, four are cut off at a time and made of two and two, so that no division gives one digit alone.
 pub fn write_number(out: &mut [u8], at: usize, n: u64) -> usize
     requires { ⌜ at + length (decimal n) ≤ length (now out) ⌝ }
     ensures { λ r. ⌜ r ≡ at + length (decimal n) ⌝ }
@@ -140,11 +243,12 @@ pub fn write_number(out: &mut [u8], at: usize, n: u64) -> usize
     let w = number_width(n);
     let mut j = w;
     let mut m = n;
-    while 0 < j {
-        j -= 1;
-        out[at + j] = 48 + (m % 10) as u8;
-        m = m / 10;
+    while 10000 <= m {
+        j -= 4;
+        write_four(out, at + j, m % 10000);
+        m = m / 10000;
     }
+    write_few(out, at, m);
     at + w
 }
 

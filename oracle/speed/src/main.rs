@@ -1,8 +1,9 @@
 //! `speed figures PICTURE [ASKPATH RUSTASK LINES]`, for oracle/bench: time of the original over time of
-//! the library, for each family of calls; above 1 the library is faster. Both sides get the same texts
-//! from one driver, turn by turn; a side's time is the least of its rounds. So it is with the programs
-//! askpath and rustask on a file of lines. Then calls on books, which the original lacks: time of a call
-//! over time of one reading of every key of its book. PICTURE is written with some of them as bars.
+//! the library, for each family of calls; above 1 the library is faster. Numbers stand beside Rust's own
+//! formatting and beside a copy of their texts. Both sides get the same texts from one driver, turn by
+//! turn; a side's time is the least of its rounds. So it is with the programs askpath and rustask on a
+//! file of lines. Then calls on books, which the original lacks: time of a call over time of one reading
+//! of every key of its book. PICTURE is written with some of them as bars.
 //!
 //! For oracle/count: `speed count OPERATION RECORDS TIMES` runs one operation on a book so many times,
 //! `speed names` prints the families, `speed pass NAME upper|lower TIMES` runs one side of one, and
@@ -10,6 +11,7 @@
 mod books;
 mod family;
 mod identifiers;
+mod numbers;
 mod paths;
 mod picture;
 mod programs;
@@ -38,9 +40,10 @@ fn main() {
     }
 }
 
-/// Those that the original has too.
+/// Those that have a side in Rust: the original's, or for numbers Rust's own.
 fn families() -> impl Iterator<Item = Family> {
-    identifiers::families().into_iter().chain(paths::families())
+    let original = identifiers::families().into_iter().chain(paths::families());
+    original.chain(numbers::families())
 }
 
 fn figures(picture: &str, programs: Option<Family>) {

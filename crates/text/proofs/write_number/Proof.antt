@@ -1,58 +1,51 @@
 -- `text::write_number` meets its contract.
 -- Assumes nothing.
 use mathlib.Core.Path.{_≡_, refl, sym, _∙_}
-use mathlib.Core.List.{_++_}
-use Prim.Native.Nat.{_+_, _≤_, _-_, _/_, _%_}
+use Prim.Native.Nat.{_+_, _-_, _≤_}
 use borrow.Author.Needs.{needs}
 use native.Mathlib.Omega.{arith}
-use lib.ListN.{length, take, drop}
-use Rattle.text.specs.Number.{width, digits, decimal}
-use Rattle.text.specs.NumberLaws.{length-decimal, length-digits}
+use lib.ListN.{length}
+use Rattle.text.specs.Number.{width, decimal}
+use Rattle.text.specs.NumberLaws.{length-decimal}
 use Rattle.text.specs.Put.{put}
-use Rattle.text.proofs.Steps as steps
+use Rattle.text.specs.WidthLaws.{width-four, four-stored}
 use Rattle.text.proofs.write_number.Statement.{statement}
 use Rattle.text.proofs.write_number.Tie as tie
 
--- the text that is to be there is what stands there, with the j digits that are left put in
+-- the text that is to be there is what stands there, with the digits of m, which are left, put in
 abbrev Inv-loop : tie.InvT-loop
 Inv-loop out₀ at n w j₀ m₀ out j m =
-    ((j ≤ w) × (at + w ≤ length out₀) × (length out ≡ length out₀))
-    × (take at out₀ ++ (digits w n ++ drop (at + w) out₀) ≡ take at out ++ (digits j m ++ drop (at + j) out))
+    ((j ≡ width m) × (j ≤ w) × (w ≡ width n) × (at + w ≤ length out₀) × (length out ≡ length out₀))
+    × (put out₀ at (decimal n) ≡ put out at (decimal m))
 
 abbrev μ-loop : tie.MeasureT-loop
-μ-loop out₀ at n w j₀ m₀ out j m = j
+μ-loop out₀ at n w j₀ m₀ out j m = m
 
 loop-holds : tie.Need-loop-holds Inv-loop μ-loop
 loop-holds c = let fits = length-decimal (c .before .before .args .n) in (search needs, refl)
 
+sub-j : tie.Need-sub-j Inv-loop μ-loop
+sub-j c = omega (arith, width-four (c .before .loop .m) (omega arith))
+
+write-four-requires : tie.Need-write-four-requires Inv-loop μ-loop
+write-four-requires c κs = let w = width-four (c .before .before .loop .m) (omega arith) in search needs
+
 loop-again : tie.Need-loop-again Inv-loop μ-loop
 loop-again c =
-    let l = c .before .loop in (search needs, l .inv .1 ∙ steps.put-last digits (λ m. 48 + m % 10) (λ m. m / 10) steps.digits-nil steps.digits-snoc (l .out) (c .before .before .before .before .args .at) (l .j) (l .m) (l .j - 1) (omega arith) (omega arith))
+    let l = c .before .before .before .before .before .loop in
+    let at = c .before .before .before .before .before .before .before .before .args .at in
+    let w = width-four (l .m) (omega arith) in
+    (search needs, l .inv .1 ∙ four-stored (l .out) _ at (at + (l .j - 4)) (l .m) (omega arith) (omega arith) (omega arith) (c .before .before .write-four .ensures .1))
+
+write-few-requires : tie.Need-write-few-requires Inv-loop μ-loop
+write-few-requires c κs = let fits = length-decimal (c .before .before .loop .m) in search needs
 
 returns : tie.Need-returns Inv-loop μ-loop
-unfolding decimal put
 returns c =
-    let a = c .before .before .before .before .args in
-    let l = c .before .loop in
-    let w = c .before .before .number-width .ensures in
-    let e = length-digits (width (a .n)) (a .n) in
-    (omega arith, rw (e, ← w) (sym (l .inv .1 ∙ steps.put-none digits (λ m. 48 + m % 10) (λ m. m / 10) steps.digits-nil steps.digits-snoc (l .out) (a .at) (l .j) (l .m) (omega arith))))
+    let fits = length-decimal (c .before .before .before .before .before .before .before .before .args .n) in
+    (omega arith, c .before .before .write-few .ensures .1 ∙ sym (c .before .before .before .before .before .loop .inv .1))
 
 pub write-number-spec : {M : Type 1} → statement M
 write-number-spec =
     tie.close
-    (tie.spec
-    Inv-loop
-    μ-loop
-    (λ c κs. search needs)
-    loop-holds
-    (λ c. search needs)
-    (λ c. search needs)
-    (λ c. search needs)
-    (λ c. search needs)
-    (λ c. search needs)
-    (λ c. search needs)
-    loop-again
-    (λ c. search needs)
-    (λ c. search needs)
-    returns)
+    (tie.spec Inv-loop μ-loop (λ c κs. search needs) loop-holds sub-j (λ c. search needs) write-four-requires (λ c. search needs) loop-again write-few-requires (λ c. search needs) (λ c. search needs) returns)
