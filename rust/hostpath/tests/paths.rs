@@ -131,7 +131,7 @@ fn refusals_without_a_place() {
     assert_eq!(key(text, &mut []), Err(Refusal::NotADigit));
     let mut buffer = [0; book_size(1)];
     let book = Book::new(&mut buffer).unwrap();
-    assert_eq!(book.lookup(text), Err(Refusal::NotADigit));
+    assert_eq!(book.lookup(text, &mut [0; 64]), Err(Refusal::NotADigit));
 }
 
 /// An upgrade path that is taken renders with any height.
