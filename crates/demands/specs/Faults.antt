@@ -11,7 +11,7 @@ use denote.Ref.{now}
 use Rattle.text.specs.declared.Fault.{Fault}
 use Rattle.text.specs.Bytes.{bytes}
 use Rattle.text.specs.Fault.{fault, hasPlace, Mends}
-use Rattle.identifiers.specs.Check.{namedOf, namedIndexOf, checkOf, connection, channel, indexPlace, namedIndexFault, faultOf}
+use Rattle.identifiers.specs.Check.{namedOf, indexPlace, namedIndexFault, faultOf}
 use Rattle.identifiers.specs.FaultLaws.{index-mends, check-last-of, named-index-last-of}
 use Rattle.path.specs.declared.Place.{Place}
 use Rattle.path.specs.declared.Refusal.{Refusal}
@@ -51,48 +51,39 @@ pub record IndexMarks (name s : List ℕ) (f : Fault) : Type 0 where
   pub from : length name + 1 ≤ f .place
   pub mends : Mends (drop (length name + 1) s) (f .refusal) (f .place - (length name + 1))
 
-marks-by : (name s : List ℕ) (n : ℕ) → hasPlace n ≡ true → n ≡ namedOf name s → IndexMarks name s (fault n (indexPlace name s))
-marks-by name s n h e = let x = index-mends name s n h e in record { from = x .0; mends = x .1 }
+-- of an answer f that a contract names by its number n: 17, 18 and 19 come from the index alone
+module _ (name s : List ℕ) (n : ℕ) (last : hasPlace n ≡ true → n ≡ namedOf name s) (f : Fault) (e : f ≡ fault n (indexPlace name s)) where
+  marks-of : hasPlace (f .refusal) ≡ true → IndexMarks name s f
+  marks-of h =
+      let k : hasPlace n ≡ true = subst (λ (x : Fault). hasPlace (x .refusal) ≡ true) e h in
+      let x = index-mends name s n k (last k) in
+      subst (IndexMarks name s) (sym e) (record { from = x .0; mends = x .1 })
 
--- an answer, and what holds of it, by the answer that the contract names
-module _ (f g : Fault) (e : f ≡ g) where
-  same-placed : hasPlace (f .refusal) ≡ true → hasPlace (g .refusal) ≡ true
-  same-placed h = subst (λ (x : Fault). hasPlace (x .refusal) ≡ true) e h
+  placeless-of : hasPlace (f .refusal) ≡ false → f .place ≡ 0
+  placeless-of h =
+      let k : hasPlace n ≡ false = subst (λ (x : Fault). hasPlace (x .refusal) ≡ false) e h in
+      ap (λ (x : Fault). x .place) e ∙ rw k
 
-placeless : (n p : ℕ) (f : Fault) → f ≡ fault n p → hasPlace (f .refusal) ≡ false → f .place ≡ 0
-placeless n p f e h =
-    let k : hasPlace n ≡ false = subst (λ (x : Fault). hasPlace (x .refusal) ≡ false) e h in
-    ap (λ (x : Fault). x .place) e ∙ rw k
+pub named-marks : (κs : _) (a : _) (r : _) (s : _) → hp-validate-named-u64-index.Post κs a r s → hasPlace (r .refusal) ≡ true → IndexMarks (now (a .1 .0)) (now (a .0)) r
+unfolding namedIndexFault
+named-marks κs a r s p = marks-of _ _ _ (named-index-last-of (now (a .1 .0)) (now (a .0))) r p
 
-module _ (κs : _) (a : _) (r : Fault) (s : _) (p : hp-validate-named-u64-index.Post κs a r s) where
-  pub named-marks : hasPlace (r .refusal) ≡ true → IndexMarks (now (a .1 .0)) (now (a .0)) r
-  unfolding namedIndexFault
-  named-marks h =
-      let k = same-placed r _ p h in
-      subst (IndexMarks (now (a .1 .0)) (now (a .0))) (sym p) (marks-by (now (a .1 .0)) (now (a .0)) (namedIndexOf (now (a .0)) (now (a .1 .0))) k (named-index-last-of (now (a .1 .0)) (now (a .0)) k))
+pub named-placeless : (κs : _) (a : _) (r : _) (s : _) → hp-validate-named-u64-index.Post κs a r s → hasPlace (r .refusal) ≡ false → r .place ≡ 0
+unfolding namedIndexFault
+named-placeless κs a r s p = placeless-of _ _ _ (named-index-last-of (now (a .1 .0)) (now (a .0))) r p
 
-  pub named-placeless : hasPlace (r .refusal) ≡ false → r .place ≡ 0
-  unfolding namedIndexFault
-  named-placeless h = placeless (namedIndexOf (now (a .0)) (now (a .1 .0))) (indexPlace (now (a .1 .0)) (now (a .0))) r p h
+pub connection-marks : (κs : _) (a : _) (r : _) (s : _) → hp-validate-connection-identifier.Post κs a r s → hasPlace (r .refusal) ≡ true → IndexMarks (bytes "connection") (now (a .0)) r
+unfolding faultOf
+connection-marks κs a r s p = marks-of _ _ _ (check-last-of (bytes "connection") (now (a .0)) 10 64) r p
 
-module _ (κs : _) (a : _) (r : Fault) (s : _) (p : hp-validate-connection-identifier.Post κs a r s) where
-  pub connection-marks : hasPlace (r .refusal) ≡ true → IndexMarks (bytes "connection") (now (a .0)) r
-  unfolding faultOf
-  connection-marks h =
-      let k = same-placed r _ p h in
-      subst (IndexMarks (bytes "connection") (now (a .0))) (sym p) (marks-by (bytes "connection") (now (a .0)) (checkOf connection (now (a .0))) k (check-last-of (bytes "connection") (now (a .0)) 10 64 k))
+pub connection-placeless : (κs : _) (a : _) (r : _) (s : _) → hp-validate-connection-identifier.Post κs a r s → hasPlace (r .refusal) ≡ false → r .place ≡ 0
+unfolding faultOf
+connection-placeless κs a r s p = placeless-of _ _ _ (check-last-of (bytes "connection") (now (a .0)) 10 64) r p
 
-  pub connection-placeless : hasPlace (r .refusal) ≡ false → r .place ≡ 0
-  unfolding faultOf
-  connection-placeless h = placeless (checkOf connection (now (a .0))) (indexPlace (bytes "connection") (now (a .0))) r p h
+pub channel-marks : (κs : _) (a : _) (r : _) (s : _) → hp-validate-channel-identifier.Post κs a r s → hasPlace (r .refusal) ≡ true → IndexMarks (bytes "channel") (now (a .0)) r
+unfolding faultOf
+channel-marks κs a r s p = marks-of _ _ _ (check-last-of (bytes "channel") (now (a .0)) 8 64) r p
 
-module _ (κs : _) (a : _) (r : Fault) (s : _) (p : hp-validate-channel-identifier.Post κs a r s) where
-  pub channel-marks : hasPlace (r .refusal) ≡ true → IndexMarks (bytes "channel") (now (a .0)) r
-  unfolding faultOf
-  channel-marks h =
-      let k = same-placed r _ p h in
-      subst (IndexMarks (bytes "channel") (now (a .0))) (sym p) (marks-by (bytes "channel") (now (a .0)) (checkOf channel (now (a .0))) k (check-last-of (bytes "channel") (now (a .0)) 8 64 k))
-
-  pub channel-placeless : hasPlace (r .refusal) ≡ false → r .place ≡ 0
-  unfolding faultOf
-  channel-placeless h = placeless (checkOf channel (now (a .0))) (indexPlace (bytes "channel") (now (a .0))) r p h
+pub channel-placeless : (κs : _) (a : _) (r : _) (s : _) → hp-validate-channel-identifier.Post κs a r s → hasPlace (r .refusal) ≡ false → r .place ≡ 0
+unfolding faultOf
+channel-placeless κs a r s p = placeless-of _ _ _ (check-last-of (bytes "channel") (now (a .0)) 8 64) r p
