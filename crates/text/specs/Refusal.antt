@@ -65,3 +65,7 @@ badIterKey = 15
 -- bytes that are not iteration keys one after the other, each above the one before it
 abbrev pub badBlock : ℕ
 badBlock = 16
+
+-- a text that is not its own key, in a plain call
+abbrev pub loose : ℕ
+loose = 20

@@ -32,3 +32,5 @@ pub const BAD_KIND: u8 = 14;
 pub const BAD_ITER_KEY: u8 = 15;
 
 pub const BAD_BLOCK: u8 = 16;
+
+pub const LOOSE: u8 = 20;
