@@ -4,6 +4,7 @@ use Prim.Native.Nat.{ℕ}
 use mathlib.Core.Path.{_≡_, refl, sym, ap, _∙_}
 use mathlib.Core.Bool.{Bool, true, false, cond}
 use mathlib.Core.List.{List}
+use mathlib.Core.Logic.{_⊎_, inl, inr}
 use native.Mathlib.Omega.{arith}
 use Rattle.text.specs.Part.{same}
 use Rattle.text.specs.PartLaws.{same-refl}
@@ -18,7 +19,8 @@ use Rattle.path.specs.Read.{keyOf, keyBy, readPath, renderPath, refusalOf}
 use Rattle.keys.specs.declared.Manner.{Manner}
 use Rattle.keys.specs.declared.Manner.the-variants.{Plain, Lenient}
 use Rattle.keys.specs.Records.{Key}
-use Rattle.keys.specs.Calls.{Exact, Spelled, isLoose, keyFor}
+use Rattle.keys.specs.Act.{refuses}
+use Rattle.keys.specs.Calls.{Asked, Exact, Spelled, isLoose, keyFor, keyed, under, meaning}
 
 -- ---- exact keys, by the mark of a reading
 pub key-read : (t : List ℕ) (p : Path) (e : Bool) → readPath t ≡ Read p e → keyOf t ≡ text (renderPath t p)
@@ -100,3 +102,12 @@ module _ (m : Manner) (t : List ℕ) where
     pub read-taken : isLoose m r ≡ false → keyFor m t ≡ keyOf t
     unfolding keyFor
     read-taken h = rw (← by, h)
+
+-- a plain call means what the lenient call on its text means, or is refused with 20
+pub plain-or-loose : (t : List ℕ) (q : Asked) → (meaning (record { manner = Plain; text = t; asked = q }) ≡ refuses loose) ⊎ (meaning (record { manner = Plain; text = t; asked = q }) ≡ meaning (record { manner = Lenient; text = t; asked = q }))
+unfolding meaning keyed
+plain-or-loose t q = go (isLoose Plain (readPath t)) refl
+  where
+    go : (b : Bool) → isLoose Plain (readPath t) ≡ b → (keyed (keyFor Plain t) (under q) ≡ refuses loose) ⊎ (keyed (keyFor Plain t) (under q) ≡ keyed (keyFor Lenient t) (under q))
+    go true h = inl (rw (read-loose Plain t (readPath t) refl h))
+    go false h = inr (rw (read-taken Plain t (readPath t) refl h, read-taken Lenient t (readPath t) refl refl))
