@@ -1,6 +1,6 @@
 -- The demands as theorems over the contracts that the sources have. Demand 1 is `Demand1`, by `Shape`; demand 2 is `Demand2`, in the words of `PathCalls`, `Told` and `Written`; the keys of request L1 are in `Iteration`, in
 -- the words of `KeyCalls` and `Scanned`; demand 3 is `Demand3`, in
--- the words of `Held`, `Refusals` and `BookCalls`; `Useless` shows which line each useless book breaks. Files that end in `Laws` may be
+-- the words of `Held`, `Refusals` and `BookCalls`; what plain and lenient calls share is in `Manners`; `Useless` shows which line each useless book breaks. Files that end in `Laws` may be
 -- skipped.
 pub mod Shape
 pub mod ShapeLaws
@@ -31,6 +31,7 @@ pub mod Demand3Laws
 pub mod Useless
 pub mod BookCalls
 pub mod ExistsLaws
+pub mod Manners
 pub mod OldestCall
 pub mod OldestCallLaws
 pub mod ConvertCall

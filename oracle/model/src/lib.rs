@@ -28,6 +28,7 @@ pub const BAD_SEGMENT: Refusal = 13;
 pub const BAD_KIND: Refusal = 14;
 pub const BAD_ITER_KEY: Refusal = 15;
 pub const BAD_BLOCK: Refusal = 16;
+pub const LOOSE: Refusal = 20;
 
 /// A number text: an optional `+`, then digits, at most 18446744073709551615.
 pub fn number(text: &[u8]) -> Option<u64> {

@@ -39,6 +39,8 @@ pub enum Refusal {
     BadIterKey = 15,
     /// 16: the block is not whole iteration keys that rise, no two the same: put them in order and take out what is no key.
     BadBlock = 16,
+    /// 20: a number of the text has a plus or leading zeros, so it is not its own key: give its key, or make the lenient call.
+    Loose = 20,
     // Above, made by bin/interface.
 }
 
@@ -63,6 +65,7 @@ impl Refusal {
             14 => Self::BadKind,
             15 => Self::BadIterKey,
             16 => Self::BadBlock,
+            20 => Self::Loose,
             // Above, made by bin/interface.
             _ => return None,
         })
@@ -93,6 +96,7 @@ impl Refusal {
             Self::BadKind => "the kind is not a number from 1 to 19: take it from the table of kinds",
             Self::BadIterKey => "the bytes are not iterateConsensusStates and 16 more, 38 in all: give one whole iteration key",
             Self::BadBlock => "the block is not whole iteration keys that rise, no two the same: put them in order and take out what is no key",
+            Self::Loose => "a number of the text has a plus or leading zeros, so it is not its own key: give its key, or make the lenient call",
             // Above, made by bin/interface.
         }
     }
