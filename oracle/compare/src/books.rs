@@ -22,6 +22,9 @@ pub const SETS: Sets = &[
 /// Lengths of values that tell.
 pub const SIZES: [usize; 6] = [1, 31, 32, 33, 63, VALUE];
 
+/// A loose spelling of a state.
+pub const PADDED: &[u8] = b"clients/07-tendermint-4/consensusStates/007-2";
+
 /// A buffer lent to the library and to the model.
 pub struct Lent(Buffer);
 
@@ -43,10 +46,12 @@ impl Lent {
         let (call, room) = match call {
             Call::New => (asked(Function::BookNew, [b"", b""]), 0),
             Call::Write(manner, text, value) => {
-                (asked(by(*manner, Function::BookWrite, Function::BookWriteLenient), [text, value]), 0)
+                let function = by(*manner, Function::BookWrite, Function::BookWriteLenient);
+                (asked(function, [text, value]), 0)
             }
             Call::Remove(manner, text) => {
-                (asked(by(*manner, Function::BookRemove, Function::BookRemoveLenient), [text, b""]), 0)
+                let function = by(*manner, Function::BookRemove, Function::BookRemoveLenient);
+                (asked(function, [text, b""]), 0)
             }
             Call::Lookup(manner, text, room) => {
                 let function = by(*manner, Function::BookLookup, Function::BookLookupLenient);

@@ -4,7 +4,7 @@ use model::book::{Book, Call, Manner, Version, HEAD, MOST};
 use model::random::Random;
 use model::spelling::Spelt;
 
-use crate::books::{slots, Lent};
+use crate::books::{slots, Lent, PADDED};
 use crate::set::Set;
 use crate::{Sets, Size};
 
@@ -34,7 +34,7 @@ fn convert(set: &mut Set, old: &[u8], new: &[u8]) {
     lent.check(set, &Call::Convert(old.to_vec()));
     lent.check(set, &Call::Oldest(b"07-tendermint-4".to_vec()));
     for manner in Manner::BOTH {
-        lent.check(set, &Call::Lookup(manner, b"clients/07-tendermint-4/consensusStates/007-2".to_vec(), 64));
+        lent.check(set, &Call::Lookup(manner, PADDED.to_vec(), 64));
         lent.check(set, &Call::Write(manner, b"ports/transfer".to_vec(), vec![3; 64]));
     }
 }

@@ -6,7 +6,7 @@ use model::pool::Pools;
 use model::random::Random;
 use model::spelling::Spelt;
 
-use crate::books::{slots, Chance, Lent, SIZES};
+use crate::books::{slots, Chance, Lent, PADDED, SIZES};
 use crate::set::Set;
 use crate::{Sets, Size};
 
@@ -18,7 +18,6 @@ pub const SETS: Sets = &[
 ];
 
 const STATE: &[u8] = b"clients/07-tendermint-4/consensusStates/7-2";
-const PADDED: &[u8] = b"clients/07-tendermint-4/consensusStates/007-2";
 
 /// Every call on a buffer: where it is no book each gives 9 and leaves it, until a new one is made of it.
 fn probe(set: &mut Set, bytes: &[u8]) {

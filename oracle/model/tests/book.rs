@@ -34,7 +34,7 @@ fn loose_texts() {
         assert_eq!(book.lookup(Plain, text, 0), Err(model::LOOSE));
         assert_eq!(book.remove(Lenient, text), Err(refusal));
     }
-    assert_eq!(book.remove(Plain, b"clients/07-tendermint-4/consensusStates/007-x"), Err(NOT_A_PATH));
+    assert_eq!(book.remove(Plain, b"clients/07-tendermint-4/consensusStates/007"), Err(NOT_A_PATH));
 }
 
 #[test]
