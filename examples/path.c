@@ -83,14 +83,16 @@ static void look_up(const uint8_t *book, size_t size, const char *path) {
 static int keep_it(void) {
     static uint8_t book[HP_BOOK_SIZE(2)];
     uint8_t refusal = hp_book_new(book, sizeof book);
-    if (refusal == HP_DONE) {
-        refusal = hp_book_write(book, sizeof book, TEXT(text), TEXT("up to 64 bytes under this key"));
+    if (refusal != HP_DONE) {
+        return refused("new", refusal);
     }
+    refusal = hp_book_write(book, sizeof book, TEXT(text), TEXT("up to 64 bytes under this key"));
+    printf("write     %s: refused with %d%s\n", text, refusal, refusal == HP_LOOSE ? ", not its own key" : "");
+    refusal = hp_book_write_lenient(book, sizeof book, TEXT(text), TEXT("up to 64 bytes under this key"));
     if (refusal != HP_DONE) {
         return refused("write", refusal);
     }
-    printf("written   %s\n", text);
-    look_up(book, sizeof book, text);
+    printf("written   %s, leniently\n", text);
     look_up(book, sizeof book, "clients/07-tendermint-4/consensusStates/7-2");
     look_up(book, sizeof book, "clients/007-tendermint-4/consensusStates/7-2");
 

@@ -118,7 +118,9 @@ enum hp_refusal {
     /* a byte of the number is no digit: write it in the digits 0 to 9 alone */
     HP_NOT_A_DIGIT = 18,
     /* the number is above 18446744073709551615: write a smaller one */
-    HP_TOO_LARGE = 19
+    HP_TOO_LARGE = 19,
+    /* a number of the text has a plus or leading zeros, so it is not its own key: give its key, or make the lenient call */
+    HP_LOOSE = 20
     /* Above, made by bin/interface. */
 };
 
@@ -225,14 +227,20 @@ struct hp_written hp_receipt_prefix(uint8_t *out, size_t out_len);
 
 /* Makes the buffer, whatever it holds, a book of version 2 without records; its size alone is looked at: 9. */
 uint8_t hp_book_new(uint8_t *book, size_t book_len);
-/* The rendering of the text holds the value from now on, anew or in place of what it held:
- * 9, 1, 2, 3 (17, 18, 19), 10, 6, 11. */
+/* The text, which is its own rendering, holds the value from now on, anew or in place of what it held:
+ * 9, 1, 2, 3 (17, 18, 19), 20, 10, 6, 11. */
 uint8_t hp_book_write(uint8_t *book, size_t book_len, const uint8_t *text, size_t text_len, const uint8_t *value, size_t value_len);
-/* The rendering of the text holds nothing from now on: 9, 1, 2, 3 (17, 18, 19), 10, 12. */
+/* The text, which is its own rendering, holds nothing from now on: 9, 1, 2, 3 (17, 18, 19), 20, 10, 12. */
 uint8_t hp_book_remove(uint8_t *book, size_t book_len, const uint8_t *text, size_t text_len);
-/* What the rendering of the text holds, 1 to 64 bytes; wants room for 64 whatever it holds:
- * 9, 1, 2, 3 (17, 18, 19), 10, 4, 12. */
+/* What the text, which is its own rendering, holds, 1 to 64 bytes; wants room for 64 whatever it holds:
+ * 9, 1, 2, 3 (17, 18, 19), 20, 10, 4, 12. */
 struct hp_written hp_book_lookup(const uint8_t *book, size_t book_len, const uint8_t *text, size_t text_len, uint8_t *out, size_t out_len);
+/* As hp_book_write, on the rendering of the text, for importers that pad their heights: 9, 1, 2, 3 (17, 18, 19), 10, 6, 11. */
+uint8_t hp_book_write_lenient(uint8_t *book, size_t book_len, const uint8_t *text, size_t text_len, const uint8_t *value, size_t value_len);
+/* As hp_book_remove, on the rendering of the text, for importers that pad their heights: 9, 1, 2, 3 (17, 18, 19), 10, 12. */
+uint8_t hp_book_remove_lenient(uint8_t *book, size_t book_len, const uint8_t *text, size_t text_len);
+/* As hp_book_lookup, on the rendering of the text, for importers that pad their heights: 9, 1, 2, 3 (17, 18, 19), 10, 4, 12. */
+struct hp_written hp_book_lookup_lenient(const uint8_t *book, size_t book_len, const uint8_t *text, size_t text_len, uint8_t *out, size_t out_len);
 /* The smallest pair of revision number and height among the client's records `clients/C/consensusStates/R-h`: 9, the
  * client's 2, 5, 6; then 12. */
 struct hp_pair hp_book_oldest(const uint8_t *book, size_t book_len, const uint8_t *client, size_t client_len);

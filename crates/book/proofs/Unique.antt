@@ -23,13 +23,13 @@ one-check-book κs a r₁ r₂ s₁ s₂ p q = one-judged (formOf (a .1 .0)) (ve
 pub one-new-book : OneWith new-book.Post (λ κs s. now (s .0))
 one-new-book κs a r₁ r₂ s₁ s₂ p q = one-made lawful tt _ _ _ _ _ p q
 
-pub one-write : OneWith write.Post (λ κs s. now (s .0))
+pub one-write : OneWith write.Post (λ κs s. now (s .1 .0))
 one-write κs a r₁ r₂ s₁ s₂ p q = one-changed lawful p q
 
-pub one-remove : OneWith remove.Post (λ κs s. now (s .0))
+pub one-remove : OneWith remove.Post (λ κs s. now (s .1 .0))
 one-remove κs a r₁ r₂ s₁ s₂ p q = one-changed lawful p q
 
-pub one-lookup : OneWith lookup.Post (λ κs s. now (s .1 .1 .0))
+pub one-lookup : OneWith lookup.Post (λ κs s. now (s .1 .1 .1 .0))
 one-lookup κs a r₁ r₂ s₁ s₂ p q = one-found lawful p q
 
 -- the second buffer

@@ -15,7 +15,7 @@ use Rattle.path.specs.declared.Reading.{Reading}
 use Rattle.path.specs.declared.Reading.the-variants.{Read, Refused}
 use Rattle.path.specs.Read.{readPath}
 use Rattle.keys.specs.Calls.{Exact}
-use Rattle.keys.specs.TextLaws.{exact-yes, exact-no, exact-refused}
+use Rattle.keys.specs.MannerLaws.{exact-yes, exact-no, exact-refused}
 use Rattle.form.specs.declared.Version.{Version}
 use Rattle.form.specs.Form.{layout, place, keyAt, SlotOk}
 use Rattle.form.specs.Counted.{stored}

@@ -11,6 +11,7 @@ pub mod CheckWayLaws
 pub mod Find
 pub mod FindLaws
 pub mod RecordLaws
+pub mod FieldLaws
 pub mod Convert
 pub mod ConvertLaws
 pub mod PrefixLaws

@@ -10,6 +10,7 @@ use Rattle.text.specs.declared.Written.{Written}
 use Rattle.text.specs.Put.{put}
 use Rattle.text.specs.Put as buffer
 use Rattle.keys.specs.Act.{Meaning, Answer, says, done, gives, number}
+use Rattle.keys.specs.declared.Manner.{Manner}
 use Rattle.keys.specs.Calls.{write, remove, look, meaning}
 use Rattle.form.specs.Form.{Form, layout}
 use Rattle.book.specs.Book.{Sized, Book, bytesWith, acts}
@@ -43,14 +44,14 @@ pub record Found (F : Form) (b : List ℕ) (m : Meaning) (out : List ℕ) (r : W
   pub value : out₁ ≡ shown answer out
 
 -- ---- what the contracts of the functions say
-abbrev pub Wrote : Form → List ℕ → List ℕ → List ℕ → ℕ → List ℕ → Type 0
-Wrote F b t v r b₁ = Changed F b (meaning (write t v)) r b₁
+abbrev pub Wrote : Form → Manner → List ℕ → List ℕ → List ℕ → ℕ → List ℕ → Type 0
+Wrote F m b t v r b₁ = Changed F b (meaning (write m t v)) r b₁
 
-abbrev pub Removed : Form → List ℕ → List ℕ → ℕ → List ℕ → Type 0
-Removed F b t r b₁ = Changed F b (meaning (remove t)) r b₁
+abbrev pub Removed : Form → Manner → List ℕ → List ℕ → ℕ → List ℕ → Type 0
+Removed F m b t r b₁ = Changed F b (meaning (remove m t)) r b₁
 
-abbrev pub Looked : Form → List ℕ → List ℕ → List ℕ → Written → List ℕ → Type 0
-Looked F b t out r out₁ = Found F b (meaning (look t (length out))) out r out₁
+abbrev pub Looked : Form → Manner → List ℕ → List ℕ → List ℕ → Written → List ℕ → Type 0
+Looked F m b t out r out₁ = Found F b (meaning (look m t (length out))) out r out₁
 
 -- making a book: 9 and nothing changed where no book has that length; or the layout of no records
 pub data Made (F : Form) (e : F .Extra) (b : List ℕ) (r : ℕ) (b₁ : List ℕ) : Type 0 where

@@ -12,6 +12,7 @@ use Rattle.text.specs.Put.{put}
 use Rattle.text.specs.Put as buffer
 use Rattle.text.specs.PutLaws.{put-zero}
 use Rattle.keys.specs.Act.{Meaning, writes, removes, looks}
+use Rattle.keys.specs.declared.Manner.{Manner}
 use Rattle.keys.specs.Calls.{ValueFits}
 use Rattle.keys.specs.TextLaws.{Keyed, look-means, write-means, remove-means}
 use Rattle.form.specs.Form.{layout, slots, inserted, removed, zeros, keyAt}
@@ -107,18 +108,18 @@ pub few-slots : (b : List ℕ) (n : ℕ) → Counts Current b n → 8 + 321 * (n
 few-slots b n h l = let z = sizes Current lawful b n h in omega (arith, z .bytes, z .few, h .0 .most)
 
 -- ---- calls on texts
-module _ (b t field : List ℕ) (n : ℕ) (k : Keyed t field n) (key : List ℕ) (part : key ≡ take (n - 0) field) where
+module _ (m : Manner) (b t field : List ℕ) (n : ℕ) (k : Keyed m t field n) (key : List ℕ) (part : key ≡ take (n - 0) field) where
   ek : key ≡ take n field
-  ek = part ∙ ap (λ (m : ℕ). take m field) (let q : n - 0 ≡ n = omega arith in q)
+  ek = part ∙ ap (λ (j : ℕ). take j field) (let q : n - 0 ≡ n = omega arith in q)
 
-  pub look-text : (out : List ℕ) (r : Written) (out₁ : List ℕ) → 64 ≤ length out → Found Current b (looks key) out r out₁ → Looked Current b t out r out₁
-  look-text out r out₁ h l = subst (λ (m : Meaning). Found Current b m out r out₁) (ap looks (ek ∙ k .here) ∙ sym (look-means t field n k (length out) h)) l
+  pub look-text : (out : List ℕ) (r : Written) (out₁ : List ℕ) → 64 ≤ length out → Found Current b (looks key) out r out₁ → Looked Current m b t out r out₁
+  look-text out r out₁ h l = subst (λ (q : Meaning). Found Current b q out r out₁) (ap looks (ek ∙ k .here) ∙ sym (look-means m t field n k (length out) h)) l
 
-  pub write-text : (v : List ℕ) (r : ℕ) (b₁ : List ℕ) → ValueFits v → Changed Current b (writes key v) r b₁ → Wrote Current b t v r b₁
-  write-text v r b₁ h l = subst (λ (m : Meaning). Changed Current b m r b₁) (ap (λ (j : List ℕ). writes j v) (ek ∙ k .here) ∙ sym (write-means t field n k v h)) l
+  pub write-text : (v : List ℕ) (r : ℕ) (b₁ : List ℕ) → ValueFits v → Changed Current b (writes key v) r b₁ → Wrote Current m b t v r b₁
+  write-text v r b₁ h l = subst (λ (q : Meaning). Changed Current b q r b₁) (ap (λ (j : List ℕ). writes j v) (ek ∙ k .here) ∙ sym (write-means m t field n k v h)) l
 
-  pub remove-text : (r : ℕ) (b₁ : List ℕ) → Changed Current b (removes key) r b₁ → Removed Current b t r b₁
-  remove-text r b₁ l = subst (λ (m : Meaning). Changed Current b m r b₁) (ap removes (ek ∙ k .here) ∙ sym (remove-means t field n k)) l
+  pub remove-text : (r : ℕ) (b₁ : List ℕ) → Changed Current b (removes key) r b₁ → Removed Current m b t r b₁
+  remove-text r b₁ l = subst (λ (q : Meaning). Changed Current b q r b₁) (ap removes (ek ∙ k .here) ∙ sym (remove-means m t field n k)) l
 
   pub key-short : length key ≤ 255
   key-short = rw (ek ∙ k .here) (k .short)

@@ -13,6 +13,7 @@ use field::key_into;
 use form::Version;
 use form::clear;
 use form::put_header;
+use keys::Manner;
 use record::look_record;
 use record::put_record;
 use record::take_record;
@@ -24,9 +25,9 @@ ghost use mathlib.Core.Path.{_≡_};
 ghost use Rattle.book.specs.Book.{Current};
 ghost use Rattle.book.specs.Outcome.{Wrote, Removed, Looked, Made};
 
-// Copies what the path of a text holds, and answers its length: 9, 1, 2, 3, 10, 4, 12.
-pub fn lookup(book: &[u8], text: &[u8], out: &mut [u8]) -> Written
-    ensures { λ r. ⌜ Looked Current (now (book .entry)) (now (text .entry)) (now (out .entry)) r (now (out .exit)) ⌝ }
+// Copies what the path of a text holds, and answers its length: 9, 1, 2, 3 (17, 18, 19), in a plain call 20, 10, 4, 12.
+pub fn lookup(manner: Manner, book: &[u8], text: &[u8], out: &mut [u8]) -> Written
+    ensures { λ r. ⌜ Looked Current manner (now (book .entry)) (now (text .entry)) (now (out .entry)) r (now (out .exit)) ⌝ }
 {
     let BookAnswer::Count(n) = check_book(book, Version::Two) else {
         return Written {
@@ -35,7 +36,7 @@ pub fn lookup(book: &[u8], text: &[u8], out: &mut [u8]) -> Written
         };
     };
     let mut field = [0u8; 255];
-    let w = key_into(text, &mut field);
+    let w = key_into(manner, text, &mut field);
     let refusal = w.refusal;
     if refusal != 0 {
         return Written { refusal, length: 0 };
@@ -50,15 +51,15 @@ pub fn lookup(book: &[u8], text: &[u8], out: &mut [u8]) -> Written
     look_record(book, n, &field[0..len], out)
 }
 
-// Adds or replaces what the path of a text holds: 9, 1, 2, 3, 10, 6, 11.
-pub fn write(book: &mut [u8], text: &[u8], value: &[u8]) -> u8
-    ensures { λ r. ⌜ Wrote Current (now (book .entry)) (now (text .entry)) (now (value .entry)) r (now (book .exit)) ⌝ }
+// Adds or replaces what the path of a text holds: 9, 1, 2, 3 (17, 18, 19), in a plain call 20, 10, 6, 11.
+pub fn write(manner: Manner, book: &mut [u8], text: &[u8], value: &[u8]) -> u8
+    ensures { λ r. ⌜ Wrote Current manner (now (book .entry)) (now (text .entry)) (now (value .entry)) r (now (book .exit)) ⌝ }
 {
     let BookAnswer::Count(n) = check_book(book, Version::Two) else {
         return BAD_BOOK;
     };
     let mut field = [0u8; 255];
-    let w = key_into(text, &mut field);
+    let w = key_into(manner, text, &mut field);
     let refusal = w.refusal;
     if refusal != 0 {
         return refusal;
@@ -73,15 +74,15 @@ pub fn write(book: &mut [u8], text: &[u8], value: &[u8]) -> u8
     put_record(book, n, &field[0..len], value)
 }
 
-// Removes what the path of a text holds: 9, 1, 2, 3, 10, 12.
-pub fn remove(book: &mut [u8], text: &[u8]) -> u8
-    ensures { λ r. ⌜ Removed Current (now (book .entry)) (now (text .entry)) r (now (book .exit)) ⌝ }
+// Removes what the path of a text holds: 9, 1, 2, 3 (17, 18, 19), in a plain call 20, 10, 12.
+pub fn remove(manner: Manner, book: &mut [u8], text: &[u8]) -> u8
+    ensures { λ r. ⌜ Removed Current manner (now (book .entry)) (now (text .entry)) r (now (book .exit)) ⌝ }
 {
     let BookAnswer::Count(n) = check_book(book, Version::Two) else {
         return BAD_BOOK;
     };
     let mut field = [0u8; 255];
-    let w = key_into(text, &mut field);
+    let w = key_into(manner, text, &mut field);
     let refusal = w.refusal;
     if refusal != 0 {
         return refusal;

@@ -1,5 +1,5 @@
--- Demand 3 of the generated contracts of `hp_book_write`, `hp_book_remove` and `hp_book_lookup`: what they may do, as their sources have
--- it, is what `calls` permits.
+-- Demand 3 of the generated contracts of `hp_book_write`, `hp_book_remove` and `hp_book_lookup` and of the lenient three: what they may do,
+-- as their sources have it, is what `calls` permits.
 -- Assumes nothing.
 use mathlib.Core.Path.{_≡_, subst}
 use mathlib.Core.List.{List, []}
@@ -12,6 +12,8 @@ use borrow.Fn.Kinds.{endedOf}
 use denote.Triple.Clauses.{AtExit}
 use Rattle.text.specs.declared.Written.{Written}
 use Rattle.keys.specs.Act.{Seen}
+use Rattle.keys.specs.declared.Manner.{Manner}
+use Rattle.keys.specs.declared.Manner.the-variants.{Plain, Lenient}
 use Rattle.keys.specs.Calls.{Asked, to-write, to-remove, to-look, Call, look, meaning}
 use Rattle.book.specs.Book.{Current}
 use Rattle.book.specs.Outcome.{Found, Wrote, Removed, Looked}
@@ -21,15 +23,31 @@ use Rattle.demands.specs.Demand3Laws as laws
 use Rattle.hostpath.proofs.hp_book_write as w
 use Rattle.hostpath.proofs.hp_book_write.Kinds as wk
 use Rattle.hostpath.proofs.hp_book_write.Reads as wr
+use Rattle.hostpath.proofs.hp_book_write_lenient.Reads as wro
 use Rattle.hostpath.proofs.hp_book_remove as d
 use Rattle.hostpath.proofs.hp_book_remove.Kinds as dk
 use Rattle.hostpath.proofs.hp_book_remove.Reads as dr
+use Rattle.hostpath.proofs.hp_book_remove_lenient.Reads as dro
 use Rattle.hostpath.proofs.hp_book_lookup as l
 use Rattle.hostpath.proofs.hp_book_lookup.Kinds as lk
 use Rattle.hostpath.proofs.hp_book_lookup.Reads as lr
+use Rattle.hostpath.proofs.hp_book_lookup_lenient.Reads as lro
+
+-- what the contract of either manner ensures; both have the same parameters
+abbrev pub WritePost : Manner → (κs : Lfts 3) → ArgsD w.signature κs → ResD w.signature κs → AtExit (endedOf 3 wk.ps wk.r) κs → Type 0
+WritePost Plain κs a r s = wr.Post κs a r s
+WritePost Lenient κs a r s = wro.Post κs a r s
+
+abbrev pub RemovePost : Manner → (κs : Lfts 2) → ArgsD d.signature κs → ResD d.signature κs → AtExit (endedOf 2 dk.ps dk.r) κs → Type 0
+RemovePost Plain κs a r s = dr.Post κs a r s
+RemovePost Lenient κs a r s = dro.Post κs a r s
+
+abbrev pub LookPost : Manner → (κs : Lfts 3) → ArgsD l.signature κs → ResD l.signature κs → AtExit (endedOf 3 lk.ps lk.r) κs → Type 0
+LookPost Plain κs a r s = lr.Post κs a r s
+LookPost Lenient κs a r s = lro.Post κs a r s
 
 -- one call of each function: its buffers before and after, its result, and what its contract ensures
-pub record Writes (b t v : List ℕ) (r : ℕ) (b₁ : List ℕ) : Type 0 where
+pub record Writes (m : Manner) (b t v : List ℕ) (r : ℕ) (b₁ : List ℕ) : Type 0 where
   pub lifetimes : Lfts 3
   pub args : ArgsD w.signature lifetimes
   pub result : ResD w.signature lifetimes
@@ -39,9 +57,9 @@ pub record Writes (b t v : List ℕ) (r : ℕ) (b₁ : List ℕ) : Type 0 where
   pub value-in : now (args .1 .1 .0) ≡ v
   pub number-out : result ≡ r
   pub book-out : now (exits .0) ≡ b₁
-  pub ensures : wr.Post lifetimes args result exits
+  pub ensures : WritePost m lifetimes args result exits
 
-pub record Removes (b t : List ℕ) (r : ℕ) (b₁ : List ℕ) : Type 0 where
+pub record Removes (m : Manner) (b t : List ℕ) (r : ℕ) (b₁ : List ℕ) : Type 0 where
   pub lifetimes : Lfts 2
   pub args : ArgsD d.signature lifetimes
   pub result : ResD d.signature lifetimes
@@ -50,9 +68,9 @@ pub record Removes (b t : List ℕ) (r : ℕ) (b₁ : List ℕ) : Type 0 where
   pub text-in : now (args .1 .0) ≡ t
   pub number-out : result ≡ r
   pub book-out : now (exits .0) ≡ b₁
-  pub ensures : dr.Post lifetimes args result exits
+  pub ensures : RemovePost m lifetimes args result exits
 
-pub record Looks (b t out : List ℕ) (r : Written) (out₁ : List ℕ) : Type 0 where
+pub record Looks (m : Manner) (b t out : List ℕ) (r : Written) (out₁ : List ℕ) : Type 0 where
   pub lifetimes : Lfts 3
   pub args : ArgsD l.signature lifetimes
   pub result : ResD l.signature lifetimes
@@ -62,50 +80,59 @@ pub record Looks (b t out : List ℕ) (r : Written) (out₁ : List ℕ) : Type 0
   pub out-in : now (args .1 .1 .0) ≡ out
   pub answer-out : result ≡ r
   pub out-out : now (exits .1 .1 .0) ≡ out₁
-  pub ensures : lr.Post lifetimes args result exits
+  pub ensures : LookPost m lifetimes args result exits
 
-pub wrote : (b t v : List ℕ) (r : ℕ) (b₁ : List ℕ) → Writes b t v r b₁ → Wrote Current b t v r b₁
-wrote b t v r b₁ x =
-    let p : Wrote Current (now (x .args .0)) (now (x .args .1 .0)) (now (x .args .1 .1 .0)) (x .result) (now (x .exits .0)) = x .ensures in
-    rw (x .book-in, x .text-in, x .value-in, x .number-out, x .book-out) at p
+pub wrote : (m : Manner) (b t v : List ℕ) (r : ℕ) (b₁ : List ℕ) → Writes m b t v r b₁ → Wrote Current m b t v r b₁
+wrote m b t v r b₁ x = rw (x .book-in, x .text-in, x .value-in, x .number-out, x .book-out) at (go m (x .ensures))
+  where
+    go : (n : Manner) → WritePost n (x .lifetimes) (x .args) (x .result) (x .exits)
+        → Wrote Current n (now (x .args .0)) (now (x .args .1 .0)) (now (x .args .1 .1 .0)) (x .result) (now (x .exits .0))
+    go Plain p = p
+    go Lenient p = p
 
-pub removed : (b t : List ℕ) (r : ℕ) (b₁ : List ℕ) → Removes b t r b₁ → Removed Current b t r b₁
-removed b t r b₁ x =
-    let p : Removed Current (now (x .args .0)) (now (x .args .1 .0)) (x .result) (now (x .exits .0)) = x .ensures in
-    rw (x .book-in, x .text-in, x .number-out, x .book-out) at p
+pub removed : (m : Manner) (b t : List ℕ) (r : ℕ) (b₁ : List ℕ) → Removes m b t r b₁ → Removed Current m b t r b₁
+removed m b t r b₁ x = rw (x .book-in, x .text-in, x .number-out, x .book-out) at (go m (x .ensures))
+  where
+    go : (n : Manner) → RemovePost n (x .lifetimes) (x .args) (x .result) (x .exits)
+        → Removed Current n (now (x .args .0)) (now (x .args .1 .0)) (x .result) (now (x .exits .0))
+    go Plain p = p
+    go Lenient p = p
 
-pub looked : (b t out : List ℕ) (r : Written) (out₁ : List ℕ) → Looks b t out r out₁ → Looked Current b t out r out₁
-looked b t out r out₁ x =
-    let p : Looked Current (now (x .args .0)) (now (x .args .1 .0)) (now (x .args .1 .1 .0)) (x .result) (now (x .exits .1 .1 .0)) = x .ensures in
-    rw (x .book-in, x .text-in, x .out-in, x .answer-out, x .out-out) at p
+pub looked : (m : Manner) (b t out : List ℕ) (r : Written) (out₁ : List ℕ) → Looks m b t out r out₁ → Looked Current m b t out r out₁
+looked m b t out r out₁ x = rw (x .book-in, x .text-in, x .out-in, x .answer-out, x .out-out) at (go m (x .ensures))
+  where
+    go : (n : Manner) → LookPost n (x .lifetimes) (x .args) (x .result) (x .exits)
+        → Looked Current n (now (x .args .0)) (now (x .args .1 .0)) (now (x .args .1 .1 .0)) (x .result) (now (x .exits .1 .1 .0))
+    go Plain p = p
+    go Lenient p = p
 
 -- ---- demand 3
 -- a lookup with that much room, in some buffer, and what it gives
-pub record LooksIn (b t : List ℕ) (room : ℕ) (a : Seen) : Type 0 where
+pub record LooksIn (m : Manner) (b t : List ℕ) (room : ℕ) (a : Seen) : Type 0 where
   pub out : List ℕ
   pub out₁ : List ℕ
   pub size : length out ≡ room
   pub written : Written
-  pub looks : Looks b t out written out₁
+  pub looks : Looks m b t out written out₁
   pub number : a .number ≡ written .refusal
   pub gives : a .value ≡ take (written .length) out₁
 
-abbrev pub DoesTo : Asked → List ℕ → List ℕ → Seen → List ℕ → Type 0
-DoesTo (to-write v) b t a b₁ = Writes b t v (a .number) b₁ × (a .value ≡ [])
-DoesTo to-remove b t a b₁ = Removes b t (a .number) b₁ × (a .value ≡ [])
-DoesTo (to-look room) b t a b₁ = LooksIn b t room a × (b₁ ≡ b)
+abbrev pub DoesTo : Manner → Asked → List ℕ → List ℕ → Seen → List ℕ → Type 0
+DoesTo m (to-write v) b t a b₁ = Writes m b t v (a .number) b₁ × (a .value ≡ [])
+DoesTo m to-remove b t a b₁ = Removes m b t (a .number) b₁ × (a .value ≡ [])
+DoesTo m (to-look room) b t a b₁ = LooksIn m b t room a × (b₁ ≡ b)
 
 abbrev pub Does : List ℕ → Call → Seen → List ℕ → Type 0
-Does b c a b₁ = DoesTo (c .asked) b (c .text) a b₁
+Does b c a b₁ = DoesTo (c .manner) (c .asked) b (c .text) a b₁
 
-permits-to : (q : Asked) (b t : List ℕ) (a : Seen) (b₁ : List ℕ) → DoesTo q b t a b₁ → Permitted b (record { text = t; asked = q }) a b₁
-permits-to (to-write v) b t a b₁ x = (wrote b t v (a .number) b₁ (x .0), x .1)
-permits-to to-remove b t a b₁ x = (removed b t (a .number) b₁ (x .0), x .1)
-permits-to (to-look room) b t a b₁ x =
+permits-to : (m : Manner) (q : Asked) (b t : List ℕ) (a : Seen) (b₁ : List ℕ) → DoesTo m q b t a b₁ → Permitted b (record { manner = m; text = t; asked = q }) a b₁
+permits-to m (to-write v) b t a b₁ x = (wrote m b t v (a .number) b₁ (x .0), x .1)
+permits-to m to-remove b t a b₁ x = (removed m b t (a .number) b₁ (x .0), x .1)
+permits-to m (to-look room) b t a b₁ x =
     let y = x .0 in
-    let f : Looked Current b t (y .out) (y .written) (y .out₁) = looked b t (y .out) (y .written) (y .out₁) (y .looks) in
-    (record { out = y .out; out₁ = y .out₁; size = y .size; written = y .written; found = subst (λ (n : ℕ). Found Current b (meaning (look t n)) (y .out) (y .written) (y .out₁)) (y .size) f; number = y .number; gives = y .gives }, x .1)
+    let f : Looked Current m b t (y .out) (y .written) (y .out₁) = looked m b t (y .out) (y .written) (y .out₁) (y .looks) in
+    (record { out = y .out; out₁ = y .out₁; size = y .size; written = y .written; found = subst (λ (n : ℕ). Found Current b (meaning (look m t n)) (y .out) (y .written) (y .out₁)) (y .size) f; number = y .number; gives = y .gives }, x .1)
 
--- THE THEOREM: demand 3 of the three functions
+-- THE THEOREM: demand 3 of the six functions, in one list
 pub demand3 : (x : Taken Does) → Demand3 Does x
-demand3 x = laws.demand3 Does (λ b c a b₁ y. permits-to (c .asked) b (c .text) a b₁ y) x
+demand3 x = laws.demand3 Does (λ b c a b₁ y. permits-to (c .manner) (c .asked) b (c .text) a b₁ y) x

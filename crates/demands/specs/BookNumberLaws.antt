@@ -2,7 +2,7 @@
 -- Assumes nothing.
 use Prim.Native.Nat.{ℕ}
 use mathlib.Core.Path.{_≡_, refl, sym, ap, subst, _∙_}
-use mathlib.Core.Bool.{Bool, true, false, cond, _&&_}
+use mathlib.Core.Bool.{Bool, true, false, cond, _&&_, _||_}
 use mathlib.Core.List.{List, [], _∷_}
 use mathlib.Core.Option.{Option, none, some}
 use native.Mathlib.Omega.{arith}
@@ -18,8 +18,10 @@ use Rattle.path.specs.View.{provable, provableFlag}
 use Rattle.text.specs.declared.Written.{Written}
 use Rattle.keys.specs.Records.{Key, get, put, del}
 use Rattle.keys.specs.Act.{Rec, Meaning, Answer, act, addTo, takeFrom, lookIn, seen}
-use Rattle.keys.specs.Calls.{Call, write, remove, look, meaning}
-use Rattle.keys.specs.Refusals.{GoodWrite, GoodRemoval, GoodLookup, Declined, too-long, not-ascii, not-a-path, key-too-long, bad-length, no-room}
+use Rattle.keys.specs.declared.Manner.{Manner}
+use Rattle.keys.specs.declared.Manner.the-variants.{Plain, Lenient}
+use Rattle.keys.specs.Calls.{Call, write, remove, look, Spelled, meaning}
+use Rattle.keys.specs.Refusals.{GoodWrite, GoodRemoval, GoodLookup, Declined, too-long, not-ascii, not-a-path, loose, key-too-long, bad-length, no-room}
 use Rattle.keys.specs.CallLaws.{Means, declines, writing, removing, looking, means}
 use Rattle.book.specs.Book.{Current, fullIn}
 use Rattle.book.specs.Outcome.{Outcome, no-book, this-book, Changed, Found, Looked, Made, no-size, new-book}
@@ -32,7 +34,7 @@ use Rattle.book.specs.Oldest.{oldestState, pairOf, oldestIn, Oldest}
 use Rattle.book.specs.Oldest as oldest
 use Rattle.demands.specs.KeepsLaws.{made-keeps, changed-keeps, found-keeps, converted-keeps}
 use Rattle.demands.specs.AnswerLaws.{written-number, written-zero}
-use Rattle.demands.specs.Shape.{Listed, AllZero, Demand1}
+use Rattle.demands.specs.Shape.{oneOf, Listed, AllZero, Demand1}
 use Rattle.demands.specs.ShapeLaws.{plain-of}
 
 -- ---- the number of an answer, for any property that 0 and the call's refusals have
@@ -71,47 +73,76 @@ unread-of P a b c d e f (NoDigits i) = d
 unread-of P a b c d e f (NotADigit i) = e
 unread-of P a b c d e f (TooLarge i) = f
 
-abbrev pub writeNumbers : List ℕ
-writeNumbers = 9 ∷ 1 ∷ 2 ∷ 3 ∷ 17 ∷ 18 ∷ 19 ∷ 10 ∷ 6 ∷ 11 ∷ []
+-- a plain call has 20 too
+abbrev pub inManner : Manner → List ℕ → List ℕ
+inManner Plain ns = 20 ∷ ns
+inManner Lenient ns = ns
 
-pub write-listed : (t v : List ℕ) {b : List ℕ} {a : Answer} {b₁ : List ℕ} → Outcome Current (meaning (write t v)) b a b₁ → Listed writeNumbers (seen a .number)
-write-listed t v = outcome-of (Listed writeNumbers) refl (write t v) own (λ k u ok. refl) (λ k ok. absurd (let e = ok .asked in let z : _≡_ {A = ℕ} 0 1 = cc in let y : ⊥ = omega arith in y)) (λ k room ok. absurd (let e = ok .asked in let z : _≡_ {A = ℕ} 0 1 = cc in let y : ⊥ = omega arith in y)) refl
+also : (m : Manner) (ns : List ℕ) (n : ℕ) → Listed ns n → Listed (inManner m ns) n
+also Lenient ns n h = h
+also Plain ns n h = go (eqb n 20)
   where
-    own : (n : ℕ) → Declined (write t v) n → Listed writeNumbers n
-    own n (too-long h) = refl
-    own n (not-ascii h e) = refl
-    own n (not-a-path h e f) = unread-of (Listed writeNumbers) refl refl refl refl refl refl (whyNot t)
-    own n (key-too-long p l) = refl
-    own n (bad-length q h f) = refl
+    go : (b : Bool) → (b || oneOf ns n) ≡ true
+    go true = refl
+    go false = h
+
+loose-too : (m : Manner) (t : List ℕ) (ns : List ℕ) → (Spelled m t → ⊥) → Listed (inManner m ns) 20
+loose-too Plain t ns s = refl
+loose-too Lenient t ns s = absurd (s tt)
+
+abbrev pub writeNumbers : Manner → List ℕ
+writeNumbers m = inManner m (9 ∷ 1 ∷ 2 ∷ 3 ∷ 17 ∷ 18 ∷ 19 ∷ 10 ∷ 6 ∷ 11 ∷ [])
+
+pub write-listed : (m : Manner) (t v : List ℕ) {b : List ℕ} {a : Answer} {b₁ : List ℕ} → Outcome Current (meaning (write m t v)) b a b₁ → Listed (writeNumbers m) (seen a .number)
+write-listed m t v = outcome-of (Listed (writeNumbers m)) (ok 0 refl) (write m t v) own (λ k u good. ok 11 refl) (λ k good. absurd (let e = good .asked in let z : _≡_ {A = ℕ} 0 1 = cc in let y : ⊥ = omega arith in y)) (λ k room good. absurd (let e = good .asked in let z : _≡_ {A = ℕ} 0 1 = cc in let y : ⊥ = omega arith in y)) (ok 9 refl)
+  where
+    ok : (n : ℕ) → Listed (9 ∷ 1 ∷ 2 ∷ 3 ∷ 17 ∷ 18 ∷ 19 ∷ 10 ∷ 6 ∷ 11 ∷ []) n → Listed (writeNumbers m) n
+    ok = also m (9 ∷ 1 ∷ 2 ∷ 3 ∷ 17 ∷ 18 ∷ 19 ∷ 10 ∷ 6 ∷ 11 ∷ [])
+
+    own : (n : ℕ) → Declined (write m t v) n → Listed (writeNumbers m) n
+    own n (too-long h) = ok 1 refl
+    own n (not-ascii h e) = ok 2 refl
+    own n (not-a-path h e f) = unread-of (Listed (writeNumbers m)) (ok 1 refl) (ok 2 refl) (ok 3 refl) (ok 17 refl) (ok 18 refl) (ok 19 refl) (whyNot t)
+    own n (loose p s) = loose-too m t (9 ∷ 1 ∷ 2 ∷ 3 ∷ 17 ∷ 18 ∷ 19 ∷ 10 ∷ 6 ∷ 11 ∷ []) s
+    own n (key-too-long p s l) = ok 10 refl
+    own n (bad-length q h f) = ok 6 refl
     own n (no-room q h l) = absurd (let z : _≡_ {A = ℕ} 0 1 = cc in let y : ⊥ = omega arith in y)
 
-abbrev pub removeNumbers : List ℕ
-removeNumbers = 9 ∷ 1 ∷ 2 ∷ 3 ∷ 17 ∷ 18 ∷ 19 ∷ 10 ∷ 12 ∷ []
+abbrev pub removeNumbers : Manner → List ℕ
+removeNumbers m = inManner m (9 ∷ 1 ∷ 2 ∷ 3 ∷ 17 ∷ 18 ∷ 19 ∷ 10 ∷ 12 ∷ [])
 
-pub remove-listed : (t : List ℕ) {b : List ℕ} {a : Answer} {b₁ : List ℕ} → Outcome Current (meaning (remove t)) b a b₁ → Listed removeNumbers (seen a .number)
-remove-listed t = outcome-of (Listed removeNumbers) refl (remove t) own (λ k u ok. absurd (let e = ok .asked in let z : _≡_ {A = ℕ} 0 1 = cc in let y : ⊥ = omega arith in y)) (λ k ok. refl) (λ k room ok. refl) refl
+pub remove-listed : (m : Manner) (t : List ℕ) {b : List ℕ} {a : Answer} {b₁ : List ℕ} → Outcome Current (meaning (remove m t)) b a b₁ → Listed (removeNumbers m) (seen a .number)
+remove-listed m t = outcome-of (Listed (removeNumbers m)) (ok 0 refl) (remove m t) own (λ k u good. absurd (let e = good .asked in let z : _≡_ {A = ℕ} 0 1 = cc in let y : ⊥ = omega arith in y)) (λ k good. ok 12 refl) (λ k room good. ok 12 refl) (ok 9 refl)
   where
-    own : (n : ℕ) → Declined (remove t) n → Listed removeNumbers n
-    own n (too-long h) = refl
-    own n (not-ascii h e) = refl
-    own n (not-a-path h e f) = unread-of (Listed removeNumbers) refl refl refl refl refl refl (whyNot t)
-    own n (key-too-long p l) = refl
+    ok : (n : ℕ) → Listed (9 ∷ 1 ∷ 2 ∷ 3 ∷ 17 ∷ 18 ∷ 19 ∷ 10 ∷ 12 ∷ []) n → Listed (removeNumbers m) n
+    ok = also m (9 ∷ 1 ∷ 2 ∷ 3 ∷ 17 ∷ 18 ∷ 19 ∷ 10 ∷ 12 ∷ [])
+
+    own : (n : ℕ) → Declined (remove m t) n → Listed (removeNumbers m) n
+    own n (too-long h) = ok 1 refl
+    own n (not-ascii h e) = ok 2 refl
+    own n (not-a-path h e f) = unread-of (Listed (removeNumbers m)) (ok 1 refl) (ok 2 refl) (ok 3 refl) (ok 17 refl) (ok 18 refl) (ok 19 refl) (whyNot t)
+    own n (loose p s) = loose-too m t (9 ∷ 1 ∷ 2 ∷ 3 ∷ 17 ∷ 18 ∷ 19 ∷ 10 ∷ 12 ∷ []) s
+    own n (key-too-long p s l) = ok 10 refl
     own n (bad-length q h f) = absurd (let z : _≡_ {A = ℕ} 0 1 = cc in let y : ⊥ = omega arith in y)
     own n (no-room q h l) = absurd (let z : _≡_ {A = ℕ} 0 1 = cc in let y : ⊥ = omega arith in y)
 
-abbrev pub lookNumbers : List ℕ
-lookNumbers = 9 ∷ 1 ∷ 2 ∷ 3 ∷ 17 ∷ 18 ∷ 19 ∷ 10 ∷ 4 ∷ 12 ∷ []
+abbrev pub lookNumbers : Manner → List ℕ
+lookNumbers m = inManner m (9 ∷ 1 ∷ 2 ∷ 3 ∷ 17 ∷ 18 ∷ 19 ∷ 10 ∷ 4 ∷ 12 ∷ [])
 
-pub look-listed : (t : List ℕ) (room : ℕ) {b : List ℕ} {a : Answer} {b₁ : List ℕ} → Outcome Current (meaning (look t room)) b a b₁ → Listed lookNumbers (seen a .number)
-look-listed t room = outcome-of (Listed lookNumbers) refl (look t room) own (λ k u ok. absurd (let e = ok .asked in let z : _≡_ {A = ℕ} 0 1 = cc in let y : ⊥ = omega arith in y)) (λ k ok. refl) (λ k r ok. refl) refl
+pub look-listed : (m : Manner) (t : List ℕ) (room : ℕ) {b : List ℕ} {a : Answer} {b₁ : List ℕ} → Outcome Current (meaning (look m t room)) b a b₁ → Listed (lookNumbers m) (seen a .number)
+look-listed m t room = outcome-of (Listed (lookNumbers m)) (ok 0 refl) (look m t room) own (λ k u good. absurd (let e = good .asked in let z : _≡_ {A = ℕ} 0 1 = cc in let y : ⊥ = omega arith in y)) (λ k good. ok 12 refl) (λ k r good. ok 12 refl) (ok 9 refl)
   where
-    own : (n : ℕ) → Declined (look t room) n → Listed lookNumbers n
-    own n (too-long h) = refl
-    own n (not-ascii h e) = refl
-    own n (not-a-path h e f) = unread-of (Listed lookNumbers) refl refl refl refl refl refl (whyNot t)
-    own n (key-too-long p l) = refl
+    ok : (n : ℕ) → Listed (9 ∷ 1 ∷ 2 ∷ 3 ∷ 17 ∷ 18 ∷ 19 ∷ 10 ∷ 4 ∷ 12 ∷ []) n → Listed (lookNumbers m) n
+    ok = also m (9 ∷ 1 ∷ 2 ∷ 3 ∷ 17 ∷ 18 ∷ 19 ∷ 10 ∷ 4 ∷ 12 ∷ [])
+
+    own : (n : ℕ) → Declined (look m t room) n → Listed (lookNumbers m) n
+    own n (too-long h) = ok 1 refl
+    own n (not-ascii h e) = ok 2 refl
+    own n (not-a-path h e f) = unread-of (Listed (lookNumbers m)) (ok 1 refl) (ok 2 refl) (ok 3 refl) (ok 17 refl) (ok 18 refl) (ok 19 refl) (whyNot t)
+    own n (loose p s) = loose-too m t (9 ∷ 1 ∷ 2 ∷ 3 ∷ 17 ∷ 18 ∷ 19 ∷ 10 ∷ 4 ∷ 12 ∷ []) s
+    own n (key-too-long p s l) = ok 10 refl
     own n (bad-length q h f) = absurd (let z : _≡_ {A = ℕ} 0 1 = cc in let y : ⊥ = omega arith in y)
-    own n (no-room q h l) = refl
+    own n (no-room q h l) = ok 4 refl
 
 -- what is said of a pair
 record Told (p : Pair) : Type 0 where
@@ -177,13 +208,13 @@ module _ {L : Type 0} {A R S : L → Type 0} {Pre : (κs : L) → A κs → Type
         go (other-size x n e f) = rw e
         go (converted x n e f) = rw e
 
-  pub found-demand : (written : (κs : L) → R κs → Written) (book text before : (κs : L) → A κs → List ℕ) (after : (κs : L) → S κs → List ℕ)
-      → ((κs : L) (a : A κs) (r : R κs) (s : S κs) → Post κs a r s → Looked Current (book κs a) (text κs a) (before κs a) (written κs r) (after κs s))
-      → Demand1 Pre Post lookNumbers (λ κs r. written κs r .refusal) (λ κs r. written κs r .length ∷ []) before after
-  found-demand written book text before after says =
+  pub found-demand : (m : Manner) (written : (κs : L) → R κs → Written) (book text before : (κs : L) → A κs → List ℕ) (after : (κs : L) → S κs → List ℕ)
+      → ((κs : L) (a : A κs) (r : R κs) (s : S κs) → Post κs a r s → Looked Current m (book κs a) (text κs a) (before κs a) (written κs r) (after κs s))
+      → Demand1 Pre Post (lookNumbers m) (λ κs r. written κs r .refusal) (λ κs r. written κs r .length ∷ []) before after
+  found-demand m written book text before after says =
       record {
         accepts = accepts;
-        numbered = λ κs a r s p. let c = says κs a r s p in subst (Listed lookNumbers) (sym (ap (λ (w : Written). w .refusal) (c .written) ∙ written-number (c .answer))) (look-listed (text κs a) (length (before κs a)) (c .outcome));
+        numbered = λ κs a r s p. let c = says κs a r s p in subst (Listed (lookNumbers m)) (sym (ap (λ (w : Written). w .refusal) (c .written) ∙ written-number (c .answer))) (look-listed m (text κs a) (length (before κs a)) (c .outcome));
         nothing-else = λ κs a r s p h. let c = says κs a r s p in (ap (λ (w : Written). w .length) (c .written) ∙ written-zero (c .answer) (λ e. h (ap (λ (w : Written). w .refusal) (c .written) ∙ e)), tt);
         keeps = λ κs a r s p. found-keeps (says κs a r s p);
       }

@@ -4,7 +4,7 @@
 use Prim.Native.Nat.{ℕ}
 use mathlib.Core.Path.{_≡_, refl}
 use mathlib.Core.Bool.{true, false}
-use mathlib.Core.List.{List, [], _∷_, map}
+use mathlib.Core.List.{List, [], _∷_, _++_, map}
 use lib.ListN.{replicate}
 use Rattle.text.specs.Bytes.{bytes}
 use Rattle.text.specs.Number.{numeralOf, digitsAt, digitsFrom, decimal, digits, width, widthBy}
@@ -22,13 +22,18 @@ use Rattle.path.specs.declared.Pair.{Pair}
 use Rattle.path.specs.Pair.{pair}
 use Rattle.book.specs.Oldest.{stateOf, oldestState, oldestIn}
 use Rattle.text.specs.Order.{cmp}
-use Rattle.path.specs.Read.{nameFault, fits, fitsKind, suits, suitsKind, partFaults, kindFaults, faultsAs, whyNot, readKind, readFirst, readPath, show, render, partsOf, renderPath}
+use Rattle.path.specs.Read.{nameFault, fits, fitsKind, suits, suitsKind, partFaults, kindFaults, faultsAs, whyNot, readKind, readFirst, readPath, show, render, partsOf, renderPath, keyOf}
+use Rattle.keys.specs.declared.Manner.{Manner}
+use Rattle.keys.specs.declared.Manner.the-variants.{Plain, Lenient}
+use Rattle.keys.specs.Calls.{keyFor, keyAnswer}
 
--- what is asked: to read a text, to check an identifier, or for the oldest state of a client in a book with these keys
+-- what is asked: to read a text, to check an identifier, for the oldest state of a client in a book with these keys, or for the key of a text
+-- in a call on a book
 pub data Question : Type 0 where
   reading : List ℕ → Question
   checking : Rule → List ℕ → Question
   seeking : List ℕ → List (List ℕ) → Question
+  keying : Manner → List ℕ → Question
 
 -- what is answered: a reading, a refusal and its place, or a pair
 pub data Outcome : Type 0 where
@@ -40,6 +45,7 @@ abbrev pub answerOf : Question → Outcome
 answerOf (reading t) = gives (readPath t)
 answerOf (checking r s) = says (faultOf r s)
 answerOf (seeking c ks) = finds (oldestIn c (map (λ k. (k, [])) ks))
+answerOf (keying m t) = says (record { refusal = keyAnswer (keyFor m t) .refusal; place = 0 })
 
 pub record Case : Type 0 where
   pub question : Question
@@ -57,6 +63,9 @@ wrong r s n p = record { question = checking r s; outcome = says (record { refus
 
 abbrev seek : List ℕ → List (List ℕ) → Pair → Case
 seek c ks p = record { question = seeking c ks; outcome = finds p }
+
+abbrev key : Manner → List ℕ → ℕ → Case
+key m t n = record { question = keying m t; outcome = says (record { refusal = n; place = 0 }) }
 
 abbrev at : ℕ → ℕ → Place
 at s n = record { start = s; len = n }
@@ -118,8 +127,16 @@ cases =
     -- as text `10-2` comes before `7-2`, and `07-tendermint-4` begins `07-tendermint-40`
     ∷ seek (bytes "07-tendermint-4") (bytes "clients/07-tendermint-4/consensusStates/10-2" ∷ bytes "clients/07-tendermint-4/consensusStates/7-2" ∷ []) (pair 0 7 2)
     ∷ seek (bytes "07-tendermint-4") (bytes "clients/07-tendermint-40/consensusStates/7-2" ∷ []) (pair 12 0 0)
+    -- 20 stands after 3 and before 10, in plain calls only
+    ∷ key Plain (bytes "clients/07-tendermint-4/consensusStates/007-2") 20
+    ∷ key Lenient (bytes "clients/07-tendermint-4/consensusStates/007-2") 0
+    ∷ key Plain (bytes "clients/07-tendermint-4/consensusStates/7-2") 0
+    ∷ key Plain (bytes "clients/07-tendermint-4/consensusStates/007") 3
+    ∷ key Plain (replicate 256 117 ++ bytes "/05/upgradedClient") 20
+    ∷ key Lenient (replicate 256 117 ++ bytes "/05/upgradedClient") 10
+    ∷ key Plain (replicate 256 117 ++ bytes "/5/upgradedClient") 10
     ∷ []
 
 pub cases-hold : map (λ c. answerOf (c .question)) cases ≡ map (λ c. c .outcome) cases
-unfolding numeralOf digitsAt digitsFrom decimal digits width widthBy every ascii startsWith same among identifierByte charsOf within indexOf namedOf checkOf faultOf cutAt joinBy placesFrom kinds nameFault fits fitsKind suits suitsKind partFaults kindFaults faultsAs whyNot readKind readFirst readPath show render partsOf renderPath cmp shownOf stateOf oldestState oldestIn
+unfolding numeralOf digitsAt digitsFrom decimal digits width widthBy every ascii startsWith same among identifierByte charsOf within indexOf namedOf checkOf faultOf cutAt joinBy placesFrom kinds nameFault fits fitsKind suits suitsKind partFaults kindFaults faultsAs whyNot readKind readFirst readPath show render partsOf renderPath cmp shownOf stateOf oldestState oldestIn keyOf keyFor keyAnswer
 cases-hold = refl

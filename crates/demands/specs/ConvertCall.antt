@@ -17,6 +17,7 @@ use Rattle.text.specs.Put.{refusal}
 use Rattle.text.specs.Refusal.{badBook, noRoom, noRecord}
 use Rattle.keys.specs.Records.{Key, get}
 use Rattle.keys.specs.Calls.{look}
+use Rattle.keys.specs.declared.Manner.{Manner}
 use Rattle.keys.specs.Refusals.{GoodLookup}
 use Rattle.form.specs.Form.{place}
 use Rattle.form.specs.Version.{V1}
@@ -57,8 +58,8 @@ pub record Conversion (old new : List ℕ) (r : ℕ) (new₁ : List ℕ) : Type 
   -- the new bytes are a book with the slots and the records of the old one
   pub same-records : r ≡ 0 → (x : Book V1 old) → (y : ProperBook new₁) × (y .slots ≡ x .slots) × (y .records ≡ x .records)
   -- so every lookup that its text and room do not refuse gives what the old book held
-  pub lookups : r ≡ 0 → (x : Book V1 old) (t out : List ℕ) (w : Written) (out₁ : List ℕ) → Looks new₁ t out w out₁
-      → (k : Key) → GoodLookup (look t (length out)) k (length out) → Gives (get (x .records) k) w out₁
+  pub lookups : r ≡ 0 → (x : Book V1 old) (m : Manner) (t out : List ℕ) (w : Written) (out₁ : List ℕ) → Looks m new₁ t out w out₁
+      → (k : Key) → GoodLookup (look m t (length out)) k (length out) → Gives (get (x .records) k) w out₁
 
 -- what the second buffer held has no influence
 pub record ConvertDemand : Type 0 where

@@ -13,6 +13,7 @@ use Rattle.text.specs.declared.Written.{Written}
 use Rattle.text.specs.PutLaws.{put-zero}
 use Rattle.keys.specs.Records.{Key, get}
 use Rattle.keys.specs.Act.{Rec, Answer, lookIn, act}
+use Rattle.keys.specs.declared.Manner.{Manner}
 use Rattle.keys.specs.Calls.{look}
 use Rattle.keys.specs.Refusals.{GoodLookup}
 use Rattle.keys.specs.CallLaws.{looking-means}
@@ -45,18 +46,18 @@ gives none s out w out₁ e f = e
 gives (some u) s out w out₁ e f =
     record { answered = e; shown = ap (λ (v : Written). take (v .length) out₁) e ∙ ap (λ (l : List ℕ). take (length u) l) (f ∙ put-zero out u) ∙ take-at u (drop (length u) out) (length u) refl }
 
-looks-up : {b : List ℕ} (y : ProperBook b) (t out : List ℕ) (w : Written) (out₁ : List ℕ) → Looks b t out w out₁
-    → (k : Key) → GoodLookup (look t (length out)) k (length out) → Gives (get (y .records) k) w out₁
+looks-up : {b : List ℕ} (y : ProperBook b) (m : Manner) (t out : List ℕ) (w : Written) (out₁ : List ℕ) → Looks m b t out w out₁
+    → (k : Key) → GoodLookup (look m t (length out)) k (length out) → Gives (get (y .records) k) w out₁
 unfolding act
-looks-up {b} y t out w out₁ l k ok =
-    let f : Looked Current b t out w out₁ = looked b t out w out₁ l in
-    let m = looking-means (look t (length out)) k (length out) ok in
-    let e : f .answer ≡ lookIn (get (y .records) k) (y .records) .0 = on-book y (f .outcome) .0 ∙ ap (λ (q : _). acts y q .0) m in
+looks-up {b} y m t out w out₁ l k ok =
+    let f : Looked Current m b t out w out₁ = looked m b t out w out₁ l in
+    let e₁ = looking-means (look m t (length out)) k (length out) ok in
+    let e : f .answer ≡ lookIn (get (y .records) k) (y .records) .0 = on-book y (f .outcome) .0 ∙ ap (λ (q : _). acts y q .0) e₁ in
     gives (get (y .records) k) (y .records) out w out₁ (f .written ∙ ap writtenBy e) (f .value ∙ ap (λ (a : Answer). shown a out) e)
 
 conversion : {old new : List ℕ} {r : ℕ} {new₁ : List ℕ} → Converted old new r new₁ → Conversion old new r new₁
 conversion {old} {new} {r} {new₁} c =
-    record { bad-book = bad c; no-room = room c; done = made c; same-records = λ e x. converted-book c e x; lookups = λ e x t out w out₁ l k ok. let y = converted-book c e x in rw (← y .2) (looks-up (y .0) t out w out₁ l k ok) }
+    record { bad-book = bad c; no-room = room c; done = made c; same-records = λ e x. converted-book c e x; lookups = λ e x m t out w out₁ l k ok. let y = converted-book c e x in rw (← y .2) (looks-up (y .0) m t out w out₁ l k ok) }
   where
     bad : Converted old new r new₁ → (r ≡ 9) ↔ (Book V1 old → ⊥)
     bad (no-old n e f) = (λ q. n, λ q. e)

@@ -15,6 +15,7 @@ use Rattle.identifiers.specs.Owned.{newClient, newChannel}
 use Rattle.path.specs.Kinds.{word, carried}
 use Rattle.path.specs.Read.{renderOf, keyOf, readingBytes, readFault}
 use Rattle.path.specs.Parents.{textOf, consensusParent, consensusLeaf, packetsPath}
+use Rattle.keys.specs.declared.Manner.the-variants.{Plain, Lenient}
 use Rattle.keys.specs.Calls.{write, remove}
 use Rattle.iteration.specs.Block.{blockOf, firstAbove, lastBelow, scanned}
 use Rattle.iteration.specs.Key.{iterationKey, revision, keyIn, answered}
@@ -57,8 +58,11 @@ use Rattle.hostpath.proofs.hp_read.Reads as hp-read
 use Rattle.hostpath.proofs.hp_is_provable.Reads as hp-is-provable
 use Rattle.hostpath.proofs.hp_book_new.Reads as hp-book-new
 use Rattle.hostpath.proofs.hp_book_write.Reads as hp-book-write
+use Rattle.hostpath.proofs.hp_book_write_lenient.Reads as hp-book-write-lenient
 use Rattle.hostpath.proofs.hp_book_remove.Reads as hp-book-remove
+use Rattle.hostpath.proofs.hp_book_remove_lenient.Reads as hp-book-remove-lenient
 use Rattle.hostpath.proofs.hp_book_lookup.Reads as hp-book-lookup
+use Rattle.hostpath.proofs.hp_book_lookup_lenient.Reads as hp-book-lookup-lenient
 use Rattle.hostpath.proofs.hp_book_oldest.Reads as hp-book-oldest
 use Rattle.hostpath.proofs.hp_book_convert.Reads as hp-book-convert
 use Rattle.render.proofs.render.Reads as render
@@ -194,14 +198,23 @@ hp-is-provable-holds = provable-demand (λ κs a. tt) (λ κs a. a .0) (λ κs r
 pub hp-book-new-holds : Demand1 hp-book-new.Pre hp-book-new.Post (9 ∷ []) (λ κs r. r) (λ κs r. []) (λ κs a. now (a .0)) (λ κs s. now (s .0))
 hp-book-new-holds = made-demand (λ κs a. tt) (λ κs r. r) (λ κs a. now (a .0)) (λ κs s. now (s .0)) (λ κs a r s p. p)
 
-pub hp-book-write-holds : Demand1 hp-book-write.Pre hp-book-write.Post writeNumbers (λ κs r. r) (λ κs r. []) (λ κs a. now (a .0)) (λ κs s. now (s .0))
-hp-book-write-holds = changed-demand (λ κs a. tt) (λ κs r. r) (λ κs a. now (a .0)) (λ κs s. now (s .0)) writeNumbers (λ κs a. write (now (a .1 .0)) (now (a .1 .1 .0))) (λ κs a b x b₁ o. write-listed _ _ o) (λ κs a r s p. p)
+pub hp-book-write-holds : Demand1 hp-book-write.Pre hp-book-write.Post (writeNumbers Plain) (λ κs r. r) (λ κs r. []) (λ κs a. now (a .0)) (λ κs s. now (s .0))
+hp-book-write-holds = changed-demand (λ κs a. tt) (λ κs r. r) (λ κs a. now (a .0)) (λ κs s. now (s .0)) (writeNumbers Plain) (λ κs a. write Plain (now (a .1 .0)) (now (a .1 .1 .0))) (λ κs a b x b₁ o. write-listed Plain _ _ o) (λ κs a r s p. p)
 
-pub hp-book-remove-holds : Demand1 hp-book-remove.Pre hp-book-remove.Post removeNumbers (λ κs r. r) (λ κs r. []) (λ κs a. now (a .0)) (λ κs s. now (s .0))
-hp-book-remove-holds = changed-demand (λ κs a. tt) (λ κs r. r) (λ κs a. now (a .0)) (λ κs s. now (s .0)) removeNumbers (λ κs a. remove (now (a .1 .0))) (λ κs a b x b₁ o. remove-listed _ o) (λ κs a r s p. p)
+pub hp-book-remove-holds : Demand1 hp-book-remove.Pre hp-book-remove.Post (removeNumbers Plain) (λ κs r. r) (λ κs r. []) (λ κs a. now (a .0)) (λ κs s. now (s .0))
+hp-book-remove-holds = changed-demand (λ κs a. tt) (λ κs r. r) (λ κs a. now (a .0)) (λ κs s. now (s .0)) (removeNumbers Plain) (λ κs a. remove Plain (now (a .1 .0))) (λ κs a b x b₁ o. remove-listed Plain _ o) (λ κs a r s p. p)
 
-pub hp-book-lookup-holds : Demand1 hp-book-lookup.Pre hp-book-lookup.Post lookNumbers (λ κs r. r .refusal) (λ κs r. r .length ∷ []) (λ κs a. now (a .1 .1 .0)) (λ κs s. now (s .1 .1 .0))
-hp-book-lookup-holds = found-demand (λ κs a. tt) (λ κs r. r) (λ κs a. now (a .0)) (λ κs a. now (a .1 .0)) (λ κs a. now (a .1 .1 .0)) (λ κs s. now (s .1 .1 .0)) (λ κs a r s p. p)
+pub hp-book-lookup-holds : Demand1 hp-book-lookup.Pre hp-book-lookup.Post (lookNumbers Plain) (λ κs r. r .refusal) (λ κs r. r .length ∷ []) (λ κs a. now (a .1 .1 .0)) (λ κs s. now (s .1 .1 .0))
+hp-book-lookup-holds = found-demand (λ κs a. tt) Plain (λ κs r. r) (λ κs a. now (a .0)) (λ κs a. now (a .1 .0)) (λ κs a. now (a .1 .1 .0)) (λ κs s. now (s .1 .1 .0)) (λ κs a r s p. p)
+
+pub hp-book-write-lenient-holds : Demand1 hp-book-write-lenient.Pre hp-book-write-lenient.Post (writeNumbers Lenient) (λ κs r. r) (λ κs r. []) (λ κs a. now (a .0)) (λ κs s. now (s .0))
+hp-book-write-lenient-holds = changed-demand (λ κs a. tt) (λ κs r. r) (λ κs a. now (a .0)) (λ κs s. now (s .0)) (writeNumbers Lenient) (λ κs a. write Lenient (now (a .1 .0)) (now (a .1 .1 .0))) (λ κs a b x b₁ o. write-listed Lenient _ _ o) (λ κs a r s p. p)
+
+pub hp-book-remove-lenient-holds : Demand1 hp-book-remove-lenient.Pre hp-book-remove-lenient.Post (removeNumbers Lenient) (λ κs r. r) (λ κs r. []) (λ κs a. now (a .0)) (λ κs s. now (s .0))
+hp-book-remove-lenient-holds = changed-demand (λ κs a. tt) (λ κs r. r) (λ κs a. now (a .0)) (λ κs s. now (s .0)) (removeNumbers Lenient) (λ κs a. remove Lenient (now (a .1 .0))) (λ κs a b x b₁ o. remove-listed Lenient _ o) (λ κs a r s p. p)
+
+pub hp-book-lookup-lenient-holds : Demand1 hp-book-lookup-lenient.Pre hp-book-lookup-lenient.Post (lookNumbers Lenient) (λ κs r. r .refusal) (λ κs r. r .length ∷ []) (λ κs a. now (a .1 .1 .0)) (λ κs s. now (s .1 .1 .0))
+hp-book-lookup-lenient-holds = found-demand (λ κs a. tt) Lenient (λ κs r. r) (λ κs a. now (a .0)) (λ κs a. now (a .1 .0)) (λ κs a. now (a .1 .1 .0)) (λ κs s. now (s .1 .1 .0)) (λ κs a r s p. p)
 
 pub hp-book-convert-holds : Demand1 hp-book-convert.Pre hp-book-convert.Post (9 ∷ 4 ∷ []) (λ κs r. r) (λ κs r. []) (λ κs a. now (a .1 .0)) (λ κs s. now (s .1 .0))
 hp-book-convert-holds = converted-demand (λ κs a. tt) (λ κs r. r) (λ κs a. now (a .1 .0)) (λ κs s. now (s .1 .0)) (λ κs a. now (a .0)) (λ κs a r s p. p)

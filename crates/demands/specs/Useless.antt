@@ -22,6 +22,7 @@ use Rattle.form.specs.FormLaws.{length-zeros}
 use Rattle.text.specs.OrderLaws.{cmp-self}
 use Rattle.keys.specs.Records.{Key, get, put}
 use Rattle.keys.specs.Act.{writes, act, done, Seen, seen}
+use Rattle.keys.specs.declared.Manner.the-variants.{Plain}
 use Rattle.keys.specs.Calls.{Call, write, remove, look, meaning, ValueFits}
 use Rattle.book.specs.Book.{Current, acts}
 use Rattle.demands.specs.Held.{Holds, isWrite, ProperBook}
@@ -74,13 +75,13 @@ value = zeros 32
 
 -- the write of that value under that path, and what it does on the empty book
 abbrev W : Call
-W = write port value
+W = write Plain port value
 
 sized : ValueFits value
 sized = record { least = omega (arith, length-zeros 32); most = omega (arith, length-zeros 32) }
 
 write-means : meaning W ≡ writes port value
-write-means = writing-means W port value (record { asked = refl; key = record { path = port-key; fits = omega arith }; size = sized })
+write-means = writing-means W port value (record { asked = refl; key = record { path = port-key; form = port-key; fits = omega arith }; size = sized })
 
 -- the write is accepted there, and the record then stands in the book
 abbrev filled : List ℕ
@@ -192,7 +193,7 @@ not-empty h = let e : some value ≡ some [] = one-held (record { book = one-rec
 abbrev obeyed-once : Taken Once
 obeyed-once =
     record {
-      calls = W ∷ remove port ∷ [];
+      calls = W ∷ remove Plain port ∷ [];
       start = two;
       book = empty;
       room = one-of-two;
@@ -205,7 +206,7 @@ pub once-refused : ((x : Taken Once) → Demand3 Once x) → ⊥
 once-refused h = still-there (h obeyed-once .last-accepted port 1 (record { here = here; none-later = later }))
   where
     here : AcceptedAt Once obeyed-once port 1
-    here = record { made = record { call = remove port; answer = seen done; there = refl; said = refl }; path = port-key; accepted = (tt, refl) }
+    here = record { made = record { call = remove Plain port; answer = seen done; there = refl; said = refl }; path = port-key; accepted = (tt, refl) }
 
     later : (j : ℕ) → 1 < j → AcceptedAt Once obeyed-once port j → ⊥
     later zero l u = omega arith
@@ -216,7 +217,7 @@ once-refused h = still-there (h obeyed-once .last-accepted port 1 (record { here
 abbrev asked-once : Taken Once
 asked-once =
     record {
-      calls = W ∷ look port 64 ∷ [];
+      calls = W ∷ look Plain port 64 ∷ [];
       start = two;
       book = empty;
       room = one-of-two;
@@ -228,8 +229,8 @@ asked-once =
 pub once-gives-refused : ((x : Taken Once) → Demand3 Once x) → ⊥
 unfolding before
 once-gives-refused h =
-    let g = h asked-once .lookup-gives 1 (record { call = look port 64; answer = seen done; there = refl; said = refl }) tt refl in
-    not-empty (subst (λ (k : Key). Holds filled k (some [])) (one-path (look port 64) (g .0) port (g .1) port-key) (g .2))
+    let g = h asked-once .lookup-gives 1 (record { call = look Plain port 64; answer = seen done; there = refl; said = refl }) tt refl in
+    not-empty (subst (λ (k : Key). Holds filled k (some [])) (one-path (look Plain port 64) (g .0) port (g .1) port-key) (g .2))
 
 -- ---- a book whose count is not the number of its keys: the header says one more. It breaks `stays-a-book`
 pub record Miscounts (b : List ℕ) (c : Call) (a : Seen) (b₁ : List ℕ) : Type 0 where

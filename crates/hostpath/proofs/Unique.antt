@@ -44,8 +44,11 @@ use Rattle.hostpath.proofs.hp_ack_prefix.Reads as hp-ack-prefix
 use Rattle.hostpath.proofs.hp_receipt_prefix.Reads as hp-receipt-prefix
 use Rattle.hostpath.proofs.hp_book_new.Reads as hp-book-new
 use Rattle.hostpath.proofs.hp_book_write.Reads as hp-book-write
+use Rattle.hostpath.proofs.hp_book_write_lenient.Reads as hp-book-write-lenient
 use Rattle.hostpath.proofs.hp_book_remove.Reads as hp-book-remove
+use Rattle.hostpath.proofs.hp_book_remove_lenient.Reads as hp-book-remove-lenient
 use Rattle.hostpath.proofs.hp_book_lookup.Reads as hp-book-lookup
+use Rattle.hostpath.proofs.hp_book_lookup_lenient.Reads as hp-book-lookup-lenient
 use Rattle.hostpath.proofs.hp_book_oldest.Reads as hp-book-oldest
 use Rattle.hostpath.proofs.hp_book_convert.Reads as hp-book-convert
 
@@ -159,6 +162,15 @@ one-hp-book-remove κs a r₁ r₂ s₁ s₂ p q = one-changed lawful p q
 
 pub one-hp-book-lookup : OneWith hp-book-lookup.Post (λ κs s. now (s .1 .1 .0))
 one-hp-book-lookup κs a r₁ r₂ s₁ s₂ p q = one-found lawful p q
+
+pub one-hp-book-write-lenient : OneWith hp-book-write-lenient.Post (λ κs s. now (s .0))
+one-hp-book-write-lenient κs a r₁ r₂ s₁ s₂ p q = one-changed lawful p q
+
+pub one-hp-book-remove-lenient : OneWith hp-book-remove-lenient.Post (λ κs s. now (s .0))
+one-hp-book-remove-lenient κs a r₁ r₂ s₁ s₂ p q = one-changed lawful p q
+
+pub one-hp-book-lookup-lenient : OneWith hp-book-lookup-lenient.Post (λ κs s. now (s .1 .1 .0))
+one-hp-book-lookup-lenient κs a r₁ r₂ s₁ s₂ p q = one-found lawful p q
 
 pub one-hp-book-oldest : One hp-book-oldest.Post
 one-hp-book-oldest κs a r₁ r₂ s₁ s₂ p q = one-oldest Current lawful _ _ _ _ p q

@@ -20,10 +20,12 @@
 // NO_DIGITS: where a number should stand there is no digit: write one, from 0 to 18446744073709551615
 // NOT_A_DIGIT: a byte of the number is no digit: write it in the digits 0 to 9 alone
 // TOO_LARGE: the number is above 18446744073709551615: write a smaller one
+// LOOSE: a number of the text has a plus or leading zeros, so it is not its own key: give its key, or make the lenient call
 use identifiers::channel_id::write_channel_id;
 use identifiers::client_id::write_client_id;
 use identifiers::validate;
 use iteration::Revision;
+use keys::Manner;
 use path::Pair;
 use path::RevisionHeight;
 use path::RevisionNumber;
@@ -44,6 +46,7 @@ ghost use Rattle.path.specs.Read.{readingBytes, readFault, keyOf, renderOf};
 ghost use Rattle.path.specs.View.{provableFlag};
 ghost use Rattle.iteration.specs.Block.{blockOf, firstAbove, lastBelow, scanned};
 ghost use Rattle.iteration.specs.Key.{iterationKey, revision, keyIn, answered, pairOf};
+ghost use Rattle.keys.specs.declared.Manner.the-variants.{Plain, Lenient};
 ghost use Rattle.book.specs.Book.{Current};
 ghost use Rattle.book.specs.Outcome.{Wrote, Removed, Looked, Made};
 ghost use Rattle.book.specs.Convert.{Converted};
@@ -375,30 +378,54 @@ pub extern "C" fn hp_book_new(book: &mut [u8]) -> u8
     book::new_book(book)
 }
 
-// The rendering of the text holds the value from now on, anew or in place of what it held:
-// 9, 1, 2, 3 (17, 18, 19), 10, 6, 11.
+// The text, which is its own rendering, holds the value from now on, anew or in place of what it held:
+// 9, 1, 2, 3 (17, 18, 19), 20, 10, 6, 11.
 #[no_mangle]
 pub extern "C" fn hp_book_write(book: &mut [u8], text: &[u8], value: &[u8]) -> u8
-    ensures { λ r. ⌜ Wrote Current (now (book .entry)) (now (text .entry)) (now (value .entry)) r (now (book .exit)) ⌝ }
+    ensures { λ r. ⌜ Wrote Current Plain (now (book .entry)) (now (text .entry)) (now (value .entry)) r (now (book .exit)) ⌝ }
 {
-    book::write(book, text, value)
+    book::write(Manner::Plain, book, text, value)
 }
 
-// The rendering of the text holds nothing from now on: 9, 1, 2, 3 (17, 18, 19), 10, 12.
+// The text, which is its own rendering, holds nothing from now on: 9, 1, 2, 3 (17, 18, 19), 20, 10, 12.
 #[no_mangle]
 pub extern "C" fn hp_book_remove(book: &mut [u8], text: &[u8]) -> u8
-    ensures { λ r. ⌜ Removed Current (now (book .entry)) (now (text .entry)) r (now (book .exit)) ⌝ }
+    ensures { λ r. ⌜ Removed Current Plain (now (book .entry)) (now (text .entry)) r (now (book .exit)) ⌝ }
 {
-    book::remove(book, text)
+    book::remove(Manner::Plain, book, text)
 }
 
-// What the rendering of the text holds, 1 to 64 bytes; wants room for 64 whatever it holds:
-// 9, 1, 2, 3 (17, 18, 19), 10, 4, 12.
+// What the text, which is its own rendering, holds, 1 to 64 bytes; wants room for 64 whatever it holds:
+// 9, 1, 2, 3 (17, 18, 19), 20, 10, 4, 12.
 #[no_mangle]
 pub extern "C" fn hp_book_lookup(book: &[u8], text: &[u8], out: &mut [u8]) -> Written
-    ensures { λ r. ⌜ Looked Current (now (book .entry)) (now (text .entry)) (now (out .entry)) r (now (out .exit)) ⌝ }
+    ensures { λ r. ⌜ Looked Current Plain (now (book .entry)) (now (text .entry)) (now (out .entry)) r (now (out .exit)) ⌝ }
 {
-    book::lookup(book, text, out)
+    book::lookup(Manner::Plain, book, text, out)
+}
+
+// As hp_book_write, on the rendering of the text, for importers that pad their heights: 9, 1, 2, 3 (17, 18, 19), 10, 6, 11.
+#[no_mangle]
+pub extern "C" fn hp_book_write_lenient(book: &mut [u8], text: &[u8], value: &[u8]) -> u8
+    ensures { λ r. ⌜ Wrote Current Lenient (now (book .entry)) (now (text .entry)) (now (value .entry)) r (now (book .exit)) ⌝ }
+{
+    book::write(Manner::Lenient, book, text, value)
+}
+
+// As hp_book_remove, on the rendering of the text, for importers that pad their heights: 9, 1, 2, 3 (17, 18, 19), 10, 12.
+#[no_mangle]
+pub extern "C" fn hp_book_remove_lenient(book: &mut [u8], text: &[u8]) -> u8
+    ensures { λ r. ⌜ Removed Current Lenient (now (book .entry)) (now (text .entry)) r (now (book .exit)) ⌝ }
+{
+    book::remove(Manner::Lenient, book, text)
+}
+
+// As hp_book_lookup, on the rendering of the text, for importers that pad their heights: 9, 1, 2, 3 (17, 18, 19), 10, 4, 12.
+#[no_mangle]
+pub extern "C" fn hp_book_lookup_lenient(book: &[u8], text: &[u8], out: &mut [u8]) -> Written
+    ensures { λ r. ⌜ Looked Current Lenient (now (book .entry)) (now (text .entry)) (now (out .entry)) r (now (out .exit)) ⌝ }
+{
+    book::lookup(Manner::Lenient, book, text, out)
 }
 
 // The smallest pair of revision number and height among the client's records `clients/C/consensusStates/R-h`: 9, the

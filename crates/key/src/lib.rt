@@ -10,7 +10,7 @@ ghost use Prim.Native.Nat.{_+_, _≤_};
 ghost use lib.ListN.{length};
 ghost use Rattle.text.specs.Put.{put, answer, left};
 ghost use Rattle.path.specs.Kinds.{carried};
-ghost use Rattle.path.specs.Read.{keyOf, render, partsOf};
+ghost use Rattle.path.specs.Read.{readPath, keyOf, render, partsOf};
 ghost use Rattle.path.specs.Text.{shownOf};
 
 // Writes the rendering of a path whose places are in the text, and returns the place after it.
@@ -31,12 +31,12 @@ pub fn write_rendering(out: &mut [u8], at: usize, text: &[u8], v: PathView) -> u
     )
 }
 
-// Writes the key of a text: 1, 2, 3, then 4.
-pub fn write_key(text: &[u8], out: &mut [u8]) -> Written
+// Writes the key of a text that was read: 1, 2, 3, then 4.
+pub fn write_read(text: &[u8], reading: Reading, out: &mut [u8]) -> Written
+    requires { ⌜ reading ≡ readPath (now text) ⌝ }
     ensures { λ r. ⌜ r ≡ answer (keyOf (now (text .entry))) (length (now (out .entry))) ⌝ }
     ensures { λ _. ⌜ now (out .exit) ≡ left (keyOf (now (text .entry))) (now (out .entry)) ⌝ }
 {
-    let reading = reader::read_path(text);
     let Reading::Read { path, exact: _ } = reading else {
         return Written {
             refusal: path::refusal_of(reading),
@@ -52,4 +52,12 @@ pub fn write_key(text: &[u8], out: &mut [u8]) -> Written
         v.a,
         v.b,
     )
+}
+
+// Writes the key of a text: 1, 2, 3, then 4.
+pub fn write_key(text: &[u8], out: &mut [u8]) -> Written
+    ensures { λ r. ⌜ r ≡ answer (keyOf (now (text .entry))) (length (now (out .entry))) ⌝ }
+    ensures { λ _. ⌜ now (out .exit) ≡ left (keyOf (now (text .entry))) (now (out .entry)) ⌝ }
+{
+    write_read(text, reader::read_path(text), out)
 }

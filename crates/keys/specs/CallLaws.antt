@@ -19,8 +19,9 @@ use Rattle.path.specs.Kinds.{kinds}
 use Rattle.path.specs.Read.{readFirst, whyNot, refusalOf, readingOf, readPath, keyBy, keyOf}
 use Rattle.keys.specs.Records.{Key}
 use Rattle.keys.specs.Act.{Meaning, refuses, writes, removes, looks}
-use Rattle.keys.specs.Calls.{keyed, Asked, to-write, to-remove, to-look, Call, under, meaning, PathOf, ValueFits}
-use Rattle.keys.specs.Refusals.{HasKey, GoodWrite, GoodRemoval, GoodLookup, Declined, too-long, not-ascii, not-a-path, key-too-long, bad-length, no-room}
+use Rattle.keys.specs.Calls.{keyed, Asked, to-write, to-remove, to-look, Call, under, meaning, PathOf, keyFor, ValueFits}
+use Rattle.keys.specs.Refusals.{HasKey, GoodWrite, GoodRemoval, GoodLookup, Declined, too-long, not-ascii, not-a-path, loose, key-too-long, bad-length, no-room}
+use Rattle.keys.specs.MannerLaws.{KeyFor, unread, other, own, key-for, for-unread, for-other, for-own}
 
 -- a text that has no rendering
 key-refused : (c : Call) (n : ℕ) → keyOf (c .text) ≡ refused n → Declined c n
@@ -60,24 +61,25 @@ under-means c k h (to-look room) p = go (leb 64 room) refl
 
 pub means : (c : Call) → Means c (meaning c)
 unfolding meaning keyed
-means c = go (keyOf (c .text)) refl
+means c = go (key-for (c .manner) (c .text))
   where
-    go : (x : Wanted) → keyOf (c .text) ≡ x → Means c (keyed x (under (c .asked)))
-    go (refused n) e = declines (key-refused c n e)
-    go (text k) e = fits (leb (length k) 255) refl
+    go : {x : Wanted} → KeyFor (c .manner) (c .text) x → Means c (keyed x (under (c .asked)))
+    go (unread {n = n} e) = declines (key-refused c n e)
+    go (other e s) = declines (loose e s)
+    go (own {k = k} e s) = fits (leb (length k) 255) refl
       where
         fits : (b : Bool) → leb (length k) 255 ≡ b → Means c (cond b (under (c .asked) k) (refuses 10))
-        fits true l = under-means c k (record { path = e; fits = leb-true (length k) 255 l }) (c .asked) refl
-        fits false l = declines (key-too-long e (leb-false (length k) 255 l))
+        fits true l = under-means c k (record { path = e; form = s; fits = leb-true (length k) 255 l }) (c .asked) refl
+        fits false l = declines (key-too-long e s (leb-false (length k) 255 l))
 
 -- ---- and back: what the table says is what the call means
 keyed-refused : (c : Call) (n : ℕ) → keyOf (c .text) ≡ refused n → meaning c ≡ refuses n
 unfolding meaning keyed
-keyed-refused c n e = rw e
+keyed-refused c n e = rw (for-unread (c .manner) (c .text) n e)
 
 keyed-fits : (c : Call) (k : Key) → HasKey c k → meaning c ≡ under (c .asked) k
 unfolding meaning keyed
-keyed-fits c k h = rw (h .path, le-leb (length k) 255 (h .fits))
+keyed-fits c k h = rw (for-own (c .manner) (c .text) (h .form), h .path, le-leb (length k) 255 (h .fits))
 
 not-sized : (k : Key) (v : List ℕ) → (ValueFits v → ⊥) → under (to-write v) k ≡ refuses 6
 not-sized k v n = go (leb 1 (length v)) refl (leb (length v) 64) refl
@@ -92,7 +94,8 @@ unfolding keyOf readPath meaning keyed
 declined-means c (too-long h) = keyed-refused c 1 (rw (lt-ltb 4096 (length (c .text)) h))
 declined-means c (not-ascii h a) = keyed-refused c 2 (rw (le-ltb 4096 (length (c .text)) h, a))
 declined-means c (not-a-path h a r) = keyed-refused c _ (rw (le-ltb 4096 (length (c .text)) h, a, r))
-declined-means c (key-too-long {k = k} p l) = rw (p, lt-leb (length k) 255 l)
+declined-means c (loose {k = k} p s) = rw (for-other (c .manner) (c .text) k p s)
+declined-means c (key-too-long {k = k} p s l) = rw (for-own (c .manner) (c .text) s, p, lt-leb (length k) 255 l)
 declined-means c (bad-length {k = k} {v = v} q h n) = keyed-fits c k h ∙ rw q (not-sized k v n)
 declined-means c (no-room {k = k} {room = room} q h l) = keyed-fits c k h ∙ rw (q, lt-leb 64 room l)
 
@@ -118,7 +121,8 @@ pub declined-not : {c : Call} {n : ℕ} → Declined c n → ((n ≡ 0) → ⊥)
 declined-not (too-long h) = (λ e. omega arith, λ e. omega arith, λ e. omega arith, λ e. omega arith)
 declined-not (not-ascii h a) = (λ e. omega arith, λ e. omega arith, λ e. omega arith, λ e. omega arith)
 declined-not {c} (not-a-path h a r) = unread-not (whyNot (c .text))
-declined-not (key-too-long p l) = (λ e. omega arith, λ e. omega arith, λ e. omega arith, λ e. omega arith)
+declined-not (loose p s) = (λ e. omega arith, λ e. omega arith, λ e. omega arith, λ e. omega arith)
+declined-not (key-too-long p s l) = (λ e. omega arith, λ e. omega arith, λ e. omega arith, λ e. omega arith)
 declined-not (bad-length q h n) = (λ e. omega arith, λ e. omega arith, λ e. omega arith, λ e. omega arith)
 declined-not (no-room q h l) = (λ e. omega arith, λ e. omega arith, λ e. omega arith, λ e. omega arith)
 

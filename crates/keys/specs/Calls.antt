@@ -2,15 +2,19 @@
 -- Assumes nothing.
 use Prim.Native.Nat.{ℕ, _≤_}
 use mathlib.Core.Path.{_≡_}
-use mathlib.Core.Bool.{cond, _&&_}
+use mathlib.Core.Bool.{Bool, false, cond, not, _&&_}
 use mathlib.Core.List.{List}
 use lib.Dec.{leb}
 use lib.ListN.{length}
-use Rattle.text.specs.Refusal.{noRoom, badLength, keyTooLong}
+use Rattle.text.specs.Refusal.{noRoom, badLength, keyTooLong, loose}
 use Rattle.text.specs.Put.{Wanted, refused, text}
 use Rattle.text.specs.Put as put
 use Rattle.text.specs.declared.Written.{Written}
-use Rattle.path.specs.Read.{keyOf}
+use Rattle.path.specs.declared.Reading.{Reading}
+use Rattle.path.specs.declared.Reading.the-variants.{Read, Refused}
+use Rattle.path.specs.Read.{readPath, keyOf}
+use Rattle.keys.specs.declared.Manner.{Manner}
+use Rattle.keys.specs.declared.Manner.the-variants.{Plain, Lenient}
 use Rattle.keys.specs.Records.{Key}
 use Rattle.keys.specs.Act.{Meaning, refuses, writes, removes, looks}
 
@@ -21,17 +25,18 @@ pub data Asked : Type 0 where
   to-look : ℕ → Asked
 
 pub record Call : Type 0 where
+  pub manner : Manner
   pub text : List ℕ
   pub asked : Asked
 
-abbrev pub write : List ℕ → List ℕ → Call
-write t v = record { text = t; asked = to-write v }
+abbrev pub write : Manner → List ℕ → List ℕ → Call
+write m t v = record { manner = m; text = t; asked = to-write v }
 
-abbrev pub remove : List ℕ → Call
-remove t = record { text = t; asked = to-remove }
+abbrev pub remove : Manner → List ℕ → Call
+remove m t = record { manner = m; text = t; asked = to-remove }
 
-abbrev pub look : List ℕ → ℕ → Call
-look t room = record { text = t; asked = to-look room }
+abbrev pub look : Manner → List ℕ → ℕ → Call
+look m t room = record { manner = m; text = t; asked = to-look room }
 
 -- ---- paths
 -- the path of a call: the rendering of its text
@@ -42,7 +47,26 @@ PathOf c k = keyOf (c .text) ≡ text k
 abbrev pub SamePath : Call → Call → Type 0
 SamePath c d = (k : Key) × PathOf c k × PathOf d k
 
+-- a key that reads, and is its own rendering
+abbrev pub Exact : Key → Type 0
+Exact k = keyOf k ≡ text k
+
+-- a plain call takes exact texts only
+abbrev pub Spelled : Manner → List ℕ → Type 0
+Spelled Plain t = Exact t
+Spelled Lenient t = Unit {0}
+
 -- ---- meaning
+-- the same by the reader's mark: a loose text, where the call is plain
+abbrev pub isLoose : Manner → Reading → Bool
+isLoose Plain (Read p exact) = not exact
+isLoose Plain (Refused w) = false
+isLoose Lenient r = false
+
+-- the key of a text in a call of that manner: the reader's refusals, then 20
+unfoldable pub keyFor : Manner → List ℕ → Wanted
+keyFor m t = cond (isLoose m (readPath t)) (refused loose) (keyOf t)
+
 -- a call works on the rendering of its text: 1, 2, 3 are the reader's, and 10 is judged on the rendering
 unfoldable pub keyed : Wanted → (Key → Meaning) → Meaning
 keyed (refused n) f = refuses n
@@ -60,11 +84,7 @@ under to-remove k = removes k
 under (to-look room) k = cond (leb 64 room) (looks k) (refuses noRoom)
 
 unfoldable pub meaning : Call → Meaning
-meaning c = keyed (keyOf (c .text)) (under (c .asked))
-
--- a key that reads, and is its own rendering
-abbrev pub Exact : Key → Type 0
-Exact k = keyOf k ≡ text k
+meaning c = keyed (keyFor (c .manner) (c .text)) (under (c .asked))
 
 -- what a key's field of 255 bytes answers: the refusals of its text, then 10
 unfoldable pub keyAnswer : Wanted → Written

@@ -6,5 +6,6 @@ pub mod Act
 pub mod ActLaws
 pub mod Calls
 pub mod Refusals
+pub mod MannerLaws
 pub mod CallLaws
 pub mod TextLaws

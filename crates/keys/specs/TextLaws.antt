@@ -1,4 +1,4 @@
--- Laws of the calls: which keys are exact, and what stands in for the refusals of a text.
+-- Laws of the calls: what stands in for the refusals of a text, and what a call with a key means.
 -- Assumes nothing.
 use mathlib.Core.Path.{_≡_, refl, sym, ap, _∙_}
 use mathlib.Core.Bool.{Bool, true, false, cond}
@@ -10,47 +10,20 @@ use lib.ListN.{length, take, drop}
 use lib.Seq.{take-at}
 use Rattle.text.specs.PutLaws.{left-fits, length-left, put-zero}
 use borrow.Author.Tests.{leb-true}
-use Rattle.text.specs.Part.{same}
-use Rattle.text.specs.PartLaws.{same-refl}
 use Rattle.text.specs.Put.{Wanted, text}
 use Rattle.text.specs.Put as put
-use Rattle.path.specs.declared.Path.{Path}
 use Rattle.path.specs.declared.Refusal.{Refusal}
 use Rattle.path.specs.declared.Refusal.the-variants.{TooLong, NotAscii, NotAPath, NoDigits, NotADigit, TooLarge}
 use Rattle.path.specs.declared.Reading.{Reading}
 use Rattle.path.specs.declared.Reading.the-variants.{Read, Refused}
-use Rattle.path.specs.BackLaws.{read-exact, exact-renders}
-use Rattle.path.specs.Read.{keyOf, keyBy, readPath, renderPath, refusalOf}
+use Rattle.path.specs.Read.{keyOf, readPath, refusalOf}
+use Rattle.keys.specs.declared.Manner.{Manner}
 use Rattle.keys.specs.Act.{Meaning, refuses, writes, removes, looks}
 use Rattle.text.specs.declared.Written.{Written}
 use Rattle.keys.specs.Refusals.{HasKey, bad-length, no-room}
 use Rattle.keys.specs.CallLaws.{declined-means, writing-means, removing-means, looking-means}
-use Rattle.keys.specs.Calls.{Asked, to-write, to-remove, to-look, write, remove, look, under, meaning, Exact, ValueFits, keyed, keyAnswer}
-
--- ---- exact keys, by the mark of a reading
-key-read : (t : List ℕ) (p : Path) (e : Bool) → readPath t ≡ Read p e → keyOf t ≡ text (renderPath t p)
-unfolding keyOf
-key-read t p e h = ap (keyBy t) h
-
-key-refused : (t : List ℕ) (r : Refusal) → readPath t ≡ Refused r → keyOf t ≡ put.refused (refusalOf r)
-unfolding keyOf
-key-refused t r h = ap (keyBy t) h
-
-pub exact-yes : (t : List ℕ) (p : Path) → readPath t ≡ Read p true → Exact t
-exact-yes t p h = key-read t p true h ∙ ap text (exact-renders t p h)
-
-pub exact-no : (t : List ℕ) (p : Path) → readPath t ≡ Read p false → Exact t → ⊥
-exact-no t p h x =
-    let e : renderPath t p ≡ t = let q = key-read t p false h in cc in
-    let m : false ≡ same t t = read-exact t p false h ∙ ap (same t) e in
-    let z : _≡_ {A = ℕ} 0 1 = cc (same-refl t) in
-    omega arith
-
-pub exact-refused : (t : List ℕ) (r : Refusal) → readPath t ≡ Refused r → Exact t → ⊥
-exact-refused t r h x =
-    let q = key-refused t r h in
-    let z : _≡_ {A = ℕ} 0 1 = cc in
-    omega arith
+use Rattle.keys.specs.Calls.{Asked, to-write, to-remove, to-look, write, remove, look, under, meaning, Spelled, keyFor, ValueFits, keyed, keyAnswer}
+use Rattle.keys.specs.MannerLaws.{key-read, key-refused, KeyFor, unread, other, own as spelled, key-for}
 
 -- ---- a refusal of a text is no success, and not the 4 of a short buffer
 pub record Own (n : ℕ) : Type 0 where
@@ -72,22 +45,30 @@ key-own t n h = go (readPath t) refl
     go (Read p e) q = let w = key-read t p e q in let z : _≡_ {A = ℕ} 0 1 = cc in absurd (let y : ⊥ = omega arith in y)
     go (Refused r) q = let w = key-refused t r q in let e : refusalOf r ≡ n = cc in rw e at (own r)
 
--- ---- a key's field, by the writer of keys: its 4 is 10
-pub answer-long : (t : List ℕ) → put.answer (keyOf t) 255 .refusal ≡ 4 → keyAnswer (keyOf t) ≡ put.refusal 10
-unfolding put.answer keyAnswer
-answer-long t h = go (keyOf t) refl h
+for-own : (m : Manner) (t : List ℕ) (n : ℕ) → keyFor m t ≡ put.refused n → Own n
+for-own m t n h = go (key-for m t) h
   where
-    go : (w : Wanted) → keyOf t ≡ w → put.answer w 255 .refusal ≡ 4 → keyAnswer w ≡ put.refusal 10
-    go (put.refused n) e q = absurd (key-own t n e .no-four q)
+    go : {w : Wanted} → KeyFor m t w → w ≡ put.refused n → Own n
+    go (unread {n = j} e) q = let z : j ≡ n = cc in rw z at (key-own t j e)
+    go (other e s) q = let z : 20 ≡ n = cc in record { refused = λ y. omega arith; no-four = λ y. omega arith }
+    go (spelled e s) q = let z : _≡_ {A = ℕ} 0 1 = cc in absurd (let y : ⊥ = omega arith in y)
+
+-- ---- a key's field, by the writer of keys: its 4 is 10
+pub answer-long : (m : Manner) (t : List ℕ) → put.answer (keyFor m t) 255 .refusal ≡ 4 → keyAnswer (keyFor m t) ≡ put.refusal 10
+unfolding put.answer keyAnswer
+answer-long m t h = go (keyFor m t) refl h
+  where
+    go : (w : Wanted) → keyFor m t ≡ w → put.answer w 255 .refusal ≡ 4 → keyAnswer w ≡ put.refusal 10
+    go (put.refused n) e q = absurd (for-own m t n e .no-four q)
     go (text k) e q = fits (leb (length k) 255) q
       where
         fits : (v : Bool) → (cond v (put.done (length k)) (put.refusal 4)) .refusal ≡ 4 → cond v (put.done (length k)) (put.refusal 10) ≡ put.refusal 10
         fits true z = absurd (let y : ⊥ = omega arith in y)
         fits false z = refl
 
-pub answer-other : (t : List ℕ) → (put.answer (keyOf t) 255 .refusal ≡ 4 → ⊥) → keyAnswer (keyOf t) ≡ put.answer (keyOf t) 255
+pub answer-other : (w : Wanted) → (put.answer w 255 .refusal ≡ 4 → ⊥) → keyAnswer w ≡ put.answer w 255
 unfolding put.answer keyAnswer
-answer-other t h = go (keyOf t) h
+answer-other w h = go w h
   where
     go : (w : Wanted) → (put.answer w 255 .refusal ≡ 4 → ⊥) → keyAnswer w ≡ put.answer w 255
     go (put.refused n) q = refl
@@ -108,29 +89,35 @@ keyed-by (text k) f h = fits (leb (length k) 255) h
     fits false z = refl
 
 -- and else the key is in the field
-pub record Keyed (t field : List ℕ) (n : ℕ) : Type 0 where
+pub record Keyed (m : Manner) (t field : List ℕ) (n : ℕ) : Type 0 where
   pub key : List ℕ
   pub reads : keyOf t ≡ text key
+  pub form : Spelled m t
   pub short : length key ≤ 255
   pub size : n ≡ length key
   pub room : n ≤ length field
   pub here : take n field ≡ key
 
-pub key-here : (t field blank : List ℕ) (n : ℕ) → length blank ≡ 255 → keyAnswer (keyOf t) .refusal ≡ 0 → n ≡ keyAnswer (keyOf t) .length → field ≡ put.left (keyOf t) blank → Keyed t field n
+pub key-here : (m : Manner) (t field blank : List ℕ) (n : ℕ) → length blank ≡ 255 → keyAnswer (keyFor m t) .refusal ≡ 0 → n ≡ keyAnswer (keyFor m t) .length → field ≡ put.left (keyOf t) blank → Keyed m t field n
 unfolding keyAnswer
-key-here t field blank n lb h en ef = go (keyOf t) refl h en ef
+key-here m t field blank n lb h en ef = go (key-for m t) refl h en
   where
-    go : (w : Wanted) → keyOf t ≡ w → keyAnswer w .refusal ≡ 0 → n ≡ keyAnswer w .length → field ≡ put.left w blank → Keyed t field n
-    go (put.refused m) e z l f = absurd (key-own t m e .refused z)
-    go (text k) e z l f = fits (leb (length k) 255) refl z l
+    go : {w : Wanted} → KeyFor m t w → keyFor m t ≡ w → keyAnswer w .refusal ≡ 0 → n ≡ keyAnswer w .length → Keyed m t field n
+    go (unread {n = j} e) q z l = absurd (for-own m t j q .refused z)
+    go (other e s) q z l = absurd (let y : ⊥ = omega arith in y)
+    go (spelled {k = k} e s) q z l = fits (leb (length k) 255) refl z l
       where
-        fits : (v : Bool) → leb (length k) 255 ≡ v → (cond v (put.done (length k)) (put.refusal 10)) .refusal ≡ 0 → n ≡ (cond v (put.done (length k)) (put.refusal 10)) .length → Keyed t field n
+        f : field ≡ put.left (text k) blank
+        f = ef ∙ ap (λ (w : Wanted). put.left w blank) e
+
+        fits : (v : Bool) → leb (length k) 255 ≡ v → (cond v (put.done (length k)) (put.refusal 10)) .refusal ≡ 0 → n ≡ (cond v (put.done (length k)) (put.refusal 10)) .length → Keyed m t field n
         fits true g z l =
-            let s : length k ≤ 255 = leb-true (length k) 255 g in
+            let o : length k ≤ 255 = leb-true (length k) 255 g in
             record {
               key = k;
               reads = e;
-              short = s;
+              form = s;
+              short = o;
               size = l;
               room = omega (arith, ap length f, length-left (text k) blank);
               here = ap (take n) (f ∙ left-fits k blank (omega arith) ∙ put-zero blank k) ∙ take-at k (drop (length k) blank) n (sym l);
@@ -138,30 +125,30 @@ key-here t field blank n lb h en ef = go (keyOf t) refl h en ef
         fits false g z l = absurd (let y : ⊥ = omega arith in y)
 
 -- what a call with a key means
-module _ (t field : List ℕ) (n : ℕ) (k : Keyed t field n) where
-  has : (q : Asked) → HasKey (record { text = t; asked = q }) (k .key)
-  has q = record { path = k .reads; fits = k .short }
+module _ (m : Manner) (t field : List ℕ) (n : ℕ) (k : Keyed m t field n) where
+  has : (q : Asked) → HasKey (record { manner = m; text = t; asked = q }) (k .key)
+  has q = record { path = k .reads; form = k .form; fits = k .short }
 
-  pub look-means : (room : ℕ) → 64 ≤ room → meaning (look t room) ≡ looks (k .key)
-  look-means room h = looking-means (look t room) (k .key) room (record { asked = refl; key = has (to-look room); wide = h })
+  pub look-means : (room : ℕ) → 64 ≤ room → meaning (look m t room) ≡ looks (k .key)
+  look-means room h = looking-means (look m t room) (k .key) room (record { asked = refl; key = has (to-look room); wide = h })
 
-  pub look-short : (room : ℕ) → room < 64 → meaning (look t room) ≡ refuses 4
-  look-short room h = declined-means (look t room) (no-room refl (has (to-look room)) h)
+  pub look-short : (room : ℕ) → room < 64 → meaning (look m t room) ≡ refuses 4
+  look-short room h = declined-means (look m t room) (no-room refl (has (to-look room)) h)
 
-  pub write-means : (v : List ℕ) → ValueFits v → meaning (write t v) ≡ writes (k .key) v
-  write-means v h = writing-means (write t v) (k .key) v (record { asked = refl; key = has (to-write v); size = h })
+  pub write-means : (v : List ℕ) → ValueFits v → meaning (write m t v) ≡ writes (k .key) v
+  write-means v h = writing-means (write m t v) (k .key) v (record { asked = refl; key = has (to-write v); size = h })
 
-  pub write-bad : (v : List ℕ) → (ValueFits v → ⊥) → meaning (write t v) ≡ refuses 6
-  write-bad v h = declined-means (write t v) (bad-length refl (has (to-write v)) h)
+  pub write-bad : (v : List ℕ) → (ValueFits v → ⊥) → meaning (write m t v) ≡ refuses 6
+  write-bad v h = declined-means (write m t v) (bad-length refl (has (to-write v)) h)
 
-  pub remove-means : meaning (remove t) ≡ removes (k .key)
-  remove-means = removing-means (remove t) (k .key) (record { asked = refl; key = has to-remove })
+  pub remove-means : meaning (remove m t) ≡ removes (k .key)
+  remove-means = removing-means (remove m t) (k .key) (record { asked = refl; key = has to-remove })
 
 -- the same, from what the writer of the field answers
-module _ (t : List ℕ) (w : Written) (e : w ≡ keyAnswer (keyOf t)) where
-  pub refused-by : (q : Asked) → (w .refusal ≡ 0 → ⊥) → meaning (record { text = t; asked = q }) ≡ refuses (w .refusal)
+module _ (m : Manner) (t : List ℕ) (w : Written) (e : w ≡ keyAnswer (keyFor m t)) where
+  pub refused-by : (q : Asked) → (w .refusal ≡ 0 → ⊥) → meaning (record { manner = m; text = t; asked = q }) ≡ refuses (w .refusal)
   unfolding meaning
-  refused-by q h = rw e (keyed-by (keyOf t) (under q) (λ z. h (ap (λ (v : Written). v .refusal) e ∙ z)))
+  refused-by q h = rw e (keyed-by (keyFor m t) (under q) (λ z. h (ap (λ (v : Written). v .refusal) e ∙ z)))
 
-  pub key-of : (field blank : List ℕ) → length blank ≡ 255 → w .refusal ≡ 0 → field ≡ put.left (keyOf t) blank → Keyed t field (w .length)
-  key-of field blank lb h f = key-here t field blank (w .length) lb (sym (ap (λ (v : Written). v .refusal) e) ∙ h) (ap (λ (v : Written). v .length) e) f
+  pub key-of : (field blank : List ℕ) → length blank ≡ 255 → w .refusal ≡ 0 → field ≡ put.left (keyOf t) blank → Keyed m t field (w .length)
+  key-of field blank lb h f = key-here m t field blank (w .length) lb (sym (ap (λ (v : Written). v .refusal) e) ∙ h) (ap (λ (v : Written). v .length) e) f

@@ -1,1 +1,7 @@
 // Definitions only: records in the order of their keys, and what a call asks of a book.
+
+// How a call takes its text: a plain call only where it is its own key, a lenient one in every spelling.
+pub enum Manner {
+    Plain,
+    Lenient,
+}

@@ -74,3 +74,7 @@ notADigit = 18
 -- a number above 18446744073709551615
 abbrev pub tooLarge : ℕ
 tooLarge = 19
+
+-- a text that is not its own key, in a plain call
+abbrev pub loose : ℕ
+loose = 20

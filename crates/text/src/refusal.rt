@@ -36,3 +36,5 @@ pub const NO_DIGITS: u8 = 17;
 pub const NOT_A_DIGIT: u8 = 18;
 
 pub const TOO_LARGE: u8 = 19;
+
+pub const LOOSE: u8 = 20;

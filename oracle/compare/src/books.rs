@@ -1,7 +1,8 @@
 //! The record book: lists of calls by chance, lists rearranged, and the lengths that tell.
 use std::collections::BTreeMap;
 
-use model::book::{Answer, Book, Buffer, Call, MOST, VALUE};
+use model::book::{Answer, Book, Buffer, Call, Manner, MOST, VALUE};
+use model::path::KINDS;
 use model::pool::Pools;
 use model::random::Random;
 use model::spelling::{self, Spelt};
@@ -15,10 +16,14 @@ pub const SETS: Sets = &[
     ("books, calls by chance", chance),
     ("books, lists rearranged", rearranged),
     ("books, lengths of keys, values and rooms", edges),
+    ("books, loose texts of every kind", loose),
 ];
 
 /// Lengths of values that tell.
 pub const SIZES: [usize; 6] = [1, 31, 32, 33, 63, VALUE];
+
+/// A loose spelling of a state.
+pub const PADDED: &[u8] = b"clients/07-tendermint-4/consensusStates/007-2";
 
 /// A buffer lent to the library and to the model.
 pub struct Lent(Buffer);
@@ -40,14 +45,31 @@ impl Lent {
         let asked = |function, texts| call::Call::new(function, texts, [0, 0]);
         let (call, room) = match call {
             Call::New => (asked(Function::BookNew, [b"", b""]), 0),
-            Call::Write(text, value) => (asked(Function::BookWrite, [text, value]), 0),
-            Call::Remove(text) => (asked(Function::BookRemove, [text, b""]), 0),
-            Call::Lookup(text, room) => (asked(Function::BookLookup, [text, b""]), *room),
+            Call::Write(manner, text, value) => {
+                let function = by(*manner, Function::BookWrite, Function::BookWriteLenient);
+                (asked(function, [text, value]), 0)
+            }
+            Call::Remove(manner, text) => {
+                let function = by(*manner, Function::BookRemove, Function::BookRemoveLenient);
+                (asked(function, [text, b""]), 0)
+            }
+            Call::Lookup(manner, text, room) => {
+                let function = by(*manner, Function::BookLookup, Function::BookLookupLenient);
+                (asked(function, [text, b""]), *room)
+            }
             Call::Oldest(client) => (asked(Function::BookOldest, [client, b""]), 0),
             Call::Convert(old) => (asked(Function::BookConvert, [old, b""]), 0),
         };
         set.on_book(call, room, &answer, &self.0.bytes());
         answer
+    }
+}
+
+/// The function of a call in its manner.
+fn by(manner: Manner, plain: Function, lenient: Function) -> Function {
+    match manner {
+        Manner::Plain => plain,
+        Manner::Lenient => lenient,
     }
 }
 
@@ -73,9 +95,13 @@ impl<'a> Chance<'a> {
         let mut book = Book::empty(slots);
         for path in &self.paths[..used.min(self.paths.len())] {
             let value = vec![self.random.word() as u8; self.random.of(&SIZES)];
-            book.write(&path.exact(), &value).expect("it has room");
+            book.write(Manner::Plain, &path.exact(), &value).expect("it has room");
         }
         book
+    }
+
+    fn manner(&mut self) -> Manner {
+        self.random.of(&Manner::BOTH)
     }
 
     fn text(&mut self) -> Vec<u8> {
@@ -93,14 +119,14 @@ impl<'a> Chance<'a> {
             _ => 1 + self.random.below(VALUE),
         };
         let value = (0..length).map(|_| self.random.word() as u8).collect();
-        Call::Write(self.text(), value)
+        Call::Write(self.manner(), self.text(), value)
     }
 
     fn remove_or_lookup(&mut self) -> Call {
         match self.random.below(16) {
-            0..=7 => Call::Remove(self.text()),
-            8 => Call::Lookup(self.text(), self.random.of(&[0, 32, 63, 65])),
-            _ => Call::Lookup(self.text(), VALUE),
+            0..=7 => Call::Remove(self.manner(), self.text()),
+            8 => Call::Lookup(self.manner(), self.text(), self.random.of(&[0, 32, 63, 65])),
+            _ => Call::Lookup(self.manner(), self.text(), VALUE),
         }
     }
 
@@ -208,25 +234,53 @@ fn edges(set: &mut Set, _: Size) {
     for path in &paths {
         let texts = [path.exact(), path.spelling(&mut random), path.spelling(&mut random)];
         let mut with = Book::empty(2);
-        let _ = with.write(&path.exact(), &[1; 33]);
+        let _ = with.write(Manner::Plain, &path.exact(), &[1; 33]);
         let mut full = Book::empty(1);
-        full.write(b"ports/transfer", &[2; VALUE]).expect("it has room");
+        full.write(Manner::Plain, b"ports/transfer", &[2; VALUE]).expect("it has room");
         for book in [with, Book::empty(2), full] {
             for text in &texts {
-                each_length(set, &book.bytes(), text);
+                for manner in Manner::BOTH {
+                    each_length(set, &book.bytes(), manner, text);
+                }
             }
         }
     }
 }
 
-fn each_length(set: &mut Set, book: &[u8], text: &[u8]) {
+fn each_length(set: &mut Set, book: &[u8], manner: Manner, text: &[u8]) {
     let mut lent = Lent::new(set, book);
     for room in 0..=70 {
-        lent.check(set, &Call::Lookup(text.to_vec(), room));
+        lent.check(set, &Call::Lookup(manner, text.to_vec(), room));
     }
     for length in (0..=70).chain([32, 255, 256, 257, 288, 320, 321, 4096]) {
-        lent.check(set, &Call::Write(text.to_vec(), vec![length as u8; length]));
+        lent.check(set, &Call::Write(manner, text.to_vec(), vec![length as u8; length]));
     }
-    lent.check(set, &Call::Remove(text.to_vec()));
-    lent.check(set, &Call::Remove(text.to_vec()));
+    lent.check(set, &Call::Remove(manner, text.to_vec()));
+    lent.check(set, &Call::Remove(manner, text.to_vec()));
+}
+
+/// Of every kind a path with an exact text, a loose one where it has a number, and others by chance: each call in
+/// both manners, in a book that has the path and in one that lacks it.
+fn loose(set: &mut Set, size: Size) {
+    let mut random = Random(16);
+    for kind in 1..=KINDS.len() as u8 {
+        for _ in 0..size.pick(20, 2_000) {
+            let path = Spelt::of(kind, &mut random);
+            let mut with = Book::empty(2);
+            let _ = with.write(Manner::Plain, &path.exact(), &[1; 33]);
+            for text in [path.exact(), path.loose(), path.spelling(&mut random)] {
+                for manner in Manner::BOTH {
+                    each_call(set, &with.bytes(), manner, &text);
+                    each_call(set, &Book::empty(2).bytes(), manner, &text);
+                }
+            }
+        }
+    }
+}
+
+fn each_call(set: &mut Set, book: &[u8], manner: Manner, text: &[u8]) {
+    let mut lent = Lent::new(set, book);
+    lent.check(set, &Call::Lookup(manner, text.to_vec(), VALUE));
+    lent.check(set, &Call::Write(manner, text.to_vec(), vec![2; VALUE]));
+    lent.check(set, &Call::Remove(manner, text.to_vec()));
 }

@@ -1,10 +1,10 @@
 //! Books of version 1 turned into version 2: empty, full and damaged ones, into buffers of the right size and of
 //! others, filled by chance.
-use model::book::{Book, Call, Version, HEAD, MOST};
+use model::book::{Book, Call, Manner, Version, HEAD, MOST};
 use model::random::Random;
 use model::spelling::Spelt;
 
-use crate::books::{slots, Lent};
+use crate::books::{slots, Lent, PADDED};
 use crate::set::Set;
 use crate::{Sets, Size};
 
@@ -19,7 +19,7 @@ fn old(random: &mut Random, used: usize, slots: usize) -> Vec<u8> {
     let mut book = Book::empty(slots);
     while slots - book.free() < used {
         let value: Vec<u8> = (0..32).map(|_| random.word() as u8).collect();
-        book.write(&Spelt::chance(random).exact(), &value).expect("it has room");
+        book.write(Manner::Plain, &Spelt::chance(random).exact(), &value).expect("it has room");
     }
     book.bytes_of(Version::One)
 }
@@ -33,7 +33,10 @@ fn convert(set: &mut Set, old: &[u8], new: &[u8]) {
     let mut lent = Lent::new(set, new);
     lent.check(set, &Call::Convert(old.to_vec()));
     lent.check(set, &Call::Oldest(b"07-tendermint-4".to_vec()));
-    lent.check(set, &Call::Write(b"ports/transfer".to_vec(), vec![3; 64]));
+    for manner in Manner::BOTH {
+        lent.check(set, &Call::Lookup(manner, PADDED.to_vec(), 64));
+        lent.check(set, &Call::Write(manner, b"ports/transfer".to_vec(), vec![3; 64]));
+    }
 }
 
 /// Empty, full and other books, each into buffers of its size, of one byte less and more, and of another

@@ -45,6 +45,9 @@ pub enum Function {
     BookWrite,
     BookRemove,
     BookLookup,
+    BookWriteLenient,
+    BookRemoveLenient,
+    BookLookupLenient,
     BookOldest,
     BookConvert,
     // Above, made by bin/interface.
@@ -94,6 +97,9 @@ impl Function {
             "hp_book_write" => Self::BookWrite,
             "hp_book_remove" => Self::BookRemove,
             "hp_book_lookup" => Self::BookLookup,
+            "hp_book_write_lenient" => Self::BookWriteLenient,
+            "hp_book_remove_lenient" => Self::BookRemoveLenient,
+            "hp_book_lookup_lenient" => Self::BookLookupLenient,
             "hp_book_oldest" => Self::BookOldest,
             "hp_book_convert" => Self::BookConvert,
             // Above, made by bin/interface.
@@ -142,6 +148,9 @@ impl Function {
             Self::BookWrite => [false, true, false],
             Self::BookRemove => [false, true, false],
             Self::BookLookup => [false, true, true],
+            Self::BookWriteLenient => [false, true, false],
+            Self::BookRemoveLenient => [false, true, false],
+            Self::BookLookupLenient => [false, true, true],
             Self::BookOldest => [false, true, false],
             Self::BookConvert => [false, true, false],
             // Above, made by bin/interface.
@@ -192,6 +201,9 @@ pub fn make(call: &Call, book: &mut [u8], out: &mut [u8]) -> Returned {
         Function::BookWrite => raw::book_write(book, texts[0], texts[1]).into(),
         Function::BookRemove => raw::book_remove(book, texts[0]).into(),
         Function::BookLookup => raw::book_lookup(book, texts[0], out).into(),
+        Function::BookWriteLenient => raw::book_write_lenient(book, texts[0], texts[1]).into(),
+        Function::BookRemoveLenient => raw::book_remove_lenient(book, texts[0]).into(),
+        Function::BookLookupLenient => raw::book_lookup_lenient(book, texts[0], out).into(),
         Function::BookOldest => raw::book_oldest(book, texts[0]).into(),
         Function::BookConvert => raw::book_convert(texts[0], book).into(),
         // Above, made by bin/interface.

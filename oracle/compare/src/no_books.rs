@@ -1,11 +1,12 @@
 //! Buffers that are no books, and some that just are: of every length near a book's, with bytes changed,
 //! with slots out of order, with slots by chance.
+use model::book::Manner::{Lenient, Plain};
 use model::book::{Book, Call, HEAD, KEY, MOST, SLOT, VALUE};
 use model::pool::Pools;
 use model::random::Random;
 use model::spelling::Spelt;
 
-use crate::books::{slots, Chance, Lent, SIZES};
+use crate::books::{slots, Chance, Lent, PADDED, SIZES};
 use crate::set::Set;
 use crate::{Sets, Size};
 
@@ -22,13 +23,17 @@ const STATE: &[u8] = b"clients/07-tendermint-4/consensusStates/7-2";
 fn probe(set: &mut Set, bytes: &[u8]) {
     let mut lent = Lent::new(set, bytes);
     let calls = [
-        Call::Lookup(STATE.to_vec(), VALUE),
+        Call::Lookup(Plain, STATE.to_vec(), VALUE),
+        Call::Lookup(Lenient, PADDED.to_vec(), VALUE),
+        Call::Lookup(Plain, PADDED.to_vec(), VALUE),
         Call::Oldest(b"07-tendermint-4".to_vec()),
-        Call::Write(STATE.to_vec(), vec![3; VALUE]),
-        Call::Remove(STATE.to_vec()),
-        Call::Write(b"ports/transfer".to_vec(), vec![4; VALUE]),
+        Call::Write(Plain, PADDED.to_vec(), vec![2; VALUE]),
+        Call::Write(Lenient, PADDED.to_vec(), vec![3; VALUE]),
+        Call::Remove(Plain, PADDED.to_vec()),
+        Call::Remove(Lenient, PADDED.to_vec()),
+        Call::Write(Plain, b"ports/transfer".to_vec(), vec![4; VALUE]),
         Call::New,
-        Call::Write(b"ports/transfer".to_vec(), vec![5; VALUE]),
+        Call::Write(Plain, b"ports/transfer".to_vec(), vec![5; VALUE]),
     ];
     for call in calls {
         lent.check(set, &call);
@@ -55,7 +60,7 @@ fn lengths(set: &mut Set, _: Size) {
 /// The state that `probe` asks for, in a book of so many slots.
 fn one_record(slots: usize) -> Vec<u8> {
     let mut book = Book::empty(slots);
-    book.write(STATE, &[1; 32]).expect("it has room");
+    book.write(Plain, STATE, &[1; 32]).expect("it has room");
     book.bytes()
 }
 
@@ -65,7 +70,7 @@ fn full(slots: usize, random: &mut Random) -> Vec<u8> {
     let mut path = Spelt::longest();
     while book.free() > 0 {
         let value = vec![9; random.of(&SIZES)];
-        book.write(&path.exact(), &value).expect("it has room");
+        book.write(Plain, &path.exact(), &value).expect("it has room");
         path = Spelt::chance(random);
     }
     book.bytes()

@@ -1,9 +1,9 @@
-//! The section 'The book' of document 01, with request L4: a map from renderings to values, and its bytes.
+//! The section 'The book' of document 01, with requests L4 and L6: a map from renderings to values, and its bytes.
 use std::collections::BTreeMap;
 
 use crate::identifier::Identifier;
 use crate::path::{self, read_with_key};
-use crate::{hold, Refusal, ABSENT, BAD_BOOK, BAD_LENGTH, FULL, KEY_TOO_LONG, NO_ROOM};
+use crate::{hold, Refusal, ABSENT, BAD_BOOK, BAD_LENGTH, FULL, KEY_TOO_LONG, LOOSE, NO_ROOM};
 
 pub const HEAD: usize = 8;
 pub const KEY: usize = 255;
@@ -66,9 +66,21 @@ pub const SLOT: usize = Version::Two.slot();
 /// The kind of a consensus state.
 pub const STATE: u8 = 5;
 
-/// The key of a text: its rendering. 1, 2, 3 (or 17, 18, 19, without the place), 10.
-pub fn key(text: &[u8]) -> Result<Vec<u8>, Refusal> {
+/// How a call takes its text: a plain one only where it is its own key, a lenient one in every spelling.
+#[derive(Clone, Copy, Debug, PartialEq, Eq)]
+pub enum Manner {
+    Plain,
+    Lenient,
+}
+
+impl Manner {
+    pub const BOTH: [Self; 2] = [Self::Plain, Self::Lenient];
+}
+
+/// The key of a text: its rendering. 1, 2, 3 (or 17, 18, 19, without the place), in a plain call 20, 10.
+pub fn key(manner: Manner, text: &[u8]) -> Result<Vec<u8>, Refusal> {
     let (_, key) = read_with_key(text)?;
+    hold(manner == Manner::Lenient || key == text, LOOSE)?;
     hold(key.len() <= KEY, KEY_TOO_LONG)?;
     Ok(key)
 }
@@ -90,23 +102,23 @@ impl Book {
         self.slots - self.records.len()
     }
 
-    /// 1, 2, 3, 10, 6, 11.
-    pub fn write(&mut self, text: &[u8], value: &[u8]) -> Result<(), Refusal> {
-        let key = key(text)?;
+    /// 1, 2, 3, in a plain call 20, 10, 6, 11.
+    pub fn write(&mut self, manner: Manner, text: &[u8], value: &[u8]) -> Result<(), Refusal> {
+        let key = key(manner, text)?;
         hold((1..=VALUE).contains(&value.len()), BAD_LENGTH)?;
         hold(self.free() > 0 || self.records.contains_key(&key), FULL)?;
         self.records.insert(key, value.to_vec());
         Ok(())
     }
 
-    /// 1, 2, 3, 10, 12.
-    pub fn remove(&mut self, text: &[u8]) -> Result<(), Refusal> {
-        self.records.remove(&key(text)?).map(|_| ()).ok_or(ABSENT)
+    /// 1, 2, 3, in a plain call 20, 10, 12.
+    pub fn remove(&mut self, manner: Manner, text: &[u8]) -> Result<(), Refusal> {
+        self.records.remove(&key(manner, text)?).map(|_| ()).ok_or(ABSENT)
     }
 
-    /// 1, 2, 3, 10, 4, 12.
-    pub fn lookup(&self, text: &[u8], room: usize) -> Result<Value, Refusal> {
-        let key = key(text)?;
+    /// 1, 2, 3, in a plain call 20, 10, 4, 12.
+    pub fn lookup(&self, manner: Manner, text: &[u8], room: usize) -> Result<Value, Refusal> {
+        let key = key(manner, text)?;
         hold(room >= VALUE, NO_ROOM)?;
         self.records.get(&key).cloned().ok_or(ABSENT)
     }
@@ -195,10 +207,10 @@ fn slot_key(slot: &[u8]) -> Option<&[u8]> {
 #[derive(Clone, Debug, PartialEq, Eq)]
 pub enum Call {
     New,
-    Write(Vec<u8>, Vec<u8>),
-    Remove(Vec<u8>),
+    Write(Manner, Vec<u8>, Vec<u8>),
+    Remove(Manner, Vec<u8>),
     /// A text, and the room for what it holds.
-    Lookup(Vec<u8>, usize),
+    Lookup(Manner, Vec<u8>, usize),
     Oldest(Vec<u8>),
     /// A book of version 1, to be turned into one of version 2 in the buffer that is lent.
     Convert(Vec<u8>),
@@ -208,7 +220,7 @@ impl Call {
     /// The path that a call is on: the rendering of its text, of any length.
     pub fn path(&self) -> Option<Vec<u8>> {
         match self {
-            Self::Write(text, _) | Self::Remove(text) | Self::Lookup(text, _) => {
+            Self::Write(_, text, _) | Self::Remove(_, text) | Self::Lookup(_, text, _) => {
                 read_with_key(text).ok().map(|(_, key)| key)
             }
             Self::New | Self::Oldest(_) | Self::Convert(_) => None,
@@ -252,10 +264,12 @@ impl Buffer {
             (Call::New, _) => self.renew().map(done),
             (Call::Convert(old), _) => self.convert(old).map(done),
             (_, Self::Other(_)) => Err(BAD_BOOK),
-            (Call::Write(text, value), Self::Book(book)) => book.write(text, value).map(done),
-            (Call::Remove(text), Self::Book(book)) => book.remove(text).map(done),
-            (Call::Lookup(text, room), Self::Book(book)) => {
-                book.lookup(text, *room).map(Given::Value)
+            (Call::Write(manner, text, value), Self::Book(book)) => {
+                book.write(*manner, text, value).map(done)
+            }
+            (Call::Remove(manner, text), Self::Book(book)) => book.remove(*manner, text).map(done),
+            (Call::Lookup(manner, text, room), Self::Book(book)) => {
+                book.lookup(*manner, text, *room).map(Given::Value)
             }
             (Call::Oldest(client), Self::Book(book)) => book.oldest(client).map(Given::Heights),
         }

@@ -33,6 +33,7 @@ pub const BAD_BLOCK: Refusal = 16;
 pub const NO_DIGITS: Refusal = 17;
 pub const NOT_A_DIGIT: Refusal = 18;
 pub const TOO_LARGE: Refusal = 19;
+pub const LOOSE: Refusal = 20;
 
 /// What may be wrong with a number. The refusals that have a place.
 pub const NUMBER_FAULTS: RangeInclusive<Refusal> = NO_DIGITS..=TOO_LARGE;

@@ -18,10 +18,11 @@ impl Spelt {
     /// A path of any kind, mostly of few parts, so that a list of calls meets its paths again.
     pub fn chance(random: &mut Random) -> Self {
         let kind = if random.one_in(4) { STATE } else { 1 + random.below(KINDS.len()) as u8 };
-        Self { numbers: [number(random), number(random)], ..Self::of(kind, random) }
+        Self::of(kind, random)
     }
 
-    fn of(kind: u8, random: &mut Random) -> Self {
+    /// A path of that kind.
+    pub fn of(kind: u8, random: &mut Random) -> Self {
         let (mut first, mut second) = (String::new(), String::new());
         for part in KINDS[usize::from(kind) - 1] {
             match part {
@@ -31,7 +32,7 @@ impl Spelt {
                 Part::Word(_) | Part::Number | Part::Heights => {}
             }
         }
-        Self { kind, first, second, numbers: [0, 0] }
+        Self { kind, first, second, numbers: [number(random), number(random)] }
     }
 
     /// A path whose rendering has this length, from 200 to 300 bytes: an upgrade path.
@@ -55,6 +56,11 @@ impl Spelt {
 
     pub fn exact(&self) -> Vec<u8> {
         self.with(|number| number.to_string())
+    }
+
+    /// With a zero before each number: loose, where the kind has one.
+    pub fn loose(&self) -> Vec<u8> {
+        self.with(|number| format!("0{number}"))
     }
 
     /// Exact half the time, else with `+` or zeros before the numbers.

@@ -1,5 +1,6 @@
 //! Document 01's sentences on the book, asked of the model.
-use model::book::{is_book, key, Book, Buffer, Call, Given, Version, HEAD, SLOT, VALUE};
+use model::book::Manner::{Lenient, Plain};
+use model::book::{is_book, key, Book, Buffer, Call, Given, Manner, Version, HEAD, SLOT, VALUE};
 use model::pool::Pools;
 use model::random::Random;
 use model::spelling::{odd, Spelt};
@@ -14,19 +15,33 @@ const TWO: [u8; VALUE] = [2; VALUE];
 #[test]
 fn spellings_are_one_path() {
     let mut book = Book::empty(1);
-    assert_eq!(book.write(LOOSE, &ONE), Ok(()));
-    assert_eq!(book.lookup(EXACT, VALUE), Ok(ONE.to_vec()));
-    assert_eq!(book.write(EXACT, &TWO), Ok(()));
-    assert_eq!(book.lookup(LOOSE, VALUE), Ok(TWO.to_vec()));
-    assert_eq!(book.remove(LOOSE), Ok(()));
-    assert_eq!(book.lookup(EXACT, VALUE), Err(ABSENT));
+    assert_eq!(book.write(Lenient, LOOSE, &ONE), Ok(()));
+    assert_eq!(book.lookup(Plain, EXACT, VALUE), Ok(ONE.to_vec()));
+    assert_eq!(book.write(Plain, EXACT, &TWO), Ok(()));
+    assert_eq!(book.lookup(Lenient, LOOSE, VALUE), Ok(TWO.to_vec()));
+    assert_eq!(book.remove(Lenient, LOOSE), Ok(()));
+    assert_eq!(book.lookup(Plain, EXACT, VALUE), Err(ABSENT));
+}
+
+/// A loose text is refused by plain calls alone, after 3 and before 10.
+#[test]
+fn loose_texts() {
+    let mut book = Book::empty(1);
+    let long = Spelt::long(256, &mut Random(1)).loose();
+    for (text, refusal) in [(LOOSE, ABSENT), (&long, KEY_TOO_LONG)] {
+        assert_eq!(book.write(Plain, text, b""), Err(model::LOOSE));
+        assert_eq!(book.remove(Plain, text), Err(model::LOOSE));
+        assert_eq!(book.lookup(Plain, text, 0), Err(model::LOOSE));
+        assert_eq!(book.remove(Lenient, text), Err(refusal));
+    }
+    assert_eq!(book.remove(Plain, b"clients/07-tendermint-4/consensusStates/007"), Err(NOT_A_PATH));
 }
 
 #[test]
 fn indexes_are_kept_as_written() {
     let mut book = Book::empty(2);
-    assert_eq!(book.write(b"channelEnds/ports/ab/channels/channel-1", &ONE), Ok(()));
-    assert_eq!(book.write(b"channelEnds/ports/ab/channels/channel-+01", &TWO), Ok(()));
+    assert_eq!(book.write(Plain, b"channelEnds/ports/ab/channels/channel-1", &ONE), Ok(()));
+    assert_eq!(book.write(Plain, b"channelEnds/ports/ab/channels/channel-+01", &TWO), Ok(()));
     assert_eq!(book.free(), 0);
 }
 
@@ -43,18 +58,20 @@ fn refusals_in_order() {
         (b"/18446744073709551616/upgradedClient", TOO_LARGE),
         (&long, KEY_TOO_LONG),
     ] {
-        assert_eq!(book.write(text, b""), Err(refusal));
-        assert_eq!(book.remove(text), Err(refusal));
-        assert_eq!(book.lookup(text, 0), Err(refusal));
+        for manner in Manner::BOTH {
+            assert_eq!(book.write(manner, text, b""), Err(refusal));
+            assert_eq!(book.remove(manner, text), Err(refusal));
+            assert_eq!(book.lookup(manner, text, 0), Err(refusal));
+        }
     }
-    assert_eq!(book.lookup(EXACT, 63), Err(NO_ROOM));
-    assert_eq!(book.lookup(EXACT, 64), Err(ABSENT));
-    assert_eq!(book.remove(EXACT), Err(ABSENT));
-    assert_eq!(book.write(b"ports/ab", &ONE), Ok(()));
-    assert_eq!(book.write(EXACT, &[]), Err(BAD_LENGTH));
-    assert_eq!(book.write(EXACT, &[0; 65]), Err(BAD_LENGTH));
-    assert_eq!(book.write(EXACT, &ONE), Err(FULL));
-    assert_eq!(book.write(b"ports/ab", &TWO), Ok(()));
+    assert_eq!(book.lookup(Plain, EXACT, 63), Err(NO_ROOM));
+    assert_eq!(book.lookup(Plain, EXACT, 64), Err(ABSENT));
+    assert_eq!(book.remove(Plain, EXACT), Err(ABSENT));
+    assert_eq!(book.write(Plain, b"ports/ab", &ONE), Ok(()));
+    assert_eq!(book.write(Plain, EXACT, &[]), Err(BAD_LENGTH));
+    assert_eq!(book.write(Plain, EXACT, &[0; 65]), Err(BAD_LENGTH));
+    assert_eq!(book.write(Plain, EXACT, &ONE), Err(FULL));
+    assert_eq!(book.write(Plain, b"ports/ab", &TWO), Ok(()));
     assert_eq!(book.oldest(b"short"), Err(BAD_LENGTH));
     assert_eq!(book.oldest(b"07-tendermint-4"), Err(ABSENT));
 }
@@ -62,9 +79,9 @@ fn refusals_in_order() {
 #[test]
 fn ten_is_judged_on_the_rendering() {
     let text = [&b"x/"[..], &[b'0'; 400], b"5/upgradedClient"].concat();
-    assert_eq!(key(&text), Ok(b"x/5/upgradedClient".to_vec()));
-    assert_eq!(key(&Spelt::long(255, &mut Random(1)).exact()).map(|key| key.len()), Ok(255));
-    assert_eq!(key(&Spelt::longest().exact()).map(|key| key.len()), Ok(251));
+    assert_eq!(key(Lenient, &text), Ok(b"x/5/upgradedClient".to_vec()));
+    assert_eq!(key(Plain, &Spelt::long(255, &mut Random(1)).exact()).map(|key| key.len()), Ok(255));
+    assert_eq!(key(Plain, &Spelt::longest().exact()).map(|key| key.len()), Ok(251));
 }
 
 #[test]
@@ -75,10 +92,10 @@ fn oldest_has_the_smallest_pair() {
         "clients/07-tendermint-4/consensusStates/7-2",
         "clients/07-tendermint-40/consensusStates/6-2",
     ] {
-        assert_eq!(book.write(text.as_bytes(), &ONE), Ok(()));
+        assert_eq!(book.write(Plain, text.as_bytes(), &ONE), Ok(()));
     }
     assert_eq!(
-        book.write(b"clients/07-tendermint-4/consensusStates/1-1/processedTime", &ONE),
+        book.write(Plain, b"clients/07-tendermint-4/consensusStates/1-1/processedTime", &ONE),
         Ok(())
     );
     assert_eq!(book.oldest(b"07-tendermint-4"), Ok([7, 2]));
@@ -88,7 +105,7 @@ fn oldest_has_the_smallest_pair() {
 #[test]
 fn layout() {
     let mut book = Book::empty(2);
-    book.write(b"ports/ab", &ONE).unwrap();
+    book.write(Plain, b"ports/ab", &ONE).unwrap();
     let mut bytes = vec![0; HEAD + 2 * SLOT];
     bytes[..HEAD].copy_from_slice(b"HPB\0\x02\0\x01\0");
     bytes[8..17].copy_from_slice(b"\x08ports/ab");
@@ -101,8 +118,8 @@ fn layout() {
 /// What every damage below is done to: three slots, two of them used.
 fn book() -> Vec<u8> {
     let mut book = Book::empty(3);
-    book.write(EXACT, &ONE).unwrap();
-    book.write(b"ports/ab", &TWO).unwrap();
+    book.write(Plain, EXACT, &ONE).unwrap();
+    book.write(Plain, b"ports/ab", &TWO).unwrap();
     book.bytes()
 }
 
@@ -137,7 +154,7 @@ fn no_books() {
         damage(&mut bytes);
         assert!(!is_book(&bytes), "{name}");
         let mut buffer = Buffer::of(&bytes);
-        assert_eq!(buffer.act(&Call::Remove(EXACT.to_vec())), Err(BAD_BOOK), "{name}");
+        assert_eq!(buffer.act(&Call::Remove(Plain, EXACT.to_vec())), Err(BAD_BOOK), "{name}");
         assert_eq!(buffer.bytes(), bytes, "{name}");
     }
 }
@@ -162,7 +179,7 @@ fn new_looks_at_the_length_alone() {
 #[test]
 fn conversions() {
     let mut book = Book::empty(2);
-    book.write(EXACT, &ONE).unwrap();
+    book.write(Plain, EXACT, &ONE).unwrap();
     let old = book.bytes_of(Version::One);
     assert_eq!(old.len(), 584);
     assert_eq!(old[..HEAD], *b"HPB\0\x01\0\x01\0");
@@ -190,9 +207,9 @@ fn books_stay_books() {
         let mut book = Book::empty(slots);
         for _ in 0..3 * slots {
             let path = Spelt::chance(&mut random);
-            let _ = book.write(&path.spelling(&mut random), &ONE);
-            let _ = book.remove(&odd(&pools, &mut random));
-            let _ = book.write(&odd(&pools, &mut random), &TWO);
+            let _ = book.write(Lenient, &path.spelling(&mut random), &ONE);
+            let _ = book.remove(Lenient, &odd(&pools, &mut random));
+            let _ = book.write(Plain, &odd(&pools, &mut random), &TWO);
         }
         assert_eq!(Book::of(&book.bytes()), Some(book));
     }

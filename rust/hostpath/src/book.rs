@@ -18,16 +18,19 @@ pub const fn book_size(slots: usize) -> usize {
 }
 
 /// A book of version 2 in a lent buffer of [`book_size`] bytes. Texts with one rendering are one path, and a
-/// record stands under the rendering.
+/// record stands under the rendering, its key. A text that is not its own key is refused with 20; the `.._lenient`
+/// methods take it, for importers that pad their heights.
 ///
 /// ```
 /// use hostpath::{book_size, Book, Refusal};
 ///
 /// let mut buffer = [0; book_size(2)];
 /// let mut book = Book::new(&mut buffer)?;
-/// book.write(b"clients/07-tendermint-4/consensusStates/007-2", b"a digest")?;
+/// let padded = b"clients/07-tendermint-4/consensusStates/007-2";
+/// assert_eq!(book.write(padded, b"a digest"), Err(Refusal::Loose));
+/// book.write_lenient(padded, b"a digest")?;
 /// assert_eq!(book.oldest(b"07-tendermint-4"), Ok((7, 2)));
-/// book.remove(b"clients/07-tendermint-4/consensusStates/7-2")?; // the same path
+/// book.remove(b"clients/07-tendermint-4/consensusStates/7-2")?; // the same path, by its key
 /// assert_eq!(book.oldest(b"07-tendermint-4"), Err(Refusal::Absent));
 /// # Ok::<(), Refusal>(())
 /// ```
@@ -59,25 +62,49 @@ impl<'a> Book<'a> {
         self.0
     }
 
-    /// Adds a record, or replaces its value, which has 1 to 64 bytes. 9, 1, 2, 3 (17, 18, 19), 10, 6, 11.
+    /// Adds a record, or replaces its value, which has 1 to 64 bytes. The text is its own key: 20 where it is loose.
+    /// 9, 1, 2, 3 (17, 18, 19), 20, 10, 6, 11.
     pub fn write(&mut self, text: &[u8], value: &[u8]) -> Result<(), Refusal> {
         done(raw::book_write(self.0, text, value))
     }
 
-    /// Removes a record. 9, 1, 2, 3 (17, 18, 19), 10, 12.
+    /// Removes a record. The text is its own key: 20 where it is loose. 9, 1, 2, 3 (17, 18, 19), 20, 10, 12.
     pub fn remove(&mut self, text: &[u8]) -> Result<(), Refusal> {
         done(raw::book_remove(self.0, text))
     }
 
-    /// A record's value, in lent room for the longest. 9, 1, 2, 3 (17, 18, 19), 10, 12.
+    /// A record's value, in lent room for the longest. The text is its own key: 20 where it is loose.
+    /// 9, 1, 2, 3 (17, 18, 19), 20, 10, 12.
     pub fn lookup<'b>(
         &self,
         text: &[u8],
         room: &'b mut [u8; BOOK_VALUE],
     ) -> Result<&'b [u8], Refusal> {
         let answer = raw::book_lookup(self.0, text, room);
-        done(answer.refusal)?;
-        Ok(&room[..answer.length as usize])
+        held(answer, room)
+    }
+
+    /// As [`write`](Self::write), under the key of the text however its numbers are spelled: for importers that pad
+    /// their heights. Others use `write`, and learn by 20 that their text is no key. 9, 1, 2, 3 (17, 18, 19), 10, 6, 11.
+    pub fn write_lenient(&mut self, text: &[u8], value: &[u8]) -> Result<(), Refusal> {
+        done(raw::book_write_lenient(self.0, text, value))
+    }
+
+    /// As [`remove`](Self::remove), under the key of the text however its numbers are spelled: for importers that pad
+    /// their heights. Others use `remove`, and learn by 20 that their text is no key. 9, 1, 2, 3 (17, 18, 19), 10, 12.
+    pub fn remove_lenient(&mut self, text: &[u8]) -> Result<(), Refusal> {
+        done(raw::book_remove_lenient(self.0, text))
+    }
+
+    /// As [`lookup`](Self::lookup), under the key of the text however its numbers are spelled: for importers that pad
+    /// their heights. Others use `lookup`, and learn by 20 that their text is no key. 9, 1, 2, 3 (17, 18, 19), 10, 12.
+    pub fn lookup_lenient<'b>(
+        &self,
+        text: &[u8],
+        room: &'b mut [u8; BOOK_VALUE],
+    ) -> Result<&'b [u8], Refusal> {
+        let answer = raw::book_lookup_lenient(self.0, text, room);
+        held(answer, room)
     }
 
     /// The smallest pair of revision number and height among a client's consensus states: of `10-2` and
@@ -85,4 +112,10 @@ impl<'a> Book<'a> {
     pub fn oldest(&self, client_id: &[u8]) -> Result<(u64, u64), Refusal> {
         pair(raw::book_oldest(self.0, client_id))
     }
+}
+
+/// The value that a lookup wrote.
+fn held(answer: raw::Written, room: &[u8; BOOK_VALUE]) -> Result<&[u8], Refusal> {
+    done(answer.refusal)?;
+    Ok(&room[..answer.length as usize])
 }

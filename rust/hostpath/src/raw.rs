@@ -132,6 +132,12 @@ pub mod c {
         pub fn hp_book_remove(book: *mut u8, book_len: usize, text: *const u8, text_len: usize) -> u8;
         /// [`book_lookup`] on pointers.
         pub fn hp_book_lookup(book: *const u8, book_len: usize, text: *const u8, text_len: usize, out: *mut u8, out_len: usize) -> Written;
+        /// [`book_write_lenient`] on pointers.
+        pub fn hp_book_write_lenient(book: *mut u8, book_len: usize, text: *const u8, text_len: usize, value: *const u8, value_len: usize) -> u8;
+        /// [`book_remove_lenient`] on pointers.
+        pub fn hp_book_remove_lenient(book: *mut u8, book_len: usize, text: *const u8, text_len: usize) -> u8;
+        /// [`book_lookup_lenient`] on pointers.
+        pub fn hp_book_lookup_lenient(book: *const u8, book_len: usize, text: *const u8, text_len: usize, out: *mut u8, out_len: usize) -> Written;
         /// [`book_oldest`] on pointers.
         pub fn hp_book_oldest(book: *const u8, book_len: usize, client: *const u8, client_len: usize) -> Pair;
         /// [`book_convert`] on pointers.
@@ -355,24 +361,42 @@ pub fn book_new(book: &mut [u8]) -> u8 {
     unsafe { c::hp_book_new(book.as_mut_ptr(), book.len()) }
 }
 
-/// The rendering of the text holds the value from now on, anew or in place of what it held:
-/// 9, 1, 2, 3 (17, 18, 19), 10, 6, 11.
+/// The text, which is its own rendering, holds the value from now on, anew or in place of what it held:
+/// 9, 1, 2, 3 (17, 18, 19), 20, 10, 6, 11.
 pub fn book_write(book: &mut [u8], text: &[u8], value: &[u8]) -> u8 {
     // SAFETY: each pointer and count are those of one live slice.
     unsafe { c::hp_book_write(book.as_mut_ptr(), book.len(), text.as_ptr(), text.len(), value.as_ptr(), value.len()) }
 }
 
-/// The rendering of the text holds nothing from now on: 9, 1, 2, 3 (17, 18, 19), 10, 12.
+/// The text, which is its own rendering, holds nothing from now on: 9, 1, 2, 3 (17, 18, 19), 20, 10, 12.
 pub fn book_remove(book: &mut [u8], text: &[u8]) -> u8 {
     // SAFETY: each pointer and count are those of one live slice.
     unsafe { c::hp_book_remove(book.as_mut_ptr(), book.len(), text.as_ptr(), text.len()) }
 }
 
-/// What the rendering of the text holds, 1 to 64 bytes; wants room for 64 whatever it holds:
-/// 9, 1, 2, 3 (17, 18, 19), 10, 4, 12.
+/// What the text, which is its own rendering, holds, 1 to 64 bytes; wants room for 64 whatever it holds:
+/// 9, 1, 2, 3 (17, 18, 19), 20, 10, 4, 12.
 pub fn book_lookup(book: &[u8], text: &[u8], out: &mut [u8]) -> Written {
     // SAFETY: each pointer and count are those of one live slice.
     unsafe { c::hp_book_lookup(book.as_ptr(), book.len(), text.as_ptr(), text.len(), out.as_mut_ptr(), out.len()) }
+}
+
+/// As hp_book_write, on the rendering of the text, for importers that pad their heights: 9, 1, 2, 3 (17, 18, 19), 10, 6, 11.
+pub fn book_write_lenient(book: &mut [u8], text: &[u8], value: &[u8]) -> u8 {
+    // SAFETY: each pointer and count are those of one live slice.
+    unsafe { c::hp_book_write_lenient(book.as_mut_ptr(), book.len(), text.as_ptr(), text.len(), value.as_ptr(), value.len()) }
+}
+
+/// As hp_book_remove, on the rendering of the text, for importers that pad their heights: 9, 1, 2, 3 (17, 18, 19), 10, 12.
+pub fn book_remove_lenient(book: &mut [u8], text: &[u8]) -> u8 {
+    // SAFETY: each pointer and count are those of one live slice.
+    unsafe { c::hp_book_remove_lenient(book.as_mut_ptr(), book.len(), text.as_ptr(), text.len()) }
+}
+
+/// As hp_book_lookup, on the rendering of the text, for importers that pad their heights: 9, 1, 2, 3 (17, 18, 19), 10, 4, 12.
+pub fn book_lookup_lenient(book: &[u8], text: &[u8], out: &mut [u8]) -> Written {
+    // SAFETY: each pointer and count are those of one live slice.
+    unsafe { c::hp_book_lookup_lenient(book.as_ptr(), book.len(), text.as_ptr(), text.len(), out.as_mut_ptr(), out.len()) }
 }
 
 /// The smallest pair of revision number and height among the client's records `clients/C/consensusStates/R-h`: 9, the

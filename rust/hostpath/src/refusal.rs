@@ -43,6 +43,8 @@ pub enum Refusal {
     NotADigit = 18,
     /// 19: the number is above 18446744073709551615: write a smaller one.
     TooLarge = 19,
+    /// 20: a number of the text has a plus or leading zeros, so it is not its own key: give its key, or make the lenient call.
+    Loose = 20,
     // Above, made by bin/interface.
 }
 
@@ -69,6 +71,7 @@ impl Refusal {
             17 => Self::NoDigits,
             18 => Self::NotADigit,
             19 => Self::TooLarge,
+            20 => Self::Loose,
             // Above, made by bin/interface.
             _ => return None,
         })
@@ -101,6 +104,7 @@ impl Refusal {
             Self::NoDigits => "where a number should stand there is no digit: write one, from 0 to 18446744073709551615",
             Self::NotADigit => "a byte of the number is no digit: write it in the digits 0 to 9 alone",
             Self::TooLarge => "the number is above 18446744073709551615: write a smaller one",
+            Self::Loose => "a number of the text has a plus or leading zeros, so it is not its own key: give its key, or make the lenient call",
             // Above, made by bin/interface.
         }
     }

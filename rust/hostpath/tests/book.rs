@@ -14,17 +14,35 @@ fn calls() {
     let mut buffer = [0xa5; book_size(2)];
     let mut book = Book::new(&mut buffer).unwrap();
     assert_eq!(held(&book, EXACT), Err(Refusal::Absent));
-    assert_eq!(book.write(LOOSE, &[1; BOOK_VALUE]), Ok(()));
+    assert_eq!(book.write_lenient(LOOSE, &[1; BOOK_VALUE]), Ok(()));
     assert_eq!(book.write(EXACT, &[2; 32]), Ok(()));
     assert_eq!(book.write(b"ports/transfer", &[3]), Ok(()));
     assert_eq!(book.write(b"ports/icahost", &[4; 32]), Err(Refusal::Full));
-    assert_eq!(held(&book, LOOSE), Ok(vec![2; 32]));
+    assert_eq!(held(&book, EXACT), Ok(vec![2; 32]));
     assert_eq!(book.oldest(b"07-tendermint-4"), Ok((7, 2)));
     assert_eq!(book.oldest(b"07-tendermint-5"), Err(Refusal::Absent));
-    assert_eq!(book.remove(LOOSE), Ok(()));
+    assert_eq!(book.remove_lenient(LOOSE), Ok(()));
     assert_eq!(book.remove(EXACT), Err(Refusal::Absent));
     assert_eq!(book.bytes()[..8], *b"HPB\0\x02\0\x01\0");
     assert_eq!(held(&Book::open(&mut buffer), b"ports/transfer"), Ok(vec![3]));
+}
+
+/// A loose text is refused by the plain calls, after 3 and before 10, and the lenient ones find its key's record.
+#[test]
+fn loose() {
+    let mut buffer = [0; book_size(1)];
+    let mut book = Book::new(&mut buffer).unwrap();
+    book.write(EXACT, &[1; 32]).unwrap();
+    let before = book.bytes().to_vec();
+    let long = [&[b'u'; 300][..], b"/05/upgradedClient"].concat();
+    for (text, lenient) in [(LOOSE, Ok(())), (&long, Err(Refusal::KeyTooLong))] {
+        assert_eq!(book.write(text, &[2; BOOK_VALUE + 1]), Err(Refusal::Loose));
+        assert_eq!(book.remove(text), Err(Refusal::Loose));
+        assert_eq!(held(&book, text), Err(Refusal::Loose));
+        assert_eq!(book.bytes(), before);
+        assert_eq!(book.lookup_lenient(text, &mut [0; BOOK_VALUE]).map(|_| ()), lenient);
+    }
+    assert_eq!(book.remove(b"clients/07-tendermint-4/consensusStates/007"), Err(Refusal::NotAPath));
 }
 
 #[test]
@@ -75,7 +93,7 @@ fn converted() {
     old[BOOK_HEAD + 1 + BOOK_KEY..][..32].fill(7);
     let mut new = [0xa5; book_size(2)];
     let book = Book::convert(&old, &mut new).unwrap();
-    assert_eq!(held(&book, LOOSE), Ok(vec![7; 32]));
+    assert_eq!(held(&book, EXACT), Ok(vec![7; 32]));
     assert_eq!(book.oldest(b"07-tendermint-4"), Ok((7, 2)));
     assert_eq!(held(&Book::open(&mut old), EXACT), Err(Refusal::BadBook));
     let none = Book::convert(&new, &mut [0; book_size(2)]).map(|_| ());

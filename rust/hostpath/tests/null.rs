@@ -68,6 +68,9 @@ fn books() {
         assert_eq!(hp_book_write(null_mut(), 0, null(), 0, null(), 0), 9);
         assert_eq!(hp_book_remove(null_mut(), 0, null(), 0), 9);
         assert_eq!(hp_book_lookup(null(), 0, null(), 0, null_mut(), 0), refused(9));
+        assert_eq!(hp_book_write_lenient(null_mut(), 0, null(), 0, null(), 0), 9);
+        assert_eq!(hp_book_remove_lenient(null_mut(), 0, null(), 0), 9);
+        assert_eq!(hp_book_lookup_lenient(null(), 0, null(), 0, null_mut(), 0), refused(9));
         assert_eq!(hp_book_convert(null(), 0, null_mut(), 0), 9);
         assert_eq!(hp_book_oldest(null(), 0, null(), 0), none);
     }

@@ -13,19 +13,19 @@ returns : tie.Need-returns
 returns c = look-no-book _ _ (c .before .before .check-book .ensures) (c .enum-told .given .1) _ _
 
 returns-2 : tie.Need-returns-2
-returns-2 c = looked-refused Current _ _ (judged-holds _ _ _ (c .before .before .before .before .before .before .before .check-book .ensures) (c .before .before .before .before .before .n .given .1)) _ _ (refused-by _ _ (c .before .before .key-into .ensures .0) _ (c .if1 .taken)) _
+returns-2 c = looked-refused Current _ _ (judged-holds _ _ _ (c .before .before .before .before .before .before .before .check-book .ensures) (c .before .before .before .before .before .n .given .1)) _ _ (refused-by _ _ _ (c .before .before .key-into .ensures .0) _ (c .if1 .taken)) _
 
 returns-3 : tie.Need-returns-3
-returns-3 c = looked-refused Current _ _ (judged-holds _ _ _ (c .before .before .before .before .before .before .before .before .check-book .ensures) (c .before .before .before .before .before .before .n .given .1)) _ _ (look-short _ _ _ (key-of _ _ (c .before .before .before .key-into .ensures .0) _ _ refl (c .before .if1 .left) (c .before .before .before .key-into .ensures .1)) _ (c .if2 .taken)) _
+returns-3 c = looked-refused Current _ _ (judged-holds _ _ _ (c .before .before .before .before .before .before .before .before .check-book .ensures) (c .before .before .before .before .before .before .n .given .1)) _ _ (look-short _ _ _ _ (key-of _ _ _ (c .before .before .before .key-into .ensures .0) _ _ refl (c .before .if1 .left) (c .before .before .before .key-into .ensures .1)) _ (c .if2 .taken)) _
 
 part-look-record-end : tie.Need-part-look-record-end
-part-look-record-end c = (key-of _ _ (c .before .before .before .before .key-into .ensures .0) _ _ refl (c .before .before .if1 .left) (c .before .before .before .before .key-into .ensures .1)) .room
+part-look-record-end c = (key-of _ _ _ (c .before .before .before .before .key-into .ensures .0) _ _ refl (c .before .before .if1 .left) (c .before .before .before .before .key-into .ensures .1)) .room
 
 look-record-requires : tie.Need-look-record-requires
 look-record-requires c κs = ((judged-holds _ _ _ (c .before .before .before .before .before .before .before .before .before .before .before .check-book .ensures) (c .before .before .before .before .before .before .before .before .before .n .given .1)), c .before .before .before .if2 .left)
 
 returns-4 : tie.Need-returns-4
-returns-4 c = look-text _ _ _ _ (key-of _ _ (c .before .before .before .before .before .before .before .before .before .key-into .ensures .0) _ _ refl (c .before .before .before .before .before .before .before .if1 .left) (c .before .before .before .before .before .before .before .before .before .key-into .ensures .1)) _ refl _ _ _ (c .before .before .before .before .before .before .if2 .left) (c .before .before .look-record .ensures)
+returns-4 c = look-text _ _ _ _ _ (key-of _ _ _ (c .before .before .before .before .before .before .before .before .before .key-into .ensures .0) _ _ refl (c .before .before .before .before .before .before .before .if1 .left) (c .before .before .before .before .before .before .before .before .before .key-into .ensures .1)) _ refl _ _ _ (c .before .before .before .before .before .before .if2 .left) (c .before .before .look-record .ensures)
 
 pub lookup-spec : {M : Type 1} → statement M
 lookup-spec =

@@ -13,16 +13,16 @@ returns : tie.Need-returns
 returns c = no-book _ _ (c .before .before .check-book .ensures) (c .enum-told .given .1) _
 
 returns-2 : tie.Need-returns-2
-returns-2 c = changed-refused Current _ _ (judged-holds _ _ _ (c .before .before .before .before .before .before .before .check-book .ensures) (c .before .before .before .before .before .n .given .1)) _ _ (refused-by _ _ (c .before .before .key-into .ensures .0) _ (c .if1 .taken))
+returns-2 c = changed-refused Current _ _ (judged-holds _ _ _ (c .before .before .before .before .before .before .before .check-book .ensures) (c .before .before .before .before .before .n .given .1)) _ _ (refused-by _ _ _ (c .before .before .key-into .ensures .0) _ (c .if1 .taken))
 
 part-take-record-end : tie.Need-part-take-record-end
-part-take-record-end c = (key-of _ _ (c .before .before .before .before .key-into .ensures .0) _ _ refl (c .before .before .if1 .left) (c .before .before .before .before .key-into .ensures .1)) .room
+part-take-record-end c = (key-of _ _ _ (c .before .before .before .before .key-into .ensures .0) _ _ refl (c .before .before .if1 .left) (c .before .before .before .before .key-into .ensures .1)) .room
 
 take-record-requires : tie.Need-take-record-requires
 take-record-requires c κs = (judged-holds _ _ _ (c .before .before .before .before .before .before .before .before .before .before .check-book .ensures) (c .before .before .before .before .before .before .before .before .n .given .1))
 
 returns-3 : tie.Need-returns-3
-returns-3 c = remove-text _ _ _ _ (key-of _ _ (c .before .before .before .before .before .before .before .before .key-into .ensures .0) _ _ refl (c .before .before .before .before .before .before .if1 .left) (c .before .before .before .before .before .before .before .before .key-into .ensures .1)) _ refl _ _ (c .before .before .take-record .ensures)
+returns-3 c = remove-text _ _ _ _ _ (key-of _ _ _ (c .before .before .before .before .before .before .before .before .key-into .ensures .0) _ _ refl (c .before .before .before .before .before .before .if1 .left) (c .before .before .before .before .before .before .before .before .key-into .ensures .1)) _ refl _ _ (c .before .before .take-record .ensures)
 
 pub remove-spec : {M : Type 1} → statement M
 remove-spec =

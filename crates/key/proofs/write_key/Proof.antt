@@ -1,42 +1,12 @@
-use mathlib.Core.Path.{sym}
-use Rattle.text.specs.PutLaws.{gives-refusal, gives-same}
-use Rattle.path.specs.Read.{keyOf}
-use Rattle.key.specs.KeyLaws.{key-refused, view-kind, view-key}
 use borrow.Author.Needs.{needs}
 use Rattle.key.proofs.write_key.Statement.{statement}
 use Rattle.key.proofs.write_key.Tie as tie
 
+write-read-requires : tie.Need-write-read-requires
+write-read-requires c κs = c .before .read-path .ensures
+
 returns : tie.Need-returns
-returns c =
-    let x = c .before .before .before .before .before .before .args in
-    rw (c .refusal-of .ensures) (gives-refusal (keyOf (x .text .now)) (x .out .now) _ (key-refused (x .text .now) _ _ (c .before .enum-told .given .1) (c .before .before .before .read-path .ensures)))
-
-fit-kind-requires : tie.Need-fit-kind-requires
-fit-kind-requires c κs =
-    let r = c .before .before .before .before .before .before .before .read-path in
-    let v = c .before .before .before .view in
-    view-kind (c .before .before .before .before .before .before .before .before .before .before .args .text .now) (r .result) _ _ (c .before .before .before .before .before .reading .given .1) (r .ensures) (v .result) (v .ensures)
-
-returns-2 : tie.Need-returns-2
-returns-2 c =
-    let x = c .before .before .before .before .before .before .before .before .before .before .before .before .before .args in
-    let r = c .before .before .before .before .before .before .before .before .before .before .read-path in
-    let v = c .before .before .before .before .before .before .view in
-    let e = view-key (x .text .now) (r .result) _ _ (c .before .before .before .before .before .before .before .before .reading .given .1) (r .ensures) (v .result) (v .ensures) _ _ (c .before .before .before .before .part .ensures .bytes) (c .before .before .before .part2 .ensures .bytes) in
-    gives-same (keyOf (x .text .now)) (x .out .now) (sym e) (c .before .before .fit-kind .ensures)
+returns c = c .before .before .write-read .ensures
 
 pub write-key-spec : {M : Type 1} → statement M
-write-key-spec =
-    tie.close
-    (tie.spec
-    (λ c κs. search needs)
-    (λ c. search needs)
-    (λ c. search needs)
-    (λ c κs. search needs)
-    returns
-    (λ c κs. search needs)
-    (λ c κs. search needs)
-    (λ c κs. search needs)
-    fit-kind-requires
-    (λ c. search needs)
-    returns-2)
+write-key-spec = tie.close (tie.spec (λ c κs. search needs) write-read-requires (λ c. search needs) returns)

@@ -1,24 +1,36 @@
 -- `book::key_into` meets its contract.
 -- Assumes nothing.
-use mathlib.Core.Path.{sym, ap, _∙_}
-use Prim.Native.Nat.{ℕ}
-use Rattle.text.specs.Put.{answer}
-use Rattle.text.specs.declared.Written.{Written}
-use Rattle.path.specs.Read.{keyOf}
-use Rattle.keys.specs.TextLaws.{answer-long, answer-other}
+use Rattle.book.specs.FieldLaws.{field-loose, field-long, field-fits}
 use borrow.Author.Needs.{needs}
 use Rattle.book.proofs.field.key_into.Statement.{statement}
 use Rattle.book.proofs.field.key_into.Tie as tie
 
+write-read-requires : tie.Need-write-read-requires
+write-read-requires c κs = c .before .before .read-path .ensures
+
 returns : tie.Need-returns
-returns c =
-    let e = (c .before .before .before .before .write-key .ensures .0 ∙ ap (λ (n : ℕ). answer (keyOf (c .before .before .before .before .before .before .before .before .args .text .now)) n) (c .before .before .before .before .before .before .before .before .pre)) in
-    (sym (answer-long _ (sym (ap (λ (v : Written). v .refusal) e) ∙ c .if1 .taken)), c .before .before .before .before .write-key .ensures .1)
+returns c = (field-loose _ _ _ (c .before .before .before .before .before .before .before .read-path .ensures) _ (c .before .before .before .before .before .before .is-loose .ensures) (c .if1 .taken), c .before .before .before .before .write-read .ensures .1)
 
 returns-2 : tie.Need-returns-2
 returns-2 c =
-    let e = (c .before .before .before .before .write-key .ensures .0 ∙ ap (λ (n : ℕ). answer (keyOf (c .before .before .before .before .before .before .before .before .args .text .now)) n) (c .before .before .before .before .before .before .before .before .pre)) in
-    (e ∙ sym (answer-other _ (λ q. c .if1 .left (ap (λ (v : Written). v .refusal) e ∙ q))), c .before .before .before .before .write-key .ensures .1)
+    let w = c .before .before .before .before .before .write-read in
+    (field-long _ _ _ (c .before .before .before .before .before .before .before .before .read-path .ensures) _ (c .before .before .before .before .before .before .before .is-loose .ensures) _ _ (c .before .before .before .before .before .before .before .before .before .before .before .pre) (w .ensures .0) (c .before .if1 .left) (c .if2 .taken), w .ensures .1)
+
+returns-3 : tie.Need-returns-3
+returns-3 c =
+    let w = c .before .before .before .before .before .write-read in
+    (field-fits _ _ _ (c .before .before .before .before .before .before .before .before .read-path .ensures) _ (c .before .before .before .before .before .before .before .is-loose .ensures) _ _ (c .before .before .before .before .before .before .before .before .before .before .before .pre) (w .ensures .0) (c .before .if1 .left) (c .if2 .left), w .ensures .1)
 
 pub key-into-spec : {M : Type 1} → statement M
-key-into-spec = tie.close (tie.spec (λ c κs. search needs) (λ c. search needs) returns (λ c. search needs) returns-2)
+key-into-spec =
+    tie.close
+    (tie.spec
+    (λ c κs. search needs)
+    (λ c κs. search needs)
+    write-read-requires
+    (λ c. search needs)
+    returns
+    (λ c. search needs)
+    returns-2
+    (λ c. search needs)
+    returns-3)
