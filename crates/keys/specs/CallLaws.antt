@@ -18,7 +18,7 @@ use Rattle.path.specs.Kinds.{kinds}
 use Rattle.path.specs.Read.{readFirst, readingOf, readPath, keyBy, keyOf}
 use Rattle.keys.specs.Records.{Key}
 use Rattle.keys.specs.Act.{Meaning, refuses, writes, removes, looks}
-use Rattle.keys.specs.Calls.{keyed, Asked, to-write, to-remove, to-look, Call, under, meaning, PathOf, keyFor, ValueFits}
+use Rattle.keys.specs.Calls.{keyed, Asked, to-write, to-remove, to-look, Call, under, meaning, PathOf, ValueFits}
 use Rattle.keys.specs.Refusals.{HasKey, GoodWrite, GoodRemoval, GoodLookup, Declined, too-long, not-ascii, not-a-path, loose, key-too-long, bad-length, no-room}
 use Rattle.keys.specs.MannerLaws.{KeyFor, unread, other, own, key-for, for-unread, for-other, for-own}
 
