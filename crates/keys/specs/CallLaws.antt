@@ -68,7 +68,7 @@ means c = go (key-for (c .manner) (c .text))
     go (own {k = k} e s) = fits (leb (length k) 255) refl
       where
         fits : (b : Bool) → leb (length k) 255 ≡ b → Means c (cond b (under (c .asked) k) (refuses 10))
-        fits true l = under-means c k (record { path = e; form = s; fits = leb-true (length k) 255 l }) (c .asked) refl
+        fits true l = under-means c k (record { path = e; spelled = s; fits = leb-true (length k) 255 l }) (c .asked) refl
         fits false l = declines (key-too-long e s (leb-false (length k) 255 l))
 
 -- ---- and back: what the table says is what the call means
@@ -78,7 +78,7 @@ keyed-refused c n e = rw (for-unread (c .manner) (c .text) n e)
 
 keyed-fits : (c : Call) (k : Key) → HasKey c k → meaning c ≡ under (c .asked) k
 unfolding meaning keyed
-keyed-fits c k h = rw (for-own (c .manner) (c .text) (h .form), h .path, le-leb (length k) 255 (h .fits))
+keyed-fits c k h = rw (for-own (c .manner) (c .text) (h .spelled), h .path, le-leb (length k) 255 (h .fits))
 
 not-sized : (k : Key) (v : List ℕ) → (ValueFits v → ⊥) → under (to-write v) k ≡ refuses 6
 not-sized k v n = go (leb 1 (length v)) refl (leb (length v) 64) refl
