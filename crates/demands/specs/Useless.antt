@@ -81,7 +81,7 @@ sized : ValueFits value
 sized = record { least = omega (arith, length-zeros 32); most = omega (arith, length-zeros 32) }
 
 write-means : meaning W ≡ writes port value
-write-means = writing-means W port value (record { asked = refl; key = record { path = port-key; form = port-key; fits = omega arith }; size = sized })
+write-means = writing-means W port value (record { asked = refl; key = record { path = port-key; spelled = port-key; fits = omega arith }; size = sized })
 
 -- the write is accepted there, and the record then stands in the book
 abbrev filled : List ℕ

@@ -19,7 +19,7 @@ use Rattle.path.specs.Kinds.{kinds}
 use Rattle.path.specs.Read.{readFirst, whyNot, refusalOf, readingOf, readPath, keyBy, keyOf}
 use Rattle.keys.specs.Records.{Key}
 use Rattle.keys.specs.Act.{Meaning, refuses, writes, removes, looks}
-use Rattle.keys.specs.Calls.{keyed, Asked, to-write, to-remove, to-look, Call, under, meaning, PathOf, keyFor, ValueFits}
+use Rattle.keys.specs.Calls.{keyed, Asked, to-write, to-remove, to-look, Call, under, meaning, PathOf, ValueFits}
 use Rattle.keys.specs.Refusals.{HasKey, GoodWrite, GoodRemoval, GoodLookup, Declined, too-long, not-ascii, not-a-path, loose, key-too-long, bad-length, no-room}
 use Rattle.keys.specs.MannerLaws.{KeyFor, unread, other, own, key-for, for-unread, for-other, for-own}
 
@@ -69,7 +69,7 @@ means c = go (key-for (c .manner) (c .text))
     go (own {k = k} e s) = fits (leb (length k) 255) refl
       where
         fits : (b : Bool) → leb (length k) 255 ≡ b → Means c (cond b (under (c .asked) k) (refuses 10))
-        fits true l = under-means c k (record { path = e; form = s; fits = leb-true (length k) 255 l }) (c .asked) refl
+        fits true l = under-means c k (record { path = e; spelled = s; fits = leb-true (length k) 255 l }) (c .asked) refl
         fits false l = declines (key-too-long e s (leb-false (length k) 255 l))
 
 -- ---- and back: what the table says is what the call means
@@ -79,7 +79,7 @@ keyed-refused c n e = rw (for-unread (c .manner) (c .text) n e)
 
 keyed-fits : (c : Call) (k : Key) → HasKey c k → meaning c ≡ under (c .asked) k
 unfolding meaning keyed
-keyed-fits c k h = rw (for-own (c .manner) (c .text) (h .form), h .path, le-leb (length k) 255 (h .fits))
+keyed-fits c k h = rw (for-own (c .manner) (c .text) (h .spelled), h .path, le-leb (length k) 255 (h .fits))
 
 not-sized : (k : Key) (v : List ℕ) → (ValueFits v → ⊥) → under (to-write v) k ≡ refuses 6
 not-sized k v n = go (leb 1 (length v)) refl (leb (length v) 64) refl

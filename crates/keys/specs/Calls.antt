@@ -51,13 +51,13 @@ SamePath c d = (k : Key) × PathOf c k × PathOf d k
 abbrev pub Exact : Key → Type 0
 Exact k = keyOf k ≡ text k
 
--- a plain call takes exact texts only
+-- a text as a call of that manner takes it: a plain one takes exact texts only
 abbrev pub Spelled : Manner → List ℕ → Type 0
 Spelled Plain t = Exact t
 Spelled Lenient t = Unit {0}
 
 -- ---- meaning
--- the same by the reader's mark: a loose text, where the call is plain
+-- by the reader's mark: a plain call refuses a loose text, a lenient one none
 abbrev pub isLoose : Manner → Reading → Bool
 isLoose Plain (Read p exact) = not exact
 isLoose Plain (Refused w) = false

@@ -20,7 +20,7 @@ use Rattle.keys.specs.Calls.{to-write, to-remove, to-look, Call, PathOf,
 -- the key of a call: its path, where the text is spelled as the call's manner has it and the rendering fits
 pub record HasKey (c : Call) (k : Key) : Type 0 where
   pub path : PathOf c k
-  pub form : Spelled (c .manner) (c .text)
+  pub spelled : Spelled (c .manner) (c .text)
   pub fits : length k ≤ 255
 
 pub record GoodWrite (c : Call) (k : Key) (v : List ℕ) : Type 0 where

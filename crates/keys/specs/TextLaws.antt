@@ -23,7 +23,7 @@ use Rattle.text.specs.declared.Written.{Written}
 use Rattle.keys.specs.Refusals.{HasKey, bad-length, no-room}
 use Rattle.keys.specs.CallLaws.{declined-means, writing-means, removing-means, looking-means}
 use Rattle.keys.specs.Calls.{Asked, to-write, to-remove, to-look, write, remove, look, under, meaning, Spelled, keyFor, ValueFits, keyed, keyAnswer}
-use Rattle.keys.specs.MannerLaws.{key-read, key-refused, KeyFor, unread, other, own as spelled, key-for}
+use Rattle.keys.specs.MannerLaws.{key-read, key-refused, KeyFor, unread, other, own as keeps, key-for}
 
 -- ---- a refusal of a text is no success, and not the 4 of a short buffer
 pub record Own (n : ℕ) : Type 0 where
@@ -51,7 +51,7 @@ for-own m t n h = go (key-for m t) h
     go : {w : Wanted} → KeyFor m t w → w ≡ put.refused n → Own n
     go (unread {n = j} e) q = let z : j ≡ n = cc in rw z at (key-own t j e)
     go (other e s) q = let z : 20 ≡ n = cc in record { refused = λ y. omega arith; no-four = λ y. omega arith }
-    go (spelled e s) q = let z : _≡_ {A = ℕ} 0 1 = cc in absurd (let y : ⊥ = omega arith in y)
+    go (keeps e s) q = let z : _≡_ {A = ℕ} 0 1 = cc in absurd (let y : ⊥ = omega arith in y)
 
 -- ---- a key's field, by the writer of keys: its 4 is 10
 pub answer-long : (m : Manner) (t : List ℕ) → put.answer (keyFor m t) 255 .refusal ≡ 4 → keyAnswer (keyFor m t) ≡ put.refusal 10
@@ -92,7 +92,7 @@ keyed-by (text k) f h = fits (leb (length k) 255) h
 pub record Keyed (m : Manner) (t field : List ℕ) (n : ℕ) : Type 0 where
   pub key : List ℕ
   pub reads : keyOf t ≡ text key
-  pub form : Spelled m t
+  pub spelled : Spelled m t
   pub short : length key ≤ 255
   pub size : n ≡ length key
   pub room : n ≤ length field
@@ -105,7 +105,7 @@ key-here m t field blank n lb h en ef = go (key-for m t) refl h en
     go : {w : Wanted} → KeyFor m t w → keyFor m t ≡ w → keyAnswer w .refusal ≡ 0 → n ≡ keyAnswer w .length → Keyed m t field n
     go (unread {n = j} e) q z l = absurd (for-own m t j q .refused z)
     go (other e s) q z l = absurd (let y : ⊥ = omega arith in y)
-    go (spelled {k = k} e s) q z l = fits (leb (length k) 255) refl z l
+    go (keeps {k = k} e s) q z l = fits (leb (length k) 255) refl z l
       where
         f : field ≡ put.left (text k) blank
         f = ef ∙ ap (λ (w : Wanted). put.left w blank) e
@@ -116,7 +116,7 @@ key-here m t field blank n lb h en ef = go (key-for m t) refl h en
             record {
               key = k;
               reads = e;
-              form = s;
+              spelled = s;
               short = o;
               size = l;
               room = omega (arith, ap length f, length-left (text k) blank);
@@ -127,7 +127,7 @@ key-here m t field blank n lb h en ef = go (key-for m t) refl h en
 -- what a call with a key means
 module _ (m : Manner) (t field : List ℕ) (n : ℕ) (k : Keyed m t field n) where
   has : (q : Asked) → HasKey (record { manner = m; text = t; asked = q }) (k .key)
-  has q = record { path = k .reads; form = k .form; fits = k .short }
+  has q = record { path = k .reads; spelled = k .spelled; fits = k .short }
 
   pub look-means : (room : ℕ) → 64 ≤ room → meaning (look m t room) ≡ looks (k .key)
   look-means room h = looking-means (look m t room) (k .key) room (record { asked = refl; key = has (to-look room); wide = h })

@@ -5,9 +5,6 @@ use borrow.Author.Needs.{needs}
 use Rattle.book.proofs.field.key_into.Statement.{statement}
 use Rattle.book.proofs.field.key_into.Tie as tie
 
-write-read-requires : tie.Need-write-read-requires
-write-read-requires c κs = c .before .before .read-path .ensures
-
 returns : tie.Need-returns
 returns c = (field-loose _ _ _ (c .before .before .before .before .before .before .before .read-path .ensures) _ (c .before .before .before .before .before .before .is-loose .ensures) (c .if1 .taken), c .before .before .before .before .write-read .ensures .1)
 
@@ -27,7 +24,7 @@ key-into-spec =
     (tie.spec
     (λ c κs. search needs)
     (λ c κs. search needs)
-    write-read-requires
+    (λ c κs. search needs)
     (λ c. search needs)
     returns
     (λ c. search needs)
