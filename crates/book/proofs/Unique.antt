@@ -7,15 +7,15 @@ use Rattle.form.specs.VersionLaws.{version-lawful}
 use Rattle.book.specs.Book.{Current}
 use Rattle.book.specs.BookLaws.{lawful, one-judged}
 use Rattle.book.specs.OutcomeLaws.{one-changed, one-found, one-made}
-use Rattle.book.specs.ConvertLaws.{one-converted}
-use Rattle.book.specs.OldestLaws.{one-oldest}
+use Rattle.book.specs.SizeLaws.{one-slotted}
+use Rattle.book.specs.FindLaws.{one-placed}
 use Rattle.book.proofs.check.check_book.Reads as check-book
 use Rattle.book.proofs.new_book.Reads as new-book
 use Rattle.book.proofs.write.Reads as write
 use Rattle.book.proofs.remove.Reads as remove
 use Rattle.book.proofs.lookup.Reads as lookup
-use Rattle.book.proofs.convert.convert.Reads as convert
-use Rattle.book.proofs.oldest.oldest.Reads as oldest
+use Rattle.book.proofs.check.slots_of.Reads as slots-of
+use Rattle.book.proofs.find.place.Reads as place
 
 pub one-check-book : One check-book.Post
 one-check-book κs a r₁ r₂ s₁ s₂ p q = one-judged (formOf (a .1 .0)) (version-lawful (a .1 .0)) _ _ _ p q
@@ -32,9 +32,8 @@ one-remove κs a r₁ r₂ s₁ s₂ p q = one-changed lawful p q
 pub one-lookup : OneWith lookup.Post (λ κs s. now (s .1 .1 .1 .0))
 one-lookup κs a r₁ r₂ s₁ s₂ p q = one-found lawful p q
 
--- the second buffer
-pub one-convert : OneWith convert.Post (λ κs s. now (s .1 .0))
-one-convert κs a r₁ r₂ s₁ s₂ p q = one-converted p q
+pub one-slots-of : One slots-of.Post
+one-slots-of κs a r₁ r₂ s₁ s₂ p q = one-slotted (formOf (a .1 .0)) (version-lawful (a .1 .0)) _ _ _ p q
 
-pub one-oldest-call : One oldest.Post
-one-oldest-call κs a r₁ r₂ s₁ s₂ p q = one-oldest Current lawful _ _ _ _ p q
+pub one-place : One place.Post
+one-place κs a r₁ r₂ s₁ s₂ p q = one-placed Current _ _ _ _ _ p q

@@ -215,3 +215,12 @@ free-other F b k n p r pl e h = (pl, λ l. code-not (cmp k (keyAt F b p)) Orderi
 
 pub taken-here : (F : Form) (b k : List ℕ) (n p r : ℕ) → Placed F b k n p → (p ≡ n → ⊥) → r ≡ code (cmp k (keyAt F b p)) → r ≡ 1 → Spotted F b k n (Taken p)
 taken-here F b k n p r pl ne e h = (pl, omega (arith, pl .within), code-eq _ r e h)
+
+-- a key has one place
+pub one-placed : (F : Form) (b k : List ℕ) (n p q : ℕ) → Placed F b k n p → Placed F b k n q → p ≡ q
+one-placed F b k n p q x y = go (decLt p q) (decLt q p)
+  where
+    go : Dec (p < q) → Dec (q < p) → p ≡ q
+    go (yes h) d = absurd (x .next (omega (arith, y .within)) (y .before p h))
+    go (no h) (yes l) = absurd (y .next (omega (arith, x .within)) (x .before q l))
+    go (no h) (no l) = omega arith

@@ -11,9 +11,3 @@ pub mod CheckWayLaws
 pub mod Find
 pub mod FindLaws
 pub mod RecordLaws
-pub mod FieldLaws
-pub mod Convert
-pub mod ConvertLaws
-pub mod PrefixLaws
-pub mod Oldest
-pub mod OldestLaws

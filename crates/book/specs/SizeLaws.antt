@@ -1,11 +1,14 @@
 -- How many slots a buffer has room for, by its length.
 -- Assumes nothing.
-use mathlib.Core.Path.{_≡_, refl, ap, _∙_}
+use mathlib.Core.Path.{_≡_, refl, sym, ap, _∙_}
+use mathlib.Core.Bool.{Bool, true, false}
 use mathlib.Core.List.{List}
 use Prim.Native.Nat.{ℕ, _*_, _-_, _/_, _%_, _<_, _≤_}
 use native.Mathlib.Nat.{mul-mod-right, mul-div-cancel-left, div-add-mod}
 use native.Mathlib.Omega.{arith}
+use lib.Dec.{eqb}
 use lib.ListN.{length}
+use borrow.Author.Tests.{eqb-true, eqb-false}
 use Rattle.form.specs.Form.{Form}
 use Rattle.form.specs.FormLaws.{Lawful, place-back}
 use Rattle.book.specs.Book.{Sized, Book}
@@ -15,6 +18,15 @@ use Rattle.book.specs.Check.{Slotted}
 module _ (F : Form) (L : Lawful F) (b : List ℕ) where
   pub one-size : (C D : ℕ) → Sized F b C → Sized F b D → C ≡ D
   one-size C D s t = omega (arith, place-back F L C D (omega (arith, s .size, t .size)), place-back F L D C (omega (arith, s .size, t .size)))
+
+  pub one-slotted : (r q : ℕ) → Slotted F b r → Slotted F b q → r ≡ q
+  one-slotted r q x y = go (eqb r 0) refl (eqb q 0) refl
+    where
+      go : (v : Bool) → eqb r 0 ≡ v → (w : Bool) → eqb q 0 ≡ w → r ≡ q
+      go true e true g = eqb-true r 0 e ∙ sym (eqb-true q 0 g)
+      go true e false g = absurd (x .none (eqb-true r 0 e) q (y .some (eqb-false q 0 g)))
+      go false e true g = absurd (y .none (eqb-true q 0 g) r (x .some (eqb-false r 0 e)))
+      go false e false g = one-size r q (x .some (eqb-false r 0 e)) (y .some (eqb-false q 0 g))
 
   pub book-sized : (x : Book F b) → Sized F b (x .slots)
   book-sized x = record { least = x .least; most = x .most; size = size-is F L b x }

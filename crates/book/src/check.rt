@@ -30,7 +30,7 @@ pub enum BookAnswer {
 }
 
 // The number of slots of a book that is as long as `book`: 0 where no book is.
-pub(crate) fn slots_of(book: &[u8], version: Version) -> usize
+pub fn slots_of(book: &[u8], version: Version) -> usize
     ensures { λ r. ⌜ Slotted (formOf version) (now (book .entry)) r ⌝ }
 {
     let size = book.len();

@@ -15,7 +15,7 @@ pub enum Spot {
 }
 
 // How many keys come before `key`, in a book with n records.
-pub(crate) fn place(book: &[u8], n: usize, key: &[u8]) -> usize
+pub fn place(book: &[u8], n: usize, key: &[u8]) -> usize
     requires { ⌜ Counts Current (now book) n ⌝ }
     ensures { λ r. ⌜ Placed Current (now (book .entry)) (now (key .entry)) n r ⌝ }
 {

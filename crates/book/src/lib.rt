@@ -1,9 +1,6 @@
 // The record book: new, write, remove, lookup. Each call checks the book once.
 pub mod check;
-pub mod convert;
-pub mod field;
 pub mod find;
-pub mod oldest;
 pub mod record;
 
 use check::BookAnswer;

@@ -25,13 +25,13 @@ use Rattle.keys.specs.Refusals.{GoodWrite, GoodRemoval, GoodLookup, Declined, t
 use Rattle.keys.specs.CallLaws.{Means, declines, writing, removing, looking, means}
 use Rattle.book.specs.Book.{Current, fullIn}
 use Rattle.book.specs.Outcome.{Outcome, no-book, this-book, Changed, Found, Looked, Made, no-size, new-book}
-use Rattle.book.specs.Convert.{Converted, no-old, other-size, converted}
-use Rattle.book.specs.declared.oldest.StateAnswer.{StateAnswer}
-use Rattle.book.specs.declared.oldest.StateAnswer.the-variants.{State, Nothing}
+use Rattle.convert.specs.Convert.{Converted, no-old, other-size, converted}
+use Rattle.oldest.specs.declared.StateAnswer.{StateAnswer}
+use Rattle.oldest.specs.declared.StateAnswer.the-variants.{State, Nothing}
 use Rattle.path.specs.declared.Pair.{Pair}
 use Rattle.path.specs.Pair.{pair}
-use Rattle.book.specs.Oldest.{oldestState, pairOf, oldestIn, Oldest}
-use Rattle.book.specs.Oldest as oldest
+use Rattle.oldest.specs.Oldest.{oldestState, pairOf, oldestIn, Oldest}
+use Rattle.oldest.specs.Oldest as oldest
 use Rattle.demands.specs.KeepsLaws.{made-keeps, changed-keeps, found-keeps, converted-keeps}
 use Rattle.demands.specs.AnswerLaws.{written-number, written-zero}
 use Rattle.demands.specs.Shape.{oneOf, Listed, AllZero, Demand1}

@@ -20,7 +20,7 @@ use Rattle.path.specs.Text.{cutAt, joinBy, placesFrom, shownOf}
 use Rattle.path.specs.Kinds.{kinds}
 use Rattle.path.specs.declared.Pair.{Pair}
 use Rattle.path.specs.Pair.{pair}
-use Rattle.book.specs.Oldest.{stateOf, oldestState, oldestIn}
+use Rattle.oldest.specs.Oldest.{stateOf, oldestState, oldestIn}
 use Rattle.text.specs.Order.{cmp}
 use Rattle.path.specs.Read.{nameFault, fits, fitsKind, suits, suitsKind, partFaults, kindFaults, faultsAs, whyNot, readKind, readFirst, readPath, show, render, partsOf, renderPath, keyOf}
 use Rattle.keys.specs.declared.Manner.{Manner}

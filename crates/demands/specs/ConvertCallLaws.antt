@@ -24,8 +24,8 @@ use Rattle.form.specs.VersionLaws.{version-lawful}
 use Rattle.book.specs.Book.{Current, Book, acts}
 use Rattle.book.specs.BookLaws.{one-book}
 use Rattle.book.specs.Outcome.{writtenBy, shown, Looked}
-use Rattle.book.specs.Convert.{Converted, no-old, other-size, converted}
-use Rattle.book.specs.ConvertLaws.{converted-book}
+use Rattle.convert.specs.Convert.{Converted, no-old, other-size, converted}
+use Rattle.convert.specs.ConvertLaws.{converted-book}
 use Rattle.demands.specs.Held.{ProperBook}
 use Rattle.demands.specs.PermittedLaws.{on-book}
 use Rattle.demands.specs.BookCalls.{Looks, looked}

@@ -10,7 +10,7 @@ use Rattle.keys.specs.Records.{Key, get, put, del}
 use Rattle.keys.specs.Act.{Rec, Meaning, refuses, writes, removes, looks, Answer, says, done, gives, addTo, takeFrom, lookIn, act, seen}
 use Rattle.book.specs.Book.{Current, bytesWith, fullIn}
 use Rattle.book.specs.Outcome.{Outcome, no-book, this-book, Changed, Found, shown, Made, no-size, new-book}
-use Rattle.book.specs.Convert.{Converted, no-old, other-size, converted}
+use Rattle.convert.specs.Convert.{Converted, no-old, other-size, converted}
 use Rattle.demands.specs.AnswerLaws.{written-number}
 
 -- ---- a refusal changes no byte

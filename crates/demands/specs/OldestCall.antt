@@ -16,10 +16,10 @@ use Rattle.text.specs.Refusal.{noRecord}
 use Rattle.identifiers.specs.Check.{checkOf}
 use Rattle.identifiers.specs.Check as check
 use Rattle.keys.specs.Act.{Rec}
-use Rattle.book.specs.declared.oldest.StateAnswer.the-variants.{State}
+use Rattle.oldest.specs.declared.StateAnswer.the-variants.{State}
 use Rattle.path.specs.declared.Pair.{Pair}
 use Rattle.book.specs.Book.{Current, Book}
-use Rattle.book.specs.Oldest.{stateOf}
+use Rattle.oldest.specs.Oldest.{stateOf}
 use Rattle.hostpath.proofs.hp_book_oldest as o
 use Rattle.hostpath.proofs.hp_book_oldest.Kinds as ok
 use Rattle.hostpath.proofs.hp_book_oldest.Reads as or

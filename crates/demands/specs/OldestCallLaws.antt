@@ -12,14 +12,14 @@ use Rattle.text.specs.Refusal.{noRecord}
 use Rattle.identifiers.specs.Check.{checkOf}
 use Rattle.identifiers.specs.Check as check
 use Rattle.keys.specs.Act.{Rec}
-use Rattle.book.specs.declared.oldest.StateAnswer.{StateAnswer}
-use Rattle.book.specs.declared.oldest.StateAnswer.the-variants.{State, Nothing}
+use Rattle.oldest.specs.declared.StateAnswer.{StateAnswer}
+use Rattle.oldest.specs.declared.StateAnswer.the-variants.{State, Nothing}
 use Rattle.path.specs.declared.Pair.{Pair}
 use Rattle.book.specs.Book.{Current, Book}
 use Rattle.book.specs.BookLaws.{one-book, lawful}
-use Rattle.book.specs.Oldest.{stateOf, oldestState, oldestIn, Oldest}
-use Rattle.book.specs.Oldest as oldest
-use Rattle.book.specs.OldestLaws.{oldest-nothing, oldest-held, oldest-least}
+use Rattle.oldest.specs.Oldest.{stateOf, oldestState, oldestIn, Oldest}
+use Rattle.oldest.specs.Oldest as oldest
+use Rattle.oldest.specs.OldestLaws.{oldest-nothing, oldest-held, oldest-least}
 use Rattle.demands.specs.OldestCall.{OldestCall, Holds, OldestSays, OldestDemand}
 
 module _ (client : List ℕ) (s : List Rec) where

@@ -49,8 +49,8 @@ ghost use Rattle.iteration.specs.Key.{iterationKey, revision, keyIn, answered, 
 ghost use Rattle.keys.specs.declared.Manner.the-variants.{Plain, Lenient};
 ghost use Rattle.book.specs.Book.{Current};
 ghost use Rattle.book.specs.Outcome.{Wrote, Removed, Looked, Made};
-ghost use Rattle.book.specs.Convert.{Converted};
-ghost use Rattle.book.specs.Oldest.{Oldest};
+ghost use Rattle.convert.specs.Convert.{Converted};
+ghost use Rattle.oldest.specs.Oldest.{Oldest};
 
 // Identifier checks.
 
@@ -434,7 +434,7 @@ pub extern "C" fn hp_book_lookup_lenient(book: &[u8], text: &[u8], out: &mut [u8
 pub extern "C" fn hp_book_oldest(book: &[u8], client: &[u8]) -> Pair
     ensures { λ r. ⌜ Oldest Current (now (book .entry)) (now (client .entry)) r ⌝ }
 {
-    book::oldest::oldest(book, client)
+    oldest::oldest(book, client)
 }
 
 // Makes the second buffer, whatever it holds, the book of version 2 that has the slots and the records of `old`, a book
@@ -443,5 +443,5 @@ pub extern "C" fn hp_book_oldest(book: &[u8], client: &[u8]) -> Pair
 pub extern "C" fn hp_book_convert(old: &[u8], book: &mut [u8]) -> u8
     ensures { λ r. ⌜ Converted (now (old .entry)) (now (book .entry)) r (now (book .exit)) ⌝ }
 {
-    book::convert::convert(old, book)
+    convert::convert(old, book)
 }

@@ -1,0 +1,52 @@
+// The key of a text.
+use key::write_read;
+use keys::Manner;
+use path::Reading;
+use reader::read_path;
+use text::Written;
+use text::refusal::KEY_TOO_LONG;
+use text::refusal::LOOSE;
+use text::refusal::NO_ROOM;
+ghost use mathlib.Core.Path.{_≡_};
+ghost use lib.ListN.{length};
+ghost use Rattle.text.specs.Put.{left};
+ghost use Rattle.path.specs.Read.{keyOf};
+ghost use Rattle.keys.specs.Calls.{isLoose, keyFor, keyAnswer};
+
+// Whether a call of that manner refuses what was read for its spelling.
+fn is_loose(manner: Manner, reading: Reading) -> bool
+    ensures { λ r. ⌜ r ≡ isLoose manner reading ⌝ }
+{
+    let Reading::Read { path: _, exact } = reading else {
+        return false;
+    };
+    match manner {
+        Manner::Plain => !exact,
+        Manner::Lenient => false,
+    }
+}
+
+// Writes the key of a text into a field of 255 bytes: 1, 2, 3, in a plain call 20, 10.
+pub fn key_into(manner: Manner, text: &[u8], field: &mut [u8]) -> Written
+    requires { ⌜ length (now field) ≡ 255 ⌝ }
+    ensures { λ r. ⌜ r ≡ keyAnswer (keyFor manner (now (text .entry))) ⌝ }
+    ensures { λ _. ⌜ now (field .exit) ≡ left (keyOf (now (text .entry))) (now (field .entry)) ⌝ }
+{
+    let reading = read_path(text);
+    let loose = is_loose(manner, reading);
+    let w = write_read(text, reading, field);
+    let long = w.refusal == NO_ROOM;
+    if loose {
+        return Written {
+            refusal: LOOSE,
+            length: 0,
+        };
+    }
+    if long {
+        return Written {
+            refusal: KEY_TOO_LONG,
+            length: 0,
+        };
+    }
+    w
+}
