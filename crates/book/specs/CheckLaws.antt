@@ -50,7 +50,7 @@ exact-by : (s : List Rec) → ((i : ℕ) (r : Rec) → getElem? s i ≡ some r �
 exact-by [] h = tt
 exact-by (r ∷ s) h = (h 0 r refl, exact-by s (λ i q e. h (suc i) q e))
 
-exact-at : (s : List Rec) (i : ℕ) (r : Rec) → AllExact s → getElem? s i ≡ some r → Exact (r .0)
+pub exact-at : (s : List Rec) (i : ℕ) (r : Rec) → AllExact s → getElem? s i ≡ some r → Exact (r .0)
 exact-at [] i r h e = absurd (let z : _≡_ {A = ℕ} 0 1 = cc in let y : ⊥ = omega arith in y)
 exact-at (q ∷ s) zero r h e = let p : q ≡ r = cc in rw p at (h .0)
 exact-at (q ∷ s) (suc i) r h e = exact-at s i r (h .1) e

@@ -98,7 +98,7 @@ bytes-take (suc n) (x ∷ s) h (suc i) = bytes-take n s (λ j. h (suc j)) i
 pub bytes-drop : (n : ℕ) (s : List ℕ) → Bytes s → Bytes (drop n s)
 bytes-drop n s h i = rw getD-drop (h (n + i))
 
-starts-is : (w s : List ℕ) → startsWith w s ≡ true → w ++ drop (length w) s ≡ s
+pub starts-is : (w s : List ℕ) → startsWith w s ≡ true → w ++ drop (length w) s ≡ s
 unfolding startsWith
 starts-is [] s h = refl
 starts-is (x ∷ w) [] h = cc

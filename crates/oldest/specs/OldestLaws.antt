@@ -44,8 +44,9 @@ use Rattle.form.specs.Form.{Form, place, keyAt}
 use Rattle.form.specs.FormLaws.{Lawful}
 use Rattle.oldest.specs.declared.StateAnswer.{StateAnswer}
 use Rattle.oldest.specs.declared.StateAnswer.the-variants.{State, Nothing}
-use Rattle.book.specs.Book.{AllExact, Book, Counts}
+use Rattle.book.specs.Book.{Book, Counts}
 use Rattle.book.specs.BookLaws.{one-book, key-is}
+use Rattle.book.specs.CheckLaws.{exact-at}
 use Rattle.book.specs.Find.{Placed}
 use Rattle.book.specs.FindLaws.{above-down}
 use Rattle.oldest.specs.PrefixLaws.{starts-own, starts-below, starts-between}
@@ -213,11 +214,6 @@ drop-elem : (s : List Rec) (i j : ℕ) → getElem? (drop i s) j ≡ getElem? s 
 drop-elem s zero j = rw zero-add
 drop-elem [] (suc i) j = refl
 drop-elem (r ∷ s) (suc i) j = drop-elem s i j ∙ rw suc-add
-
-exact-at : (s : List Rec) (j : ℕ) (r : Rec) → AllExact s → getElem? s j ≡ some r → Exact (r .0)
-exact-at [] j r h e = absurd (let z : _≡_ {A = ℕ} 0 1 = cc in let y : ⊥ = omega arith in y)
-exact-at (q ∷ s) zero r h e = let p : q ≡ r = cc in rw p at (h .0)
-exact-at (q ∷ s) (suc j) r h e = exact-at s j r (h .1) e
 
 module _ (F : Form) (L : Lawful F) (b : List ℕ) (n : ℕ) (h : Counts F b n) (client parent : List ℕ) (ep : parent ≡ parentText client) where
   count-any : (x : Book F b) → length (x .records) ≡ n
