@@ -3,7 +3,7 @@
 -- Assumes nothing.
 use Prim.Native.Nat.{ℕ}
 use mathlib.Core.Path.{_≡_, refl}
-use mathlib.Core.Bool.{true, false}
+use mathlib.Core.Bool.{Bool, true, false}
 use mathlib.Core.List.{List, [], _∷_, _++_, map}
 use lib.ListN.{replicate}
 use Rattle.text.specs.Bytes.{bytes}
@@ -12,7 +12,9 @@ use Rattle.text.specs.Part.{every, ascii, startsWith, same}
 use Rattle.identifiers.specs.Check.{Rule, client, clientType, connection, port, channel, among, identifierByte, charsOf, within, indexOf, namedOf, checkOf, faultOf}
 use Rattle.text.specs.declared.Fault.{Fault}
 use Rattle.path.specs.declared.Place.{Place}
-use Rattle.path.specs.declared.Path.the-variants.{ClientState, ClientConsensusState, Ports, UpgradeClientState}
+use Rattle.path.specs.declared.ConsensusPlaces.{ConsensusPlaces}
+use Rattle.path.specs.declared.Path.{Path}
+use Rattle.path.specs.declared.Path.the-variants.{NextClientSequence, NextConnectionSequence, NextChannelSequence, ClientState, ClientConsensusState, ClientUpdateTime, ClientUpdateHeight, Connection, Ports, UpgradeClientState, UpgradeConsensusState}
 use Rattle.path.specs.declared.Refusal.the-variants.{NotAPath, NoDigits, NotADigit, TooLarge}
 use Rattle.path.specs.declared.Reading.{Reading}
 use Rattle.path.specs.declared.Reading.the-variants.{Read, Refused}
@@ -27,25 +29,28 @@ use Rattle.keys.specs.declared.Manner.{Manner}
 use Rattle.keys.specs.declared.Manner.the-variants.{Plain, Lenient}
 use Rattle.keys.specs.Calls.{keyFor, keyAnswer}
 
--- what is asked: to read a text, to check an identifier, for the oldest state of a client in a book with these keys, or for the key of a text
--- in a call on a book
+-- what is asked: to read a text, to check an identifier, for the oldest state of a client in a book with these keys, for the key of a text
+-- in a call on a book, or whether one text stands above another
 pub data Question : Type 0 where
   reading : List ℕ → Question
   checking : Rule → List ℕ → Question
   seeking : List ℕ → List (List ℕ) → Question
   keying : Manner → List ℕ → Question
+  standing : List ℕ → List ℕ → Question
 
--- what is answered: a reading, a refusal and its place, or a pair
+-- what is answered: a reading, a refusal and its place, a pair, or whether it stands so, with the readings of both
 pub data Outcome : Type 0 where
   gives : Reading → Outcome
   says : Fault → Outcome
   finds : Pair → Outcome
+  stands : Bool → Reading → Reading → Outcome
 
 abbrev pub answerOf : Question → Outcome
 answerOf (reading t) = gives (readPath t)
 answerOf (checking r s) = says (faultOf r s)
 answerOf (seeking c ks) = finds (oldestIn c (map (λ k. (k, [])) ks))
 answerOf (keying m t) = says (record { refusal = keyAnswer (keyFor m t) .refusal; place = 0 })
+answerOf (standing t u) = stands (startsWith (t ++ bytes "/") u) (readPath t) (readPath u)
 
 pub record Case : Type 0 where
   pub question : Question
@@ -67,8 +72,23 @@ seek c ks p = record { question = seeking c ks; outcome = finds p }
 abbrev key : Manner → List ℕ → ℕ → Case
 key m t n = record { question = keying m t; outcome = says (record { refusal = n; place = 0 }) }
 
+-- the path p, of the text t, stands above q, of the text u, and both are exact
+abbrev above : List ℕ → Path → List ℕ → Path → Case
+above t p u q = record { question = standing t u; outcome = stands true (Read p true) (Read q true) }
+
 abbrev at : ℕ → ℕ → Place
 at s n = record { start = s; len = n }
+
+-- what a consensus state of the client at 8, of 15 bytes, carries
+abbrev state : ℕ → ℕ → ConsensusPlaces
+state m h = record { client = at 8 15; number = record { 0 = m }; height = record { 0 = h } }
+
+-- the upgrade paths of height 5 whose U is the first n bytes of the text
+abbrev client5 : ℕ → Path
+client5 n = UpgradeClientState (record { upgrade = at 0 n; height = record { 0 = 5 } })
+
+abbrev state5 : ℕ → Path
+state5 n = UpgradeConsensusState (record { upgrade = at 0 n; height = record { 0 = 5 } })
 
 abbrev pub cases : List Case
 cases =
@@ -135,6 +155,26 @@ cases =
     ∷ key Plain (replicate 256 117 ++ bytes "/05/upgradedClient") 20
     ∷ key Lenient (replicate 256 117 ++ bytes "/05/upgradedClient") 10
     ∷ key Plain (replicate 256 117 ++ bytes "/5/upgradedClient") 10
+    -- below a consensus state its processed time and height, and no other state that its text begins
+    ∷ above (bytes "clients/07-tendermint-4/consensusStates/7-2") (ClientConsensusState (state 7 2)) (bytes "clients/07-tendermint-4/consensusStates/7-2/processedTime") (ClientUpdateTime (state 7 2))
+    ∷ above (bytes "clients/07-tendermint-4/consensusStates/7-2") (ClientConsensusState (state 7 2)) (bytes "clients/07-tendermint-4/consensusStates/7-2/processedHeight") (ClientUpdateHeight (state 7 2))
+    ∷ record { question = standing (bytes "clients/07-tendermint-4/consensusStates/7-2") (bytes "clients/07-tendermint-4/consensusStates/7-20"); outcome = stands false (Read (ClientConsensusState (state 7 2)) true) (Read (ClientConsensusState (state 7 20)) true) }
+    -- the kinds that stand above an upgrade path, above one of each kind
+    ∷ above (bytes "nextClientSequence") (NextClientSequence (record {})) (bytes "nextClientSequence/5/upgradedClient") (client5 18)
+    ∷ above (bytes "nextClientSequence") (NextClientSequence (record {})) (bytes "nextClientSequence/5/upgradedConsState") (state5 18)
+    ∷ above (bytes "nextConnectionSequence") (NextConnectionSequence (record {})) (bytes "nextConnectionSequence/5/upgradedClient") (client5 22)
+    ∷ above (bytes "nextConnectionSequence") (NextConnectionSequence (record {})) (bytes "nextConnectionSequence/5/upgradedConsState") (state5 22)
+    ∷ above (bytes "nextChannelSequence") (NextChannelSequence (record {})) (bytes "nextChannelSequence/5/upgradedClient") (client5 19)
+    ∷ above (bytes "nextChannelSequence") (NextChannelSequence (record {})) (bytes "nextChannelSequence/5/upgradedConsState") (state5 19)
+    ∷ above (bytes "ports/55") (Ports (record { port = at 6 2 })) (bytes "ports/55/upgradedClient") (UpgradeClientState (record { upgrade = at 0 5; height = record { 0 = 55 } }))
+    ∷ above (bytes "ports/55") (Ports (record { port = at 6 2 })) (bytes "ports/55/upgradedConsState") (UpgradeConsensusState (record { upgrade = at 0 5; height = record { 0 = 55 } }))
+    -- no others: a port of other spelling stands above a loose text, and one byte is no port
+    ∷ record { question = standing (bytes "ports/055") (bytes "ports/055/upgradedClient"); outcome = stands true (Read (Ports (record { port = at 6 3 })) true) (Read (UpgradeClientState (record { upgrade = at 0 5; height = record { 0 = 55 } })) false) }
+    ∷ record { question = standing (bytes "ports/5") (bytes "ports/5/upgradedClient"); outcome = stands true (Refused NotAPath) (Read (UpgradeClientState (record { upgrade = at 0 5; height = record { 0 = 5 } })) true) }
+    ∷ record { question = standing (bytes "connections/connection-3") (bytes "connections/connection-3/upgradedClient"); outcome = stands true (Read (Connection (record { connection = at 12 12 })) true) (Refused (NotADigit 12)) }
+    -- what comes between `ports/55` and what lies below it in key order, and the same of a counter
+    ∷ read (bytes "ports/55+a") (Read (Ports (record { port = at 6 4 })) true)
+    ∷ read (bytes "nextClientSequence./5/upgradedClient") (Read (client5 19) true)
     ∷ []
 
 pub cases-hold : map (λ c. answerOf (c .question)) cases ≡ map (λ c. c .outcome) cases

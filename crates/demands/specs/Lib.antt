@@ -19,6 +19,10 @@ pub mod Scanned
 pub mod IterationLaws
 pub mod Iteration
 pub mod Cases
+pub mod Above
+pub mod BelowLaws
+pub mod NeighbourLaws
+pub mod Below
 pub mod Held
 pub mod HeldLaws
 pub mod Refusals
