@@ -1,3 +1,2 @@
--- `Steps` has what the cases of an answer tell; `Unique`: the contract leaves one outcome.
-pub mod Steps
+-- `Unique`: the contract leaves one outcome.
 pub mod Unique

@@ -1,12 +1,8 @@
--- The contract of each public function, as the source has it, leaves one result.
+-- The contract, as the source has it, leaves one result.
 -- Assumes nothing.
 use mathlib.Core.Path.{sym, _∙_}
 use Rattle.text.specs.Outcome.{One}
-use Rattle.parse.proofs.number_fault.Reads as number-fault
 use Rattle.parse.proofs.parse_path.Reads as parse-path
 
 pub one-parse-path : One parse-path.Post
 one-parse-path κs a r₁ r₂ s₁ s₂ p q = p ∙ sym q
-
-pub one-number-fault : One number-fault.Post
-one-number-fault κs a r₁ r₂ s₁ s₂ p q = p ∙ sym q

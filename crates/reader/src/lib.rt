@@ -60,7 +60,7 @@ fn fault(text: &[u8]) -> Refusal
     ensures { λ r. ⌜ r ≡ cond (ascii (now (text .entry))) (whyNot (now (text .entry))) NotAscii ⌝ }
 {
     if text::part::all_ascii(text) {
-        parse::number_fault(text)
+        faults::number_fault(text)
     } else {
         Refusal::NotAscii
     }

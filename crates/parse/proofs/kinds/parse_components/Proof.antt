@@ -4,10 +4,10 @@ use mathlib.Core.Path.{sym, _∙_}
 use mathlib.Core.List.{[], _∷_}
 use lib.Dec.{lit<}
 use borrow.Author.Tests.{not-true, not-false}
-use Rattle.parse.specs.CutLaws.{cut-components}
+use Rattle.pieces.specs.CutLaws.{cut-components}
 use Rattle.path.specs.AsciiLaws.{none-high, upgrades-low}
 use Rattle.path.specs.Kinds.{kind4, kind6, kind7, kind8, kind9, kind10, kind11, kind12, kind13, kind14, kind18, kind19}
-use Rattle.parse.specs.CountLaws.{groups, read-all, read-only, read-first, read-second, read-none, no-port, no-connection, no-ends, no-update}
+use Rattle.pieces.specs.CountLaws.{groups, read-all, read-only, read-first, read-second, read-none, no-port, no-connection, no-ends, no-update}
 use borrow.Author.Needs.{needs}
 use Rattle.parse.proofs.kinds.parse_components.Statement.{statement}
 use Rattle.parse.proofs.kinds.parse_components.Tie as tie

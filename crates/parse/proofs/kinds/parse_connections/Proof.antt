@@ -4,11 +4,11 @@ use mathlib.Core.Path.{sym, _∙_}
 use mathlib.Core.Bool.{and-false}
 use lib.Dec.{lit<}
 use Rattle.text.specs.Bytes.{bytes}
-use Rattle.parse.specs.CutLaws.{cut-components}
+use Rattle.pieces.specs.CutLaws.{cut-components}
 use Rattle.path.specs.declared.name.Name.the-variants.{Connection as connection}
 use Rattle.path.specs.Read.{fitsKind, readKind, readFirst}
-use Rattle.parse.specs.Pieces.{placeAfter, placeParts}
-use Rattle.parse.specs.FitLaws.{no-run, is-run, placeAnswers}
+use Rattle.pieces.specs.Pieces.{placeAfter, placeParts}
+use Rattle.pieces.specs.FitLaws.{no-run, is-run, placeAnswers}
 use borrow.Author.Needs.{needs}
 use Rattle.parse.proofs.kinds.parse_connections.Statement.{statement}
 use Rattle.parse.proofs.kinds.parse_connections.Tie as tie

@@ -2,9 +2,9 @@
 -- Assumes nothing.
 use mathlib.Core.Bool.{true, false, and-false}
 use lib.Dec.{lit<}
-use Rattle.parse.specs.CutLaws.{cut-components}
+use Rattle.pieces.specs.CutLaws.{cut-components}
 use Rattle.path.specs.Read.{fitsKind, readKind, readFirst}
-use Rattle.parse.specs.FitLaws.{word-if}
+use Rattle.pieces.specs.FitLaws.{word-if}
 use borrow.Author.Needs.{needs}
 use Rattle.parse.proofs.kinds.parse_next_sequence.Statement.{statement}
 use Rattle.parse.proofs.kinds.parse_next_sequence.Tie as tie

@@ -3,10 +3,10 @@
 use mathlib.Core.Path.{sym, _∙_}
 use mathlib.Core.Bool.{true, false, and-false}
 use lib.Dec.{lit<}
-use Rattle.parse.specs.CutLaws.{cut-components}
+use Rattle.pieces.specs.CutLaws.{cut-components}
 use Rattle.path.specs.Read.{fitsKind, readKind, readFirst}
-use Rattle.parse.specs.Pieces.{consensusIn, consensusParts}
-use Rattle.parse.specs.FitLaws.{no-run, is-run, consensusAnswers, word-if}
+use Rattle.pieces.specs.Pieces.{consensusIn, consensusParts}
+use Rattle.pieces.specs.FitLaws.{no-run, is-run, consensusAnswers, word-if}
 use borrow.Author.Needs.{needs}
 use Rattle.parse.proofs.kinds.parse_updates.Statement.{statement}
 use Rattle.parse.proofs.kinds.parse_updates.Tie as tie

@@ -5,11 +5,11 @@ use mathlib.Core.Bool.{true, false, and-false}
 use lib.Dec.{lit<}
 use mathlib.Core.List.{[], _∷_}
 use Rattle.parse.specs.UpgradeLaws.{upgrade-fits}
-use Rattle.parse.specs.CutLaws.{cut-components}
+use Rattle.pieces.specs.CutLaws.{cut-components}
 use Rattle.path.specs.Kinds.{count}
 use Rattle.path.specs.Read.{fitsKind, readKind, readFirst}
-use Rattle.parse.specs.Pieces.{heightAt}
-use Rattle.parse.specs.FitLaws.{no-run, is-run, heightAnswers, word-if}
+use Rattle.pieces.specs.Pieces.{heightAt}
+use Rattle.pieces.specs.FitLaws.{no-run, is-run, heightAnswers, word-if}
 use borrow.Author.Needs.{needs}
 use Rattle.parse.proofs.kinds.parse_upgrades.Statement.{statement}
 use Rattle.parse.proofs.kinds.parse_upgrades.Tie as tie
