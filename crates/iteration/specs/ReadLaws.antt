@@ -8,11 +8,11 @@ use Prim.Native.Nat.{ℕ, zero, suc, _+_, _^_, _≤_, _<_}
 use native.Mathlib.Omega.{arith}
 use lib.Dec.{eqb}
 use lib.ListN.{length, take, drop, length-append, length-take, length-drop}
-use lib.Seq.{take-take, take-all, take-add, drop-drop, getD-drop}
+use lib.Seq.{take-take, take-all, take-add, drop-drop}
 use borrow.Author.Tests.{eq-eqb, ne-eqb, eqb-true, not-true, not-false}
 use Rattle.text.specs.Bytes.{bytes}
 use Rattle.text.specs.Number.{bigEndian, bigAt, Bytes}
-use Rattle.text.specs.NumberLaws.{length-big, big-at, big-forth, big-below}
+use Rattle.text.specs.NumberLaws.{length-big, big-at, big-there, big-within}
 use Rattle.text.specs.Part.{startsWith}
 use Rattle.text.specs.PartLaws.{and-left, and-right}
 use Rattle.iteration.specs.declared.Revision.{Revision}
@@ -89,15 +89,6 @@ read-written n h p q =
     rw (eq-eqb (length k) 38 (key-length n h), starts-self word (bigEndian 8 n ++ bigEndian 8 h), e₁, e₂)
 
 -- ---- what was read is written
-pub bytes-take : (n : ℕ) (s : List ℕ) → Bytes s → Bytes (take n s)
-bytes-take zero s h i = omega arith
-bytes-take (suc n) [] h i = omega arith
-bytes-take (suc n) (x ∷ s) h zero = h 0
-bytes-take (suc n) (x ∷ s) h (suc i) = bytes-take n s (λ j. h (suc j)) i
-
-pub bytes-drop : (n : ℕ) (s : List ℕ) → Bytes s → Bytes (drop n s)
-bytes-drop n s h i = rw getD-drop (h (n + i))
-
 pub starts-is : (w s : List ℕ) → startsWith w s ≡ true → w ++ drop (length w) s ≡ s
 unfolding startsWith
 starts-is [] s h = refl
@@ -121,17 +112,6 @@ key-reads k p e = go (eqb (length k) 38) refl (startsWith word k) refl e
     go true x false y q = let z : _≡_ {A = ℕ} 0 1 = cc in absurd (omega arith)
     go false x b y q = let z : _≡_ {A = ℕ} 0 1 = cc in absurd (omega arith)
 
--- eight bytes of a text are those of the number that they are
-eight : (at : ℕ) (k : List ℕ) → Bytes k → at + 8 ≤ length k → bigEndian 8 (bigAt at 8 k) ≡ take 8 (drop at k)
-eight at k b h =
-    let l : length (take 8 (drop at k)) ≡ 8 = simp (length-take, length-drop) (omega arith) in
-    rw l at (big-forth (take 8 (drop at k)) (bytes-take 8 (drop at k) (bytes-drop at k b)))
-
-number-fits : (at : ℕ) (k : List ℕ) → Bytes k → at + 8 ≤ length k → bigAt at 8 k < 2 ^ 64
-number-fits at k b h =
-    let l : length (take 8 (drop at k)) ≡ 8 = simp (length-take, length-drop) (omega arith) in
-    rw l at (big-below (take 8 (drop at k)) (bytes-take 8 (drop at k) (bytes-drop at k b)))
-
 pub written-read : (k : List ℕ) (p : Revision) → Bytes k → keyIn k ≡ some p → iterationKey (p .number .0) (p .height .0) ≡ k
 unfolding iterationKey
 written-read k p b e =
@@ -139,8 +119,8 @@ written-read k p b e =
     let t : List ℕ = drop 22 k in
     let whole : take 8 t ++ take 8 (drop 30 k) ≡ t =
     rw (← drop-drop 8 22 k, ← take-add 8 8 t) (take-all 16 t (rw length-drop (omega (arith, r .size)))) in
-    rw (r .carries, eight 22 k b (omega (arith, r .size)), eight 30 k b (omega (arith, r .size)), whole) (starts-is word k (r .starts))
+    rw (r .carries, big-there 22 8 k b (omega (arith, r .size)), big-there 30 8 k b (omega (arith, r .size)), whole) (starts-is word k (r .starts))
 
 -- the counts that are read fit a u64
 pub key-counted : (k : List ℕ) (p : Revision) → Bytes k → keyIn k ≡ some p → (p .number .0 < 2 ^ 64) × (p .height .0 < 2 ^ 64)
-key-counted k p b e = let r = key-reads k p e in rw (r .carries) (number-fits 22 k b (omega (arith, r .size)), number-fits 30 k b (omega (arith, r .size)))
+key-counted k p b e = let r = key-reads k p e in rw (r .carries) (big-within 22 8 k b (omega (arith, r .size)), big-within 30 8 k b (omega (arith, r .size)))

@@ -12,6 +12,7 @@ use lib.ListN.{length, take, drop, length-append, length-drop, take-append-drop}
 use lib.Seq.{take-at, drop-at}
 use borrow.Author.Tests.{eq-eqb}
 use Rattle.text.specs.Number.{Bytes}
+use Rattle.text.specs.NumberLaws.{bytes-take, bytes-drop}
 use Rattle.text.specs.Order.{then, cmp, Before}
 use Rattle.text.specs.OrderLaws.{Tri, tri, compare-lt, compare-gt, compare-same}
 use Rattle.text.specs.OrderLaws as laws
@@ -19,7 +20,7 @@ use Rattle.text.specs.PartLaws.{and-left, and-right}
 use Rattle.iteration.specs.declared.Revision.{Revision}
 use Rattle.iteration.specs.Key.{iterationKey, keyIn}
 use Rattle.iteration.specs.KeyLaws.{key-length, key-compare}
-use Rattle.iteration.specs.ReadLaws.{read-written, written-read, key-counted, bytes-take, bytes-drop}
+use Rattle.iteration.specs.ReadLaws.{read-written, written-read, key-counted}
 use Rattle.iteration.specs.Block.{below, follows, rising, onto, keysIn, blockOf, firstAbove, orElse, lastBelow, Among, Nearest, Counted, keysOf}
 use Rattle.iteration.specs.BlockLaws.{below-is, is-below, below-trans, parts}
 

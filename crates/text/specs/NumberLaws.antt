@@ -9,8 +9,8 @@ use native.Mathlib.Numerals.{add-one}
 use native.Mathlib.Omega.{arith}
 use mathlib.Core.List.{List, [], _∷_, _++_, append-assoc, append-nil}
 use lib.Dec.{ltb, leb, eqb}
-use lib.ListN.{length, take, drop, getD, length-append, List·getD-append}
-use lib.Seq.{getD-at, drop-cons, take-at, drop-at}
+use lib.ListN.{length, take, drop, getD, length-append, length-take, length-drop, List·getD-append}
+use lib.Seq.{getD-at, getD-drop, drop-cons, take-at, drop-at}
 use borrow.Author.Tests.{lt-ltb, le-ltb, le-leb, lt-leb, ne-eqb, ltb-true, leb-true}
 use Rattle.text.specs.PartLaws.{and-left, and-right}
 use Rattle.text.specs.Number.{numeralOf, digitsAt, digitsFrom, isDigit, withDigit, width, widthBy, digits, decimal, bigEndian, lowBytes, bigFrom, bigAt, Bytes}
@@ -274,6 +274,26 @@ big-fits k v (b ∷ s) h l =
 
 pub big-below : (s : List ℕ) → Bytes s → bigFrom 0 s < 256 ^ length s
 big-below s h = rw zero-add at (big-fits 0 0 s h (omega arith))
+
+-- both of n bytes that stand in a text
+pub bytes-take : (n : ℕ) (s : List ℕ) → Bytes s → Bytes (take n s)
+bytes-take zero s h i = omega arith
+bytes-take (suc n) [] h i = omega arith
+bytes-take (suc n) (x ∷ s) h zero = h 0
+bytes-take (suc n) (x ∷ s) h (suc i) = bytes-take n s (λ j. h (suc j)) i
+
+pub bytes-drop : (n : ℕ) (s : List ℕ) → Bytes s → Bytes (drop n s)
+bytes-drop n s h i = rw getD-drop (h (n + i))
+
+module _ (at n : ℕ) (s : List ℕ) (b : Bytes s) (h : at + n ≤ length s) where
+  there : length (take n (drop at s)) ≡ n
+  there = simp (length-take, length-drop) (omega arith)
+
+  pub big-there : bigEndian n (bigAt at n s) ≡ take n (drop at s)
+  big-there = rw there at (big-forth (take n (drop at s)) (bytes-take n (drop at s) (bytes-drop at s b)))
+
+  pub big-within : bigAt at n s < 256 ^ n
+  big-within = rw there at (big-below (take n (drop at s)) (bytes-take n (drop at s) (bytes-drop at s b)))
 
 -- one turn of a loop that reads n bytes from place p on
 pub big-none : (v n p : ℕ) (s : List ℕ) → n ≡ 0 → bigFrom v (take n (drop p s)) ≡ v
