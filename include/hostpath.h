@@ -58,16 +58,24 @@ enum hp_kind {
  *    18, 19      upgrade path U                height n
  */
 
+/* The kinds of packet key of IBC version 2, by their marker bytes. */
+enum hp_packet_kind {
+    HP_PACKET_COMMITMENT = 1,
+    HP_PACKET_RECEIPT = 2,
+    HP_PACKET_ACKNOWLEDGEMENT = 3
+};
+
 /* Sizes in bytes, and of a book in slots. */
 enum {
-    HP_READING = 26,       /* a reading */
-    HP_ITERATION_KEY = 38, /* an iteration key */
-    HP_PATH_MOST = 4096,   /* the longest text of a path, and the longest rendering */
-    HP_BOOK_HEAD = 8,      /* what stands before a book's slots */
-    HP_BOOK_SLOT = 321,    /* a slot: HP_BOOK_KEY, HP_BOOK_VALUE and the lengths of both */
-    HP_BOOK_KEY = 255,     /* the longest key */
-    HP_BOOK_VALUE = 64,    /* the longest value; the shortest has one byte */
-    HP_BOOK_MOST = 200     /* the slots of the largest book; the smallest has one */
+    HP_READING = 26,         /* a reading */
+    HP_ITERATION_KEY = 38,   /* an iteration key */
+    HP_PACKET_KEY_MOST = 73, /* the longest packet key */
+    HP_PATH_MOST = 4096,     /* the longest text of a path, and the longest rendering */
+    HP_BOOK_HEAD = 8,        /* what stands before a book's slots */
+    HP_BOOK_SLOT = 321,      /* a slot: HP_BOOK_KEY, HP_BOOK_VALUE and the lengths of both */
+    HP_BOOK_KEY = 255,       /* the longest key */
+    HP_BOOK_VALUE = 64,      /* the longest value; the shortest has one byte */
+    HP_BOOK_MOST = 200       /* the slots of the largest book; the smallest has one */
 };
 
 /* A book of so many slots is a buffer of this size.
@@ -120,7 +128,9 @@ enum hp_refusal {
     /* the number is above 18446744073709551615: write a smaller one */
     HP_TOO_LARGE = 19,
     /* a number of the text has a plus or leading zeros, so it is not its own key: give its key, or make the lenient call */
-    HP_LOOSE = 20
+    HP_LOOSE = 20,
+    /* the bytes are not a client, a marker of 1, 2 or 3 and 8 more, or the kind is not one of these: give a whole packet key */
+    HP_BAD_V2_KEY = 24
     /* Above, made by bin/interface. */
 };
 
@@ -132,6 +142,7 @@ struct hp_fault { uint8_t refusal; uint64_t place; };
 struct hp_written { uint8_t refusal; uint64_t length; };
 struct hp_flag { uint8_t refusal; uint8_t value; };
 struct hp_pair { uint8_t refusal; uint64_t number; uint64_t height; };
+struct hp_packet { uint8_t refusal; uint8_t kind; uint64_t length; uint64_t sequence; };
 /* Above, made by bin/interface. */
 
 /* Below, made by bin/interface: calls in c. */
@@ -188,6 +199,16 @@ struct hp_pair hp_read_iteration_key(const uint8_t *key, size_t key_len);
 struct hp_pair hp_first_above(const uint8_t *block, size_t block_len, uint64_t number, uint64_t height);
 /* The last key below number and height in such a block: 16, 12. */
 struct hp_pair hp_last_below(const uint8_t *block, size_t block_len, uint64_t number, uint64_t height);
+
+/* Packet keys of IBC version 2, which no book takes. */
+
+/* What a packet key says: its kind, 1 commitments, 2 receipts, 3 acknowledgements; how many of its first bytes are the
+ * client; its sequence. The last nine bytes are cut off first. 24 for fewer than nine, or for another marker: 24, the
+ * client's 2, 5, 6. */
+struct hp_packet hp_v2_read(const uint8_t *key, size_t key_len);
+/* The client, the kind's marker byte, and the sequence in 8 bytes, high byte first. 24 for a kind that is not 1, 2 or 3:
+ * 24, the client's 2, 5, 6; then 4. */
+struct hp_written hp_v2_write(uint8_t kind, const uint8_t *client, size_t client_len, uint64_t sequence, uint8_t *out, size_t out_len);
 
 /* Texts above and below a path. */
 

@@ -29,6 +29,14 @@ struct hp_pair hp_last_below(const uint8_t *block, size_t block_len, uint64_t nu
     return answer;
 }
 
+void inner_hp_v2_read(struct hp_packet *answer, const uint8_t *key, size_t key_len);
+
+struct hp_packet hp_v2_read(const uint8_t *key, size_t key_len) {
+    struct hp_packet answer;
+    inner_hp_v2_read(&answer, key, key_len);
+    return answer;
+}
+
 void inner_hp_book_oldest(struct hp_pair *answer, const uint8_t *book, size_t book_len, const uint8_t *client, size_t client_len);
 
 struct hp_pair hp_book_oldest(const uint8_t *book, size_t book_len, const uint8_t *client, size_t client_len) {

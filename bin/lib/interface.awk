@@ -33,7 +33,7 @@ END { if (!status && (making || !places)) fault(FILENAME " has no place for what
 FNR == 1 { said = ""; source = FILENAME ~ /hostpath\/src\/lib\.rt$/ }
 
 # A comment's lines wait for what stands below them; one above an empty line is a heading.
-source && /^\/\/ [A-Z][A-Z_]*: / {
+source && /^\/\/ [A-Z][A-Z0-9_]*: / {
     at = index($0, ": ")
     sentence[substr($0, 4, at - 4)] = substr($0, at + 2)
     next

@@ -28,6 +28,8 @@ use Rattle.hostpath.proofs.hp_iteration_key.Reads as hp-iteration-key
 use Rattle.hostpath.proofs.hp_read_iteration_key.Reads as hp-read-iteration-key
 use Rattle.hostpath.proofs.hp_first_above.Reads as hp-first-above
 use Rattle.hostpath.proofs.hp_last_below.Reads as hp-last-below
+use Rattle.hostpath.proofs.hp_v2_read.Reads as hp-v2-read
+use Rattle.hostpath.proofs.hp_v2_write.Reads as hp-v2-write
 use Rattle.hostpath.proofs.hp_client_state_prefix.Reads as hp-client-state-prefix
 use Rattle.hostpath.proofs.hp_client_state_leaf.Reads as hp-client-state-leaf
 use Rattle.hostpath.proofs.hp_consensus_state_parent.Reads as hp-consensus-state-parent
@@ -108,6 +110,12 @@ one-hp-first-above κs a r₁ r₂ s₁ s₂ p q = p ∙ sym q
 
 pub one-hp-last-below : One hp-last-below.Post
 one-hp-last-below κs a r₁ r₂ s₁ s₂ p q = p ∙ sym q
+
+pub one-hp-v2-read : One hp-v2-read.Post
+one-hp-v2-read κs a r₁ r₂ s₁ s₂ p q = p ∙ sym q
+
+pub one-hp-v2-write : OneWith hp-v2-write.Post (λ κs s. now (s .1 .1 .1 .0))
+one-hp-v2-write κs a r₁ r₂ s₁ s₂ p q = agree p q
 
 pub one-hp-client-state-prefix : OneWith hp-client-state-prefix.Post (λ κs s. now (s .0))
 one-hp-client-state-prefix κs a r₁ r₂ s₁ s₂ p q = agree p q

@@ -21,14 +21,17 @@
 // NOT_A_DIGIT: a byte of the number is no digit: write it in the digits 0 to 9 alone
 // TOO_LARGE: the number is above 18446744073709551615: write a smaller one
 // LOOSE: a number of the text has a plus or leading zeros, so it is not its own key: give its key, or make the lenient call
+// BAD_V2_KEY: the bytes are not a client, a marker of 1, 2 or 3 and 8 more, or the kind is not one of these: give a whole packet key
 use identifiers::channel_id::write_channel_id;
 use identifiers::client_id::write_client_id;
 use identifiers::validate;
 use iteration::Revision;
 use keys::Manner;
+use packet::Packet;
 use path::Pair;
 use path::RevisionHeight;
 use path::RevisionNumber;
+use path::Sequence;
 use path::provable::Flag;
 use text::Fault;
 use text::Written;
@@ -46,6 +49,7 @@ ghost use Rattle.path.specs.Read.{readingBytes, readFault, keyOf, renderOf};
 ghost use Rattle.path.specs.View.{provableFlag};
 ghost use Rattle.iteration.specs.Block.{blockOf, firstAbove, lastBelow, scanned};
 ghost use Rattle.iteration.specs.Key.{iterationKey, revision, keyIn, answered, pairOf};
+ghost use Rattle.packet.specs.Key.{packetIn, packetOf, packetWanted};
 ghost use Rattle.keys.specs.declared.Manner.the-variants.{Plain, Lenient};
 ghost use Rattle.book.specs.Book.{Current};
 ghost use Rattle.book.specs.Outcome.{Wrote, Removed, Looked, Made};
@@ -235,6 +239,28 @@ pub extern "C" fn hp_last_below(block: &[u8], number: u64, height: u64) -> Pair
         height: RevisionHeight(height),
     };
     iteration::pair_of(iteration::block::last_below(block, pair))
+}
+
+// Packet keys of IBC version 2, which no book takes.
+
+// What a packet key says: its kind, 1 commitments, 2 receipts, 3 acknowledgements; how many of its first bytes are the
+// client; its sequence. The last nine bytes are cut off first. 24 for fewer than nine, or for another marker: 24, the
+// client's 2, 5, 6.
+#[no_mangle]
+pub extern "C" fn hp_v2_read(key: &[u8]) -> Packet
+    ensures { λ r. ⌜ r ≡ packetOf (packetIn (now (key .entry))) ⌝ }
+{
+    packet::packet_of(packet::read_packet_key(key))
+}
+
+// The client, the kind's marker byte, and the sequence in 8 bytes, high byte first. 24 for a kind that is not 1, 2 or 3:
+// 24, the client's 2, 5, 6; then 4.
+#[no_mangle]
+pub extern "C" fn hp_v2_write(kind: u8, client: &[u8], sequence: u64, out: &mut [u8]) -> Written
+    ensures { λ r. ⌜ r ≡ answer (packetWanted kind (now (client .entry)) sequence) (length (now (out .entry))) ⌝ }
+    ensures { λ _. ⌜ now (out .exit) ≡ left (packetWanted kind (now (client .entry)) sequence) (now (out .entry)) ⌝ }
+{
+    packet::write_packet_key(kind, client, Sequence(sequence), out)
 }
 
 // Texts above and below a path.

@@ -78,3 +78,7 @@ tooLarge = 19
 -- a text that is not its own key, in a plain call
 abbrev pub loose : ℕ
 loose = 20
+
+-- a text that is no packet key of IBC version 2, or a kind of which there is none
+abbrev pub badV2Key : ℕ
+badV2Key = 24

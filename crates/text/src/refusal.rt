@@ -38,3 +38,5 @@ pub const NOT_A_DIGIT: u8 = 18;
 pub const TOO_LARGE: u8 = 19;
 
 pub const LOOSE: u8 = 20;
+
+pub const BAD_V2_KEY: u8 = 24;

@@ -50,6 +50,21 @@ pub struct Pair {
     /// 0 where the call is refused.
     pub height: u64,
 }
+
+/// What a call answers.
+#[repr(C)]
+#[derive(Clone, Copy, Debug, PartialEq, Eq)]
+#[must_use]
+pub struct Packet {
+    /// A refusal's number, or 0.
+    pub refusal: u8,
+    /// 0 where the call is refused.
+    pub kind: u8,
+    /// 0 where the call is refused.
+    pub length: u64,
+    /// 0 where the call is refused.
+    pub sequence: u64,
+}
 // Above, made by bin/interface.
 
 /// The calls as C has them: a text or a buffer is a pointer and a count of bytes.
@@ -96,6 +111,10 @@ pub mod c {
         pub fn hp_first_above(block: *const u8, block_len: usize, number: u64, height: u64) -> Pair;
         /// [`last_below`] on pointers.
         pub fn hp_last_below(block: *const u8, block_len: usize, number: u64, height: u64) -> Pair;
+        /// [`v2_read`] on pointers.
+        pub fn hp_v2_read(key: *const u8, key_len: usize) -> Packet;
+        /// [`v2_write`] on pointers.
+        pub fn hp_v2_write(kind: u8, client: *const u8, client_len: usize, sequence: u64, out: *mut u8, out_len: usize) -> Written;
         /// [`client_state_prefix`] on pointers.
         pub fn hp_client_state_prefix(out: *mut u8, out_len: usize) -> Written;
         /// [`client_state_leaf`] on pointers.
@@ -266,6 +285,21 @@ pub fn first_above(block: &[u8], number: u64, height: u64) -> Pair {
 pub fn last_below(block: &[u8], number: u64, height: u64) -> Pair {
     // SAFETY: each pointer and count are those of one live slice.
     unsafe { c::hp_last_below(block.as_ptr(), block.len(), number, height) }
+}
+
+/// What a packet key says: its kind, 1 commitments, 2 receipts, 3 acknowledgements; how many of its first bytes are the
+/// client; its sequence. The last nine bytes are cut off first. 24 for fewer than nine, or for another marker: 24, the
+/// client's 2, 5, 6.
+pub fn v2_read(key: &[u8]) -> Packet {
+    // SAFETY: each pointer and count are those of one live slice.
+    unsafe { c::hp_v2_read(key.as_ptr(), key.len()) }
+}
+
+/// The client, the kind's marker byte, and the sequence in 8 bytes, high byte first. 24 for a kind that is not 1, 2 or 3:
+/// 24, the client's 2, 5, 6; then 4.
+pub fn v2_write(kind: u8, client: &[u8], sequence: u64, out: &mut [u8]) -> Written {
+    // SAFETY: each pointer and count are those of one live slice.
+    unsafe { c::hp_v2_write(kind, client.as_ptr(), client.len(), sequence, out.as_mut_ptr(), out.len()) }
 }
 
 /// `clients`: 4.
