@@ -125,7 +125,7 @@ DoesTo m (to-look room) b t a b₁ = LooksIn m b t room a × (b₁ ≡ b)
 abbrev pub Does : List ℕ → Call → Seen → List ℕ → Type 0
 Does b c a b₁ = DoesTo (c .manner) (c .asked) b (c .text) a b₁
 
-permits-to : (m : Manner) (q : Asked) (b t : List ℕ) (a : Seen) (b₁ : List ℕ) → DoesTo m q b t a b₁ → Permitted b (record { manner = m; text = t; asked = q }) a b₁
+pub permits-to : (m : Manner) (q : Asked) (b t : List ℕ) (a : Seen) (b₁ : List ℕ) → DoesTo m q b t a b₁ → Permitted b (record { manner = m; text = t; asked = q }) a b₁
 permits-to m (to-write v) b t a b₁ x = (wrote m b t v (a .number) b₁ (x .0), x .1)
 permits-to m to-remove b t a b₁ x = (removed m b t (a .number) b₁ (x .0), x .1)
 permits-to m (to-look room) b t a b₁ x =

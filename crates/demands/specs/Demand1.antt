@@ -19,9 +19,11 @@ use Rattle.keys.specs.declared.Manner.the-variants.{Plain, Lenient}
 use Rattle.keys.specs.Calls.{write, remove}
 use Rattle.iteration.specs.Block.{blockOf, firstAbove, lastBelow, scanned}
 use Rattle.iteration.specs.Key.{iterationKey, revision, keyIn, answered}
+use Rattle.packet.specs.Key.{packetWanted}
 use Rattle.demands.specs.Shape.{Listed, Demand1}
 use Rattle.demands.specs.ShapeLaws.{writes, writes-number, checks, readings, key-wants, reading-wants, renderings, render-wants, clients, client-wants, channel-wants, leaf-wants, update-wants, parent-wants, ends, packets-wants, plain-of, indexed-of, chars-number, length-number, prefix-number, named-index-number}
 use Rattle.demands.specs.IterationLaws.{pairs, key-refuses, scan-refuses}
+use Rattle.demands.specs.PacketLaws.{packetReads, packetWrites, packet-wants, packets}
 use Rattle.demands.specs.BookNumberLaws.{writeNumbers, removeNumbers, lookNumbers, write-listed, remove-listed, provable-demand, made-demand, changed-demand, found-demand, converted-demand, oldest-demand}
 use Rattle.hostpath.proofs.hp_client_id_new.Reads as hp-client-id-new
 use Rattle.hostpath.proofs.hp_channel_id_new.Reads as hp-channel-id-new
@@ -31,6 +33,8 @@ use Rattle.hostpath.proofs.hp_iteration_key.Reads as hp-iteration-key
 use Rattle.hostpath.proofs.hp_read_iteration_key.Reads as hp-read-iteration-key
 use Rattle.hostpath.proofs.hp_first_above.Reads as hp-first-above
 use Rattle.hostpath.proofs.hp_last_below.Reads as hp-last-below
+use Rattle.hostpath.proofs.hp_v2_read.Reads as hp-v2-read
+use Rattle.hostpath.proofs.hp_v2_write.Reads as hp-v2-write
 use Rattle.hostpath.proofs.hp_client_state_prefix.Reads as hp-client-state-prefix
 use Rattle.hostpath.proofs.hp_client_state_leaf.Reads as hp-client-state-leaf
 use Rattle.hostpath.proofs.hp_consensus_state_parent.Reads as hp-consensus-state-parent
@@ -69,6 +73,7 @@ use Rattle.render.proofs.render.Reads as render
 use Rattle.key.proofs.write_key.Reads as write-key
 use Rattle.reader.proofs.write_reading.Reads as write-reading
 use Rattle.iteration.proofs.iteration_key.Reads as iteration-key
+use Rattle.packet.proofs.write_packet_key.Reads as write-packet-key
 use Rattle.identifiers.proofs.client_id.write_client_id.Reads as write-client-id
 use Rattle.identifiers.proofs.channel_id.write_channel_id.Reads as write-channel-id
 use Rattle.render.proofs.texts.client_state_prefix.Reads as client-state-prefix
@@ -113,6 +118,9 @@ hp-render-holds = writes renderings _ _ (λ κs a. tt) (λ κs r. r) (λ κs a. 
 
 pub hp-iteration-key-holds : Demand1 hp-iteration-key.Pre hp-iteration-key.Post room (λ κs r. r .refusal) (λ κs r. r .length ∷ []) (λ κs a. now (a .1 .1 .0)) (λ κs s. now (s .1 .1 .0))
 hp-iteration-key-holds = writes room _ _ (λ κs a. tt) (λ κs r. r) (λ κs a. text (iterationKey (a .0) (a .1 .0))) refl refl (λ κs a. tt) (λ κs a r s p. p)
+
+pub hp-v2-write-holds : Demand1 hp-v2-write.Pre hp-v2-write.Post packetWrites (λ κs r. r .refusal) (λ κs r. r .length ∷ []) (λ κs a. now (a .1 .1 .1 .0)) (λ κs s. now (s .1 .1 .1 .0))
+hp-v2-write-holds = writes packetWrites _ _ (λ κs a. tt) (λ κs r. r) (λ κs a. packetWanted (a .0) (now (a .1 .0)) (a .1 .1 .0)) refl refl (λ κs a. packet-wants _ _ _) (λ κs a r s p. p)
 
 pub hp-client-state-prefix-holds : Demand1 hp-client-state-prefix.Pre hp-client-state-prefix.Post room (λ κs r. r .refusal) (λ κs r. r .length ∷ []) (λ κs a. now (a .0)) (λ κs s. now (s .0))
 hp-client-state-prefix-holds = writes room _ _ (λ κs a. tt) (λ κs r. r) (λ κs a. text (bytes "clients")) refl refl (λ κs a. tt) (λ κs a r s p. p)
@@ -232,6 +240,10 @@ hp-first-above-holds = pairs (16 ∷ 12 ∷ []) refl (λ κs a. tt) (λ κs r. r
 pub hp-last-below-holds : Demand1 hp-last-below.Pre hp-last-below.Post (16 ∷ 12 ∷ []) (λ κs r. r .refusal) (λ κs r. r .number ∷ r .height ∷ []) (λ κs a. []) (λ κs s. [])
 hp-last-below-holds = pairs (16 ∷ 12 ∷ []) refl (λ κs a. tt) (λ κs r. r) (λ κs a. scanned (lastBelow (revision (a .1 .0) (a .1 .1 .0))) (blockOf (now (a .0)))) (λ κs a. scan-refuses (lastBelow (revision (a .1 .0) (a .1 .1 .0))) (blockOf (now (a .0)))) (λ κs a r s p. p)
 
+-- ---- a call that answers a kind, a length and a sequence
+pub hp-v2-read-holds : Demand1 hp-v2-read.Pre hp-v2-read.Post packetReads (λ κs r. r .refusal) (λ κs r. r .kind ∷ r .length ∷ r .sequence ∷ []) (λ κs a. []) (λ κs s. [])
+hp-v2-read-holds = packets (λ κs a. tt) (λ κs r. r) (λ κs a. now (a .0)) (λ κs a r s p. p)
+
 -- ---- the functions that a Rattle caller writes with
 pub render-holds : Demand1 render.Pre render.Post renderings (λ κs r. r .refusal) (λ κs r. r .length ∷ []) (λ κs a. now (a .1 .1 .1 .1 .1 .0)) (λ κs s. now (s .1 .1 .1 .1 .1 .0))
 render-holds = writes renderings _ _ (λ κs a. tt) (λ κs r. r) (λ κs a. renderOf (a .0) (carried (now (a .1 .0)) (now (a .1 .1 .0)) (a .1 .1 .1 .0) (a .1 .1 .1 .1 .0))) refl refl (λ κs a. render-wants _ _) (λ κs a r s p. p)
@@ -245,6 +257,9 @@ write-reading-holds = writes-number readings _ _ (λ κs a. tt) (λ κs r. r .re
 
 pub iteration-key-holds : Demand1 iteration-key.Pre iteration-key.Post room (λ κs r. r .refusal) (λ κs r. r .length ∷ []) (λ κs a. now (a .1 .1 .0)) (λ κs s. now (s .1 .1 .0))
 iteration-key-holds = writes room _ _ (λ κs a. tt) (λ κs r. r) (λ κs a. text (iterationKey (a .0 .0) (a .1 .0 .0))) refl refl (λ κs a. tt) (λ κs a r s p. p)
+
+pub write-packet-key-holds : Demand1 write-packet-key.Pre write-packet-key.Post packetWrites (λ κs r. r .refusal) (λ κs r. r .length ∷ []) (λ κs a. now (a .1 .1 .1 .0)) (λ κs s. now (s .1 .1 .1 .0))
+write-packet-key-holds = writes packetWrites _ _ (λ κs a. tt) (λ κs r. r) (λ κs a. packetWanted (a .0) (now (a .1 .0)) (a .1 .1 .0 .0)) refl refl (λ κs a. packet-wants _ _ _) (λ κs a r s p. p)
 
 pub write-client-id-holds : Demand1 write-client-id.Pre write-client-id.Post clients (λ κs r. r .refusal) (λ κs r. r .length ∷ []) (λ κs a. now (a .1 .1 .0)) (λ κs s. now (s .1 .1 .0))
 write-client-id-holds = writes clients _ _ (λ κs a. tt) (λ κs r. r) (λ κs a. newClient (now (a .0)) (a .1 .0)) refl refl (λ κs a. client-wants _ _) (λ κs a r s p. p)

@@ -1,7 +1,9 @@
 -- The demands as theorems over the contracts that the sources have. Demand 1 is `Demand1`, by `Shape`; demand 2 is `Demand2`, in the words of
 -- `PathCalls`, `Told` and `Written`; what the place of a bad number tells, request L3, is in `Faults`; the keys of request L1 are in `Iteration`,
 -- in the words of `KeyCalls` and `Scanned`; demand 3 is `Demand3`, in the words of `Held`, `Refusals` and `BookCalls`; what plain and lenient calls
--- share, request L6, is in `Manners`; what lies below a path, request L12, is `Below`, in the words of `Above`; `Useless` shows which line each useless book breaks. Files that end in `Laws` may be skipped.
+-- share, request L6, is in `Manners`; the packet keys of request L11 are in `Packets`, in the words of `PacketCalls` and `Packeted`; what lies
+-- below a path, request L12, is `Below`, in the words of `Above`; `Useless` shows which line each useless book breaks. Files that end in `Laws` may
+-- be skipped.
 pub mod Shape
 pub mod ShapeLaws
 pub mod KeepsLaws
@@ -37,6 +39,10 @@ pub mod Useless
 pub mod BookCalls
 pub mod ExistsLaws
 pub mod Manners
+pub mod PacketCalls
+pub mod Packeted
+pub mod PacketLaws
+pub mod Packets
 pub mod OldestCall
 pub mod OldestCallLaws
 pub mod ConvertCall

@@ -173,7 +173,7 @@ module _ (P : ℕ → Type 0) (zero : P 0) where
       both-of (unless 2 (ascii s)) (first (unless 2 (ascii n)) (namedOf n s)) (one-of 2 (ascii s) two) (both-of (unless 2 (ascii n)) (namedOf n s) (one-of 2 (ascii n) two) (named-number seven none other large n s))
 
 -- ---- what is wanted
-accepted-wants : (ns : List ℕ) (n : ℕ) (w : List ℕ) → Listed ns n → Wants ns (accepted n w)
+pub accepted-wants : (ns : List ℕ) (n : ℕ) (w : List ℕ) → Listed ns n → Wants ns (accepted n w)
 accepted-wants ns n w h = go (eqb n 0)
   where
     go : (b : Bool) → Wants ns (cond b (text w) (refused n))
