@@ -1,7 +1,7 @@
 //! Calls that wait to be answered together, and what document 01 expects of each.
 use std::fmt::{self, Display, Formatter};
 
-use hostpath::raw::{self, Flag, Pair, Written};
+use hostpath::raw::{self, Flag, Packet, Pair, Written};
 use model::Fault;
 
 use crate::call::{Call, Function};
@@ -10,24 +10,24 @@ use crate::call::{Call, Function};
 pub const WATCH: u8 = 0xa5;
 pub const GUARD: usize = 8;
 
-/// What stands in a reply before the lent buffers: the refusal and two numbers.
-pub const HEAD: usize = 17;
+/// What stands in a reply before the lent buffers: the refusal and three numbers.
+pub const HEAD: usize = 25;
 
-/// What a call returns: refusal, and a length or value, or a pair of numbers; the place of a fault is the
-/// second.
+/// What a call returns: refusal, and a length or value, or a pair of numbers, or the kind, length and
+/// sequence of a packet key; the place of a fault is the second.
 #[derive(Clone, Copy, Default)]
 pub struct Returned {
     pub refusal: u8,
-    pub numbers: [u64; 2],
+    pub numbers: [u64; 3],
 }
 
 impl Returned {
     pub fn new(refusal: u8, number: u64) -> Self {
-        Self { refusal, numbers: [number, 0] }
+        Self { refusal, numbers: [number, 0, 0] }
     }
 
     pub fn refused(Fault { refusal, place }: Fault) -> Self {
-        Self { refusal, numbers: [0, place as u64] }
+        Self { refusal, numbers: [0, place as u64, 0] }
     }
 
     pub fn bytes(self) -> impl Iterator<Item = u8> {
@@ -43,7 +43,7 @@ impl From<u8> for Returned {
 
 impl From<raw::Fault> for Returned {
     fn from(answer: raw::Fault) -> Self {
-        Self { refusal: answer.refusal, numbers: [0, answer.place] }
+        Self { refusal: answer.refusal, numbers: [0, answer.place, 0] }
     }
 }
 
@@ -61,7 +61,14 @@ impl From<Flag> for Returned {
 
 impl From<Pair> for Returned {
     fn from(answer: Pair) -> Self {
-        Self { refusal: answer.refusal, numbers: [answer.number, answer.height] }
+        Self { refusal: answer.refusal, numbers: [answer.number, answer.height, 0] }
+    }
+}
+
+impl From<Packet> for Returned {
+    fn from(answer: Packet) -> Self {
+        let Packet { refusal, kind, length, sequence } = answer;
+        Self { refusal, numbers: [kind.into(), length, sequence] }
     }
 }
 
@@ -114,12 +121,12 @@ impl Display for Reply<'_> {
         let Self { head, lent } = self;
         let number =
             |bytes: &[u8]| bytes.iter().rfold(0, |value, byte| value << 8 | u64::from(*byte));
-        let (a, b) = (number(&head[1..9]), number(&head[9..]));
+        let [a, b, c] = [1, 9, 17].map(|at| number(&head[at..at + 8]));
         let watched = |byte: &&u8| **byte == WATCH;
         let before = lent.iter().take_while(watched).count();
         let after = lent[before..].iter().rev().take_while(watched).count();
         let text = lent[before..lent.len() - after].escape_ascii();
-        write!(out, "{}, numbers {a} and {b}, buffer {before} \"{text}\" {after}", head[0])
+        write!(out, "{}, numbers {a}, {b} and {c}, buffer {before} \"{text}\" {after}", head[0])
     }
 }
 

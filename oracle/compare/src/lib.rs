@@ -1,7 +1,7 @@
 //! Three voices on the same questions: the library over its C interface, the original as it runs,
 //! and the model of document 01. The library equals the model always; the original equals it
-//! wherever docs/DIFFERENCES.md lists no difference. Of books and of blocks of keys the original
-//! knows nothing.
+//! wherever docs/DIFFERENCES.md lists no difference. Of books, of blocks of keys and of packet keys the
+//! original knows nothing.
 pub mod batch;
 pub mod beside;
 pub mod books;
@@ -14,6 +14,7 @@ pub mod iteration;
 pub mod library;
 pub mod no_books;
 pub mod original;
+pub mod packets;
 pub mod page;
 pub mod paths;
 pub mod renderings;
@@ -50,6 +51,7 @@ pub const FAMILIES: &[Sets] = &[
     typed::SETS,
     renderings::SETS,
     iteration::SETS,
+    packets::SETS,
     books::SETS,
     no_books::SETS,
     conversions::SETS,

@@ -24,6 +24,9 @@ pub fn untold(function: Function) -> u8 {
     }
 }
 
+/// Why it cannot be asked about packet keys.
+pub const NO_PACKET_KEY: &str = "no packet key";
+
 /// The one text that the original panics on.
 const PANICS: &[u8] = b"clients";
 
@@ -34,6 +37,7 @@ pub fn says(call: &Call) -> Theirs<Text> {
         Function::ReadIterationKey | Function::FirstAbove | Function::LastBelow => {
             Theirs::Silent("no reader")
         }
+        Function::V2Read | Function::V2Write => Theirs::Silent(NO_PACKET_KEY),
         Function::Read => reads(call.texts[0], |path, _| Bytes(vec![terms::parts(path).kind])),
         Function::Key => reads(call.texts[0], |_, key| Bytes(key.into())),
         Function::Render => renders(call),

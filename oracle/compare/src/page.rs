@@ -2,11 +2,11 @@
 //! library, and each has to answer what the row says. The page says how calls and answers are written.
 use std::collections::BTreeMap;
 
-use model::Fault;
+use model::{Fault, NO_ROOM};
 
 use crate::call::{Call, Function};
 use crate::library;
-use crate::original::{self, PANICKED};
+use crate::original::{self, NO_PACKET_KEY, PANICKED};
 use crate::set::{Bytes, Set, Text, Theirs};
 use crate::{Sets, Size};
 
@@ -193,7 +193,7 @@ impl Default for Page {
     fn default() -> Self {
         let said = |cell: &'static str| match cell {
             "panics" => Ok(PANICKED),
-            "no str" | "no kind" | "no book" | "no reader" => Err(cell),
+            "no str" | "no kind" | "no book" | "no reader" | NO_PACKET_KEY => Err(cell),
             cell => Ok(cell.split(" at ").next().and_then(|word| word.parse().ok()).unwrap_or(0)),
         };
         let mut page = Self(BTreeMap::new());
@@ -210,6 +210,12 @@ impl Page {
     /// The rows of a call with this pair of answers; none where no row lists the difference.
     pub fn rows(&self, function: Function, rust: Said, here: u8) -> &[Row] {
         self.0.get(&(function, rust, here)).map_or(&[], Vec::as_slice)
+    }
+
+    /// Whether a row lists 4 of a call: one that the original answers, or does not have.
+    pub fn lists_no_room(&self, function: Function) -> bool {
+        let listed = |rust| !self.rows(function, rust, NO_ROOM).is_empty();
+        listed(Ok(0)) || listed(Err(NO_PACKET_KEY))
     }
 
     /// The rows that list the difference between what the original says and another answer: none where

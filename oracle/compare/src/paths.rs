@@ -30,7 +30,7 @@ fn key_call(text: &[u8]) -> Call<'_> {
 }
 
 /// One text, read and rendered.
-fn ask(set: &mut Set, text: &[u8]) {
+pub fn ask(set: &mut Set, text: &[u8]) {
     let model = path::read_with_key(text).map(|(reading, key)| (reading, Bytes(key)));
     let bytes = model.as_ref().map(|(reading, _)| Bytes(reading.bytes().to_vec())).map_err(|e| *e);
     // whoever asks for the key is not told the place

@@ -2,6 +2,7 @@
 use std::fmt::{self, Debug, Display, Formatter};
 
 use model::book::{Answer, Given};
+use model::packet::Packet;
 use model::{Fault, NO_ROOM, NUMBER_FAULTS};
 
 use crate::batch::{Batch, Expected, Returned};
@@ -124,7 +125,20 @@ impl<'a> Set<'a> {
     /// A check of a call whose answer is a pair of numbers, of which the original knows nothing.
     pub fn pair(&mut self, call: Call, model: Result<(u64, u64), u8>) {
         let returned = match model {
-            Ok((a, b)) => Returned { refusal: 0, numbers: [a, b] },
+            Ok((a, b)) => Returned { refusal: 0, numbers: [a, b, 0] },
+            Err(refusal) => Returned::new(refusal, 0),
+        };
+        self.checks += 1;
+        self.answers[usize::from(returned.refusal)] += 1;
+        self.ask(call, 0, returned, b"");
+    }
+
+    /// A check of a call that reads a packet key, of which the original knows nothing.
+    pub fn packet(&mut self, call: Call, model: Result<Packet, u8>) {
+        let returned = match model {
+            Ok((kind, length, sequence)) => {
+                Returned { refusal: 0, numbers: [kind.into(), length as u64, sequence] }
+            }
             Err(refusal) => Returned::new(refusal, 0),
         };
         self.checks += 1;
@@ -161,7 +175,7 @@ impl<'a> Set<'a> {
                     (Returned::new(0, text.len() as u64), text.as_slice())
                 }
                 Ok(_) => {
-                    if self.page.rows(call.function, Ok(0), NO_ROOM).is_empty() {
+                    if !self.page.lists_no_room(call.function) {
                         self.differ(|| format!("{call}: no row lists {NO_ROOM} of it"));
                     }
                     (NO_ROOM.into(), &[][..])
@@ -184,7 +198,7 @@ impl<'a> Set<'a> {
         let (returned, text) = match answer {
             Ok(Given::Nothing) => (Returned::default(), &[][..]),
             Ok(Given::Value(value)) => (Returned::new(0, value.len() as u64), &value[..]),
-            Ok(Given::Heights(numbers)) => (Returned { refusal: 0, numbers: *numbers }, &[][..]),
+            Ok(Given::Heights([a, b])) => (Returned { refusal: 0, numbers: [*a, *b, 0] }, &[][..]),
             Err(refusal) => (Returned::new(*refusal, 0), &[][..]),
         };
         self.answers[usize::from(returned.refusal)] += 1;

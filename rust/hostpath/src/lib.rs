@@ -44,6 +44,7 @@ mod book;
 mod fault;
 mod identifiers;
 mod iteration;
+mod packet;
 mod path;
 #[rustfmt::skip]
 pub mod raw;
@@ -55,6 +56,7 @@ pub use book::*;
 pub use fault::*;
 pub use identifiers::*;
 pub use iteration::*;
+pub use packet::*;
 pub use path::*;
 pub use refusal::Refusal;
 pub use texts::*;

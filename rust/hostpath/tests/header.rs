@@ -1,6 +1,6 @@
 //! What include/hostpath.h writes by hand stands here too: the kinds and the sizes. bin/interface makes
 //! the rest of both.
-use hostpath::Path;
+use hostpath::{PacketKind, Path};
 
 const HEADER: &str = include_str!("../../../include/hostpath.h");
 
@@ -15,6 +15,7 @@ fn sizes() {
     for (name, size) in [
         ("READING", hostpath::READING),
         ("ITERATION_KEY", hostpath::ITERATION_KEY),
+        ("PACKET_KEY_MOST", hostpath::PACKET_KEY_MOST),
         ("PATH_MOST", hostpath::PATH_MOST),
         ("BOOK_HEAD", hostpath::BOOK_HEAD),
         ("BOOK_SLOT", hostpath::BOOK_SLOT),
@@ -23,6 +24,14 @@ fn sizes() {
         ("BOOK_MOST", hostpath::BOOK_MOST),
     ] {
         assert_eq!(number(name), Some(size), "{name}");
+    }
+}
+
+#[test]
+fn packet_kinds() {
+    for kind in PacketKind::ALL {
+        let name = format!("{kind:?}").to_uppercase();
+        assert_eq!(number(&format!("PACKET_{name}")), Some(kind.marker().into()), "{name}");
     }
 }
 

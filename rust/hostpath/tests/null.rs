@@ -2,7 +2,7 @@
 use core::ptr::{null, null_mut};
 
 use hostpath::raw::c::*;
-use hostpath::raw::{Fault, Pair, Written};
+use hostpath::raw::{Fault, Packet, Pair, Written};
 use hostpath::{book_size, Book, BOOK_VALUE};
 
 const PORT: &[u8] = b"ports/transfer";
@@ -51,6 +51,18 @@ fn iteration_keys() {
         assert_eq!(hp_read_iteration_key(null(), 0), pair(15));
         assert_eq!(hp_first_above(null(), 0, 0, 0), pair(12));
         assert_eq!(hp_last_below(null(), 0, u64::MAX, u64::MAX), pair(12));
+    }
+}
+
+#[test]
+fn packet_keys() {
+    let client = b"07-tendermint-4";
+    let refused_key = Packet { refusal: 24, kind: 0, length: 0, sequence: 0 };
+    unsafe {
+        assert_eq!(hp_v2_read(null(), 0), refused_key);
+        assert_eq!(hp_v2_write(4, null(), 0, 7, null_mut(), 0), refused(24));
+        assert_eq!(hp_v2_write(1, null(), 0, 7, null_mut(), 0), refused(6));
+        assert_eq!(hp_v2_write(1, client.as_ptr(), client.len(), 7, null_mut(), 0), refused(4));
     }
 }
 
