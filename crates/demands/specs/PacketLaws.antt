@@ -14,7 +14,7 @@ use Rattle.text.specs.Number.{bigAt, Bytes}
 use Rattle.text.specs.Part.{ascii}
 use Rattle.text.specs.declared.Fault.{Fault}
 use Rattle.text.specs.declared.Written.{Written}
-use Rattle.text.specs.Put.{Wanted, refused, text, answer, left}
+use Rattle.text.specs.Put.{text, answer, left}
 use Rattle.text.specs.PutLaws.{answer-refused, answer-fits, answer-short}
 use Rattle.identifiers.specs.Check.{checkOf, client}
 use Rattle.path.specs.declared.Reading.the-variants.{Refused as Unread}
@@ -43,9 +43,6 @@ use Rattle.demands.specs.Refusals as refusals
 use Rattle.demands.specs.Shape.{Listed, AllZero, Demand1}
 use Rattle.demands.specs.ShapeLaws.{Wants, plain-of, accepted-wants}
 use Rattle.demands.specs.Written.{Done}
-
-clash : {A : Type 0} → _≡_ {A = ℕ} 0 1 → A
-clash z = absurd (let y : ⊥ = omega (arith, z) in y)
 
 number : {x y : Packet} → x ≡ y → x .refusal ≡ y .refusal
 number e = ap (λ (p : Packet). p .refusal) e

@@ -11,7 +11,6 @@ use Rattle.text.specs.declared.Fault.{Fault}
 use Rattle.text.specs.declared.Written.{Written}
 use Rattle.text.specs.Number.{Bytes}
 use Rattle.text.specs.Part.{ascii}
-use Rattle.text.specs.Put.{done}
 use Rattle.text.specs.Refusal.{notAscii, notAPath}
 use Rattle.identifiers.specs.Check.{checkOf, client}
 use Rattle.keys.specs.Act.{Seen}

@@ -21,7 +21,7 @@ use Rattle.packet.specs.declared.PacketKind.{PacketKind}
 use Rattle.packet.specs.declared.PacketKind.the-variants.{Commitment, Receipt, Acknowledgement}
 use Rattle.packet.specs.Key.{markerOf, kindOf, packetKey, packet, cutPlace, clientIn, markerIn, readAs, packetIn}
 
-clash : {A : Type 0} → _≡_ {A = ℕ} 0 1 → A
+pub clash : {A : Type 0} → _≡_ {A = ℕ} 0 1 → A
 clash z = absurd (let y : ⊥ = omega (arith, z) in y)
 
 -- ---- a kind and its marker

@@ -2,7 +2,7 @@
 -- table has; and behind that stand eight bytes at most, which is less than the last word of the two kinds that begin with any text.
 -- Assumes nothing.
 use mathlib.Core.Path.{_≡_, refl, sym, ap, _∙_}
-use mathlib.Core.Bool.{Bool, true, false, cond, not, _&&_, _||_}
+use mathlib.Core.Bool.{Bool, true, false, cond, not, _||_}
 use mathlib.Core.List.{List, [], _∷_, _++_, map}
 use Prim.Native.Nat.{ℕ, _+_, _≤_, _<_}
 use native.Mathlib.Omega.{arith}
@@ -20,20 +20,17 @@ use Rattle.path.specs.declared.PathAnswer.the-variants.{Found, Nothing}
 use Rattle.path.specs.declared.Refusal.{Refusal}
 use Rattle.path.specs.declared.Refusal.the-variants.{TooLong, NotAscii, NotAPath, NoDigits, NotADigit, TooLarge}
 use Rattle.path.specs.declared.Reading.the-variants.{Refused}
-use Rattle.path.specs.Text.{components, cutAt, cutStep}
+use Rattle.path.specs.Text.{components, cutAt}
 use Rattle.path.specs.TextLaws.{every-all}
 use Rattle.path.specs.Kinds.{Part, word, name, count, pair, Kind, kinds}
-use Rattle.path.specs.Read.{fits, suits, fitsKind, suitsKind, readFirst, whyNot, readingOf, readPath, refusalOf}
+use Rattle.path.specs.Read.{fits, suits, fitsKind, suitsKind, readFirst, whyNot, readPath, refusalOf}
 use Rattle.path.specs.Reads.{Has}
 use Rattle.path.specs.ReadLaws.{allOf, kind-fits, kind-suits, has-both, is-reads}
 use Rattle.path.specs.NumberLaws.{why-wrong}
 use Rattle.packet.specs.declared.PacketKind.{PacketKind}
 use Rattle.packet.specs.declared.PacketKind.the-variants.{Commitment, Receipt, Acknowledgement}
 use Rattle.packet.specs.Key.{markerOf, packetKey}
-use Rattle.packet.specs.KeyLaws.{key-length}
-
-clash : {A : Type 0} → _≡_ {A = ℕ} 0 1 → A
-clash z = absurd (let y : ⊥ = omega (arith, z) in y)
+use Rattle.packet.specs.KeyLaws.{clash, key-length}
 
 -- ---- the cut
 -- how many bytes components have

@@ -1,6 +1,5 @@
 -- `packet::read_packet_key` meets its contract.
 -- Assumes nothing.
-use native.Mathlib.Omega.{arith}
 use borrow.Author.Needs.{needs}
 use Rattle.packet.specs.WayLaws.{read-short, read-unknown, read-refused, read-key}
 use Rattle.packet.proofs.read_packet_key.Statement.{statement}
