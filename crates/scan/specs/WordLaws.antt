@@ -9,6 +9,7 @@ use lib.Dec.{eqb}
 use lib.ListN.{length, take, drop, getD, length-drop}
 use lib.Seq.{drop-drop, getD-drop}
 use borrow.Author.Tests.{eq-eqb, eqb-true, eqb-false}
+use Rattle.text.specs.Bytes.{bytes}
 use Rattle.text.specs.Number.{Bytes, little, lowBytes}
 use Rattle.text.specs.NumberLaws.{length-low}
 use Rattle.text.specs.Part.{startsWith}
@@ -123,3 +124,27 @@ module _ (w : List ℕ) (n : ℕ) (s : List ℕ) (e : ℕ) where
 -- a text that has a word at a place goes on to the word's end
 pub word-room : (w s : List ℕ) (e : ℕ) → startsWith w (drop e s) ≡ true → e ≤ length s → e + length w ≤ length s
 word-room w s e h l = omega (arith, starts-room w (drop e s) h, length-drop e s)
+
+-- ---- six bytes of eight
+-- a text without its first bytes, one at a time
+abbrev drops : ℕ → List ℕ → List ℕ
+drops zero s = s
+drops (suc i) s = drops i (drop 1 s)
+
+six-of-eight : (s : List ℕ) → Bytes s → little 8 s % 281474976710656 ≡ little 6 s
+unfolding little
+six-of-eight s k = omega (arith, each 0, each 1, each 2, each 3, each 4, each 5)
+  where
+    each : (i : ℕ) → getD (drops i s) 0 0 < 256
+    each i = go i s k
+      where
+        go : (j : ℕ) (x : List ℕ) → Bytes x → getD (drops j x) 0 0 < 256
+        go zero x q = q 0
+        go (suc j) x q = go j (drop 1 x) (λ n. rw getD-drop (q (1 + n)))
+
+pub ports-six : (s : List ℕ) (at n : ℕ) → at + 8 ≤ length s → Bytes s → n ≡ little 8 (drop at s) → eqb (n % 281474976710656) 52172921401200 ≡ startsWith (bytes "ports/") (drop at s)
+unfolding lowBytes
+ports-six s at n h k e =
+    let b : Bytes (drop at s) = λ i. rw getD-drop (k (at + i)) in
+    let l : 6 ≤ length (drop at s) = simp length-drop (omega arith) in
+    rw (e, six-of-eight (drop at s) b) (sym (starts-little 6 (drop at s) 52172921401200 l b (omega arith)))

@@ -2,3 +2,4 @@
 pub mod name;
 pub mod number;
 pub mod word;
+pub mod words;

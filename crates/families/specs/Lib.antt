@@ -1,0 +1,3 @@
+-- What the contracts of `families` cite. Files that end in `Laws` hold consequences, which a reader may skip.
+pub mod PieceLaws
+pub mod Walked
