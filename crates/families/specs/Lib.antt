@@ -1,3 +1,4 @@
 -- What the contracts of `families` cite. Files that end in `Laws` hold consequences, which a reader may skip.
+pub mod NameLaws
 pub mod PieceLaws
 pub mod Walked

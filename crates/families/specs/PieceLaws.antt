@@ -56,7 +56,7 @@ module _ (i : Name) (ok : List ℕ → Bool) (len : List ℕ → ℕ) (scans : S
   name-none h ps = step-none (name i) ok len scans ps at (drop at t) h
 
   name-some : ok (drop at t) ≡ true → (n : ℕ) → n ≡ len (drop at t) → (ps : List Part) → tailOf (name i ∷ ps) at (drop at t) ≡ withName i (record { start = at; len = n }) (afterOf ps (at + n) (drop (at + n) t))
-  name-some h n e ps = step-some (name i) ok len scans ps at (drop at t) h ∙ added-name i _ _ _ ∙ rw (e, drop-drop (len (drop at t)) at t)
+  name-some h n e ps = step-some (name i) ok len scans ps at (drop at t) h ∙ rw (added-name i, e, drop-drop (len (drop at t)) at t)
 
 -- those that have a rule: 0 tells that there is none
 module _ (i : Name) (r : check.Rule) (scans : Scans (name i) (λ s. ltb 0 (ruleRun r s)) (ruleRun r)) (t : List ℕ) (at n : ℕ) (e : n ≡ ruleRun r (drop at t)) where
@@ -75,7 +75,7 @@ module _ (t : List ℕ) (e : ℕ) (is : e ≡ 0 + run noSlash (drop 0 t)) where
   upgrade-some h ps =
       let i : 0 + run noSlash t ≡ e = omega (arith, is) in
       let j : run noSlash t ≡ e = omega (arith, is) in
-      step-some (name Upgrade) upgradeOk (run noSlash) scans-upgrade ps 0 t h ∙ added-name Upgrade _ _ _ ∙ rw (i, j)
+      step-some (name Upgrade) upgradeOk (run noSlash) scans-upgrade ps 0 t h ∙ rw (added-name Upgrade, i, j)
 
 -- ---- a number
 added-count : (c : List ℕ) (q : Place) (x : Tail) → added count c q x ≡ withCount (numberIn c) (spelled count c) x
@@ -86,7 +86,7 @@ count-fields : (at : ℕ) (s : List ℕ) (r : Counted) → r ≡ countedOf at s 
 unfolding countedOf
 count-fields at s r e = ap (λ (x : Counted). x .ok) e ∙ go (isNumber (numText s))
   where
-    go : (v : Bool) → cond v (record { ok = true; value = numberIn (numText s); end = at + numLen s; plain = spelled count (numText s) }) (record { ok = false; value = 0; end = 0; plain = false }) .ok ≡ v
+    go : (v : Bool) → cond {A = Counted} v (record { ok = true; value = numberIn (numText s); end = at + numLen s; plain = spelled count (numText s) }) (record { ok = false; value = 0; end = 0; plain = false }) .ok ≡ v
     go true = refl
     go false = refl
 
@@ -94,7 +94,7 @@ count-is : (at : ℕ) (s : List ℕ) (r : Counted) → r ≡ countedOf at s → 
 unfolding countedOf
 count-is at s r e h =
     let k : isNumber (numText s) ≡ true = sym (count-fields at s r e) ∙ h in
-    let f = e ∙ rw k in
+    let f : r ≡ record { ok = true; value = numberIn (numText s); end = at + numLen s; plain = spelled count (numText s) } = e ∙ rw k in
     (ap (λ (x : Counted). x .value) f, ap (λ (x : Counted). x .end) f, ap (λ (x : Counted). x .plain) f)
 
 module _ (t : List ℕ) (at : ℕ) (r : Counted) (e : r ≡ countedOf at (drop at t)) where
@@ -108,7 +108,7 @@ module _ (t : List ℕ) (at : ℕ) (r : Counted) (e : r ≡ countedOf at (drop a
   count-some h ps =
       let k = count-is at (drop at t) r e h in
       step-some count (λ s. isNumber (numText s)) numLen scans-count ps at (drop at t) (sym (count-fields at (drop at t) r e) ∙ h)
-      ∙ added-count _ _ _ ∙ rw (k .0, k .1, k .2, drop-drop (numLen (drop at t)) at t)
+      ∙ rw (added-count, k .0, k .1, k .2, drop-drop (numLen (drop at t)) at t)
 
 -- ---- R-h
 eqb-sum : (a b c d : ℕ) → a ≤ c → b ≤ d → eqb (a + suc b) (c + suc d) ≡ (eqb a c && eqb b d)
@@ -154,7 +154,7 @@ module _ (t : List ℕ) (at : ℕ) (r h : Counted) (e : r ≡ countedOf at (drop
       let ok : pairOk (drop at t) ≡ true = pair-ok g ∙ rw (n, o) in
       step-some pair pairOk pairLen scans-pair ps at (drop at t) ok
       ∙ rw (drop-drop (pairLen (drop at t)) at t, z, p)
-      (added-pair (numText (drop at t)) (numText (drop (r .end + 1) t)) _ _ x y ∙ rw (k .0, k .2, m .0, m .2))
+      (added-pair (numText (drop at t)) (numText (drop (r .end + 1) t)) (record { start = at; len = pairLen (drop at t) }) (afterOf ps (h .end) (drop (h .end) t)) x y ∙ rw (k .0, k .2, m .0, m .2))
 
 -- ---- `P/channels/H`, whatever follows
 pub record EndsAt (t : List ℕ) (at : ℕ) (r : Ends) : Type 0 where
@@ -172,8 +172,9 @@ module _ (t : List ℕ) (at p : ℕ) (e : p ≡ ruleRun check.port (drop at t)) 
         ≡ withName Port (record { start = at; len = p }) (cond v (tailOf (name Channel ∷ ps) (at + p + 10) (drop (at + p + 10) t)) none)
     unfolding every
     ends-word ps =
+        let i : at + p + 8 + 2 ≡ at + p + 10 = omega arith in
         rule-some Port check.port scans-port t at p e some (word (bytes "channels") ∷ name Channel ∷ ps)
-        ∙ rw (after-word (bytes "channels") refl (name Channel) ps (at + p) (drop (at + p) t), w, drop-drop 10 (at + p) t)
+        ∙ rw (after-word (bytes "channels") refl (name Channel) ps (at + p) (drop (at + p) t), w, drop-drop 10 (at + p) t, i)
 
     pub ends-no-word : v ≡ false → EndsAt t at (record { port = 0; channel = 0 })
     ends-no-word h = record { within = λ k. absurd (omega arith); nothing = λ k ps. ends-word ps ∙ rw h; both = λ k. absurd (k refl) }

@@ -4,6 +4,7 @@ pub mod packet;
 
 use path::Place;
 ghost use mathlib.Core.Path.{_≡_};
+ghost use mathlib.Core.Bool.{true};
 ghost use Rattle.families.specs.Walked.{nothing};
 
 // What a text reads as: the kind, 0 where nothing is read, the exact mark, and what the kind carries.

@@ -1,9 +1,9 @@
 // The fixed words of the paths, each compared eight bytes at a time. A constant is named after its bytes, `_` for a slash or a
 // dash.
 use crate::word::eight;
+use crate::word::word8;
 use crate::word::word16;
 use crate::word::word24;
-use crate::word::word8;
 ghost use mathlib.Core.Path.{_≡_};
 ghost use Prim.Native.Nat.{_≤_};
 ghost use lib.ListN.{length, drop};
