@@ -1,4 +1,7 @@
 -- What the contracts of `families` cite. Files that end in `Laws` hold consequences, which a reader may skip.
+pub mod Client
+pub mod ClientLaws
+pub mod FlatLaws
 pub mod NameLaws
 pub mod PieceLaws
 pub mod Walked

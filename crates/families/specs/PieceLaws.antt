@@ -127,6 +127,11 @@ added-pair a b q (some v e) f g =
     let m = decimal-no-longer b (numberIn b) (value-is _ g) .0 in
     rw (cut-pair a b f g, length-append a (45 ∷ b), eqb-sum _ _ _ _ l m)
 
+-- where R is no number
+pub pair-first : (t : List ℕ) (at : ℕ) (r : Counted) → r ≡ countedOf at (drop at t) → r .ok ≡ false → (ps : List Part) → tailOf (pair ∷ ps) at (drop at t) ≡ none
+unfolding pairOk
+pair-first t at r e h ps = let n : isNumber (numText (drop at t)) ≡ false = sym (count-fields at (drop at t) r e) ∙ h in step-none pair pairOk pairLen scans-pair ps at (drop at t) (rw n)
+
 module _ (t : List ℕ) (at : ℕ) (r h : Counted) (e : r ≡ countedOf at (drop at t)) (f : h ≡ countedOf (r .end + 1) (drop (r .end + 1) t)) (dash : Bool) (d : dash ≡ startsWith (45 ∷ []) (drop (r .end) t)) where
   pair-ok : r .ok ≡ true → pairOk (drop at t) ≡ (dash && h .ok)
   unfolding pairOk

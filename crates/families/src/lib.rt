@@ -1,4 +1,5 @@
 // The families of kinds, each read by one walk.
+pub mod client;
 pub mod name;
 pub mod packet;
 

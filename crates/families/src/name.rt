@@ -6,7 +6,7 @@ use path::Place;
 use scan::name::channel_length;
 use scan::name::connection_length;
 use scan::name::plain_length;
-use scan::words::is_channels;
+use words::is_channels;
 ghost use mathlib.Core.Path.{_≡_};
 ghost use mathlib.Core.List.{_∷_, []};
 ghost use Prim.Native.Nat.{_≤_};

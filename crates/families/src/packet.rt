@@ -4,7 +4,7 @@ use crate::name::ends_at;
 use crate::no_path;
 use path::Place;
 use scan::number::number;
-use scan::words::is_sequences;
+use words::is_sequences;
 ghost use mathlib.Core.Path.{_≡_};
 ghost use Prim.Native.Nat.{_≤_};
 ghost use lib.ListN.{length, drop};

@@ -2,4 +2,3 @@
 pub mod name;
 pub mod number;
 pub mod word;
-pub mod words;

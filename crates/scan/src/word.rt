@@ -7,7 +7,7 @@ ghost use Rattle.text.specs.Number.{Bytes, little, lowBytes};
 ghost use Rattle.text.specs.Part.{startsWith};
 
 // The eight bytes at `at` as a number: one load.
-pub(crate) fn eight(s: &[u8], at: usize) -> u64
+pub fn eight(s: &[u8], at: usize) -> u64
     requires { ⌜ at + 8 ≤ length (now s) ⌝ }
     ensures { λ r. ⌜ r ≡ little 8 (drop at (now (s .entry))) ⌝ }
     ensures { λ _. ⌜ Bytes (now (s .entry)) ⌝ }

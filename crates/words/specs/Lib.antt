@@ -1,0 +1,2 @@
+-- The table of words.
+pub mod Words
