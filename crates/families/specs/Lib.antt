@@ -4,4 +4,5 @@ pub mod ClientLaws
 pub mod FlatLaws
 pub mod NameLaws
 pub mod PieceLaws
+pub mod UpgradeLaws
 pub mod Walked

@@ -2,6 +2,7 @@
 pub mod client;
 pub mod name;
 pub mod packet;
+pub mod upgrade;
 
 use path::Place;
 ghost use mathlib.Core.Path.{_≡_};

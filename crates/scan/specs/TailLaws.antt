@@ -176,7 +176,7 @@ added-word w c q none = refl
 added-word w c q (some v e) = refl
 
 -- after a component: a slash and more, or the end
-after-slash : (p : Part) (ps : List Part) (e : ℕ) (r : List ℕ) → afterOf (p ∷ ps) e r ≡ cond (startsWith (47 ∷ []) r) (tailOf (p ∷ ps) (e + 1) (drop 1 r)) none
+pub after-slash : (p : Part) (ps : List Part) (e : ℕ) (r : List ℕ) → afterOf (p ∷ ps) e r ≡ cond (startsWith (47 ∷ []) r) (tailOf (p ∷ ps) (e + 1) (drop 1 r)) none
 unfolding afterOf startsWith
 after-slash p ps e [] = refl
 after-slash p ps e (b ∷ r) = rw (and-true (eqb b 47))
