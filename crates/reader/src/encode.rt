@@ -30,7 +30,7 @@ fn write_place(out: &mut [u8], at: usize, p: Place) -> usize
 }
 
 // Writes the 26 bytes, or refuses where there is too little room.
-pub(crate) fn write_view(v: PathView, exact: bool, out: &mut [u8]) -> Written
+pub fn write_view(v: PathView, exact: bool, out: &mut [u8]) -> Written
     ensures { λ r. ⌜ r ≡ answer (text (viewBytes v exact)) (length (now (out .entry))) ⌝ }
     ensures { λ _. ⌜ now (out .exit) ≡ left (text (viewBytes v exact)) (now (out .entry)) ⌝ }
 {

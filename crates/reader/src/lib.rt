@@ -1,5 +1,5 @@
 // The reader of path texts.
-mod encode;
+pub mod encode;
 
 use path::PathAnswer;
 use path::Place;
@@ -56,7 +56,7 @@ pub fn second_identifier(text: &[u8], reading: Reading) -> &[u8]
 }
 
 // Why a text of at most 4,096 bytes is no path.
-fn fault(text: &[u8]) -> Refusal
+pub fn fault(text: &[u8]) -> Refusal
     ensures { λ r. ⌜ r ≡ cond (ascii (now (text .entry))) (whyNot (now (text .entry))) NotAscii ⌝ }
 {
     if text::part::all_ascii(text) {

@@ -1,0 +1,28 @@
+-- `next_connection` meets its contract.
+-- Assumes nothing.
+use mathlib.Core.Path.{sym, _∙_}
+use Rattle.walk.specs.ArmLaws.{is-2, not-2, long-2}
+use borrow.Author.Needs.{needs}
+use Rattle.walk.proofs.dispatch.next_connection.Statement.{statement}
+use Rattle.walk.proofs.dispatch.next_connection.Tie as tie
+
+returns : tie.Need-returns
+returns c = long-2 (c .before .before .before .args .text .now) (c .no-path .result) (c .before .before .before .pre) (c .before .if1 .taken) (c .no-path .ensures)
+
+returns-2 : tie.Need-returns-2
+returns-2 c = is-2 (c .before .before .before .before .before .args .text .now) (c .bare .result) (sym (c .before .before .is-next-connection-sequence .ensures) ∙ c .before .if2 .taken) (c .before .before .before .if1 .left) (c .bare .ensures)
+
+returns-3 : tie.Need-returns-3
+returns-3 c = not-2 (c .before .before .before .before .before .args .text .now) (c .no-path2 .result) (c .before .before .before .before .before .pre) (sym (c .before .before .is-next-connection-sequence .ensures) ∙ c .before .if2 .left) (c .no-path2 .ensures)
+
+pub next-connection-spec : {M : Type 1} → statement M
+next-connection-spec =
+    tie.close
+    (tie.spec
+    (λ c κs. search needs)
+    returns
+    (λ c κs. search needs)
+    (λ c κs. search needs)
+    returns-2
+    (λ c κs. search needs)
+    returns-3)

@@ -1,0 +1,28 @@
+-- `receipts` meets its contract.
+-- Assumes nothing.
+use mathlib.Core.Path.{sym, _∙_}
+use Rattle.text.specs.Bytes.{bytes}
+use Rattle.scan.specs.WordLaws.{starts-room}
+use Rattle.walk.specs.ArmLaws.{is-17, not-17}
+use borrow.Author.Needs.{needs}
+use Rattle.walk.proofs.dispatch.receipts.Statement.{statement}
+use Rattle.walk.proofs.dispatch.receipts.Tie as tie
+
+packet-requires : tie.Need-packet-requires
+packet-requires c κs = starts-room (bytes "receipts/ports/") (c .before .before .before .args .text .now) (sym (c .before .is-receipts .ensures) ∙ c .if1 .taken)
+
+returns : tie.Need-returns
+returns c = is-17 (c .before .before .before .before .args .text .now) (c .packet .result) (sym (c .before .before .is-receipts .ensures) ∙ c .before .if1 .taken) (c .packet .ensures)
+
+returns-2 : tie.Need-returns-2
+returns-2 c = not-17 (c .before .before .before .before .args .text .now) (c .no-path .result) (c .before .before .before .before .pre) (sym (c .before .before .is-receipts .ensures) ∙ c .before .if1 .left) (c .no-path .ensures)
+
+pub receipts-spec : {M : Type 1} → statement M
+receipts-spec =
+    tie.close
+    (tie.spec
+    (λ c κs. search needs)
+    packet-requires
+    returns
+    (λ c κs. search needs)
+    returns-2)

@@ -1,0 +1,4 @@
+-- What the contracts of `walk` cite. Files that end in `Laws` hold consequences, which a reader may skip.
+pub mod ArmLaws
+pub mod OpenLaws
+pub mod ViewLaws

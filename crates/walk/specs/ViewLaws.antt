@@ -1,0 +1,107 @@
+-- From the walk to the reading.
+-- Assumes nothing.
+use Prim.Native.Nat.{ℕ, _≤_, _<_}
+use mathlib.Core.Path.{_≡_, refl, sym, ap, _∙_}
+use mathlib.Core.List.{List}
+use mathlib.Core.Bool.{Bool, true, false, cond}
+use native.Mathlib.Omega.{arith}
+use lib.ListN.{length}
+use borrow.Author.Tests.{le-ltb, lt-ltb}
+use Rattle.text.specs.Part.{ascii, same}
+use Rattle.path.specs.declared.Path.{Path}
+use Rattle.path.specs.declared.PathAnswer.{PathAnswer}
+use Rattle.path.specs.declared.PathAnswer.the-variants.{Found, Nothing}
+use Rattle.path.specs.declared.PathView.{PathView}
+use Rattle.path.specs.declared.Reading.the-variants.{Read, Refused}
+use Rattle.path.specs.declared.Refusal.{Refusal}
+use Rattle.path.specs.declared.Refusal.the-variants.{TooLong, NotAscii}
+use Rattle.path.specs.declared.Place.{Place}
+use Rattle.path.specs.Kinds.{Carried, carried, kinds}
+use Rattle.path.specs.Read.{carriedFrom, renderPath, orElse, readFirst, whyNot, readPath}
+use Rattle.path.specs.Reads.{kindAt}
+use Rattle.path.specs.ReadLaws.{is-reads, made-range, path-made}
+use Rattle.path.specs.AsciiLaws.{first-low, kinds-low}
+use Rattle.path.specs.View.{kindOf, carriedOf, seen, viewOf}
+use Rattle.parse.specs.CountLaws.{read-append}
+use Rattle.reader.specs.ReadingLaws.{no-path}
+use Rattle.families.specs.declared.Walked.{Walked}
+use Rattle.families.specs.Walked.{nothing, flat, listed, upgrades}
+
+-- ---- the two parts of the table
+halves : (t : List ℕ) → readFirst kinds t ≡ orElse (readFirst listed t) (readFirst upgrades t)
+unfolding kinds listed
+halves t = read-append listed upgrades t
+
+-- what is read has a kind
+some-kind : (t : List ℕ) (p : Path) → readFirst kinds t ≡ Found p → (1 ≤ kindOf p) × (kindOf p ≤ 19)
+some-kind t p h = let r = is-reads t p h in rw (r .made) (made-range (r .listed) (carriedFrom 0 (r .kind .parts) t))
+
+-- and is the reading, with its mark
+found-is : (t : List ℕ) (p : Path) → length t ≤ 4096 → readFirst kinds t ≡ Found p → Read p (same t (renderPath t p)) ≡ readPath t
+unfolding readPath
+found-is t p short h = rw (le-ltb 4096 (length t) short, first-low kinds t p kinds-low h, h)
+
+module _ (t : List ℕ) (w : Walked) where
+  pub first-half : w ≡ flat t (readFirst listed t) → (w .kind ≡ 0 → ⊥) → w ≡ flat t (readFirst kinds t)
+  unfolding nothing
+  first-half e h = e ∙ rw (halves t) (go (readFirst listed t) (λ k. h (ap (λ (x : Walked). x .kind) e ∙ k)))
+    where
+      go : (a : PathAnswer) → (flat t a .kind ≡ 0 → ⊥) → flat t a ≡ flat t (orElse a (readFirst upgrades t))
+      go (Found p) k = refl
+      go Nothing k = absurd (k refl)
+
+  pub second-half : w ≡ flat t (readFirst listed t) → w .kind ≡ 0 → (u : Walked) → u ≡ flat t (readFirst upgrades t) → u ≡ flat t (readFirst kinds t)
+  second-half e h u f = f ∙ go (readFirst listed t) refl (ap (λ (x : Walked). x .kind) (sym e) ∙ h)
+    where
+      go : (a : PathAnswer) → readFirst listed t ≡ a → flat t a .kind ≡ 0 → flat t (readFirst upgrades t) ≡ flat t (readFirst kinds t)
+      go (Found p) k z = absurd (let q = some-kind t p (halves t ∙ rw k) in omega (arith, q .0))
+      go Nothing k z = rw (halves t, k)
+
+  module _ (e : w ≡ flat t (readFirst kinds t)) where
+    -- nothing was read
+    pub unread : w .kind ≡ 0 → Nothing ≡ readFirst kinds t
+    unread h = go (readFirst kinds t) refl (ap (λ (x : Walked). x .kind) (sym e) ∙ h)
+      where
+        go : (a : PathAnswer) → readFirst kinds t ≡ a → flat t a .kind ≡ 0 → Nothing ≡ readFirst kinds t
+        go (Found p) k z = absurd (let q = some-kind t p k in omega (arith, q .0))
+        go Nothing k z = sym k
+
+    -- a path was
+    pub was-read : (w .kind ≡ 0 → ⊥) → (p : Path) × (readFirst kinds t ≡ Found p) × (w ≡ flat t (Found p))
+    unfolding nothing
+    was-read h = go (readFirst kinds t) refl (λ k. h (ap (λ (x : Walked). x .kind) e ∙ k)) e
+      where
+        go : (a : PathAnswer) → readFirst kinds t ≡ a → (flat t a .kind ≡ 0 → ⊥) → w ≡ flat t (readFirst kinds t) → (p : Path) × (readFirst kinds t ≡ Found p) × (w ≡ flat t (Found p))
+        go (Found p) k z f = (p, k, f ∙ ap (flat t) k)
+        go Nothing k z f = absurd (z refl)
+
+    module _ (h : w .kind ≡ 0 → ⊥) where
+      pub kind-range : (1 ≤ w .kind) × (w .kind ≤ 19)
+      kind-range = let q = was-read h in let r = some-kind t (q .0) (q .1) in rw (q .2) r
+
+      pub typed-read : length t ≤ 4096 → (p : Path) → p ≡ kindAt (w .kind) .make (carried (w .first) (w .second) (w .a) (w .b)) → Read p (w .exact) ≡ readPath t
+      typed-read short p f =
+          let q = was-read h in
+          let one : p ≡ q .0 = f ∙ ap (λ (x : Walked). kindAt (x .kind) .make (carried (x .first) (x .second) (x .a) (x .b))) (q .2) ∙ sym (path-made (q .0)) in
+          ap (λ (z : Path). Read z (w .exact)) one ∙ ap (λ (x : Walked). Read (q .0) (x .exact)) (q .2) ∙ found-is t (q .0) short (q .1)
+
+      -- the same without the typed path
+      pub view-read : length t ≤ 4096 → (p : Path) × (Read p (w .exact) ≡ readPath t) × (record { kind = w .kind; first = w .first; second = w .second; a = w .a; b = w .b } ≡ viewOf p)
+      unfolding viewOf
+      view-read short =
+          let q = was-read h in (
+            q .0,
+            ap (λ (x : Walked). Read (q .0) (x .exact)) (q .2) ∙ found-is t (q .0) short (q .1),
+            ap (λ (x : Walked). seen (x .kind) (carried (x .first) (x .second) (x .a) (x .b))) (q .2),
+          )
+
+    pub refused-read : length t ≤ 4096 → w .kind ≡ 0 → (r : Refusal) → r ≡ cond (ascii t) (whyNot t) NotAscii → Refused r ≡ readPath t
+    refused-read short h r f = ap Refused f ∙ no-path t short (unread h)
+
+pub long-read : (t : List ℕ) → 4096 < length t → Refused TooLong ≡ readPath t
+unfolding readPath
+long-read t h = rw (lt-ltb 4096 (length t) h)
+
+-- the path that a kind makes, by its number
+pub by-kind : (k j : ℕ) (v : Carried Place) → k ≡ j → kindAt j .make v ≡ kindAt k .make v
+by-kind k j v h = ap (λ (i : ℕ). kindAt i .make v) (sym h)
