@@ -129,7 +129,7 @@ pub fn answer_line(out: &mut [u8], at: usize, line: &[u8], why: bool) -> usize
     ensures { λ r. ⌜ r ≡ at + length (lineAnswer why (now (line .entry))) ⌝ }
     ensures { λ _. ⌜ now (out .exit) ≡ put (now (out .entry)) at (lineAnswer why (now (line .entry))) ⌝ }
 {
-    match reader::read_path(line) {
+    match walk::walk_path(line) {
         Reading::Read { path, exact } => write_view(out, at, line, path::view(path), exact),
         Reading::Refused(w) => write_refusal(out, at, w, why),
     }

@@ -71,7 +71,7 @@ pub(crate) fn key_exact(book: &[u8], at: usize) -> bool
     requires { do ⌜ at + 256 ≤ (← ⟦book.len()⟧) ⌝ }
     ensures { λ r. ⌜ Tells r (Exact (stored (now (book .entry)) at)) ⌝ }
 {
-    let Reading::Read { path: _, exact } = reader::read_path(key_at(book, at)) else {
+    let Reading::Read { path: _, exact } = walk::walk_path(key_at(book, at)) else {
         return false;
     };
     exact

@@ -59,6 +59,7 @@ use Rattle.hostpath.proofs.hp_validate_connection_identifier.Reads as hp-valida
 use Rattle.hostpath.proofs.hp_validate_port_identifier.Reads as hp-validate-port-identifier
 use Rattle.hostpath.proofs.hp_validate_channel_identifier.Reads as hp-validate-channel-identifier
 use Rattle.hostpath.proofs.hp_read.Reads as hp-read
+use Rattle.hostpath.proofs.hp_walk.Reads as hp-walk
 use Rattle.hostpath.proofs.hp_is_provable.Reads as hp-is-provable
 use Rattle.hostpath.proofs.hp_book_new.Reads as hp-book-new
 use Rattle.hostpath.proofs.hp_book_write.Reads as hp-book-write
@@ -72,6 +73,7 @@ use Rattle.hostpath.proofs.hp_book_convert.Reads as hp-book-convert
 use Rattle.render.proofs.render.Reads as render
 use Rattle.key.proofs.write_key.Reads as write-key
 use Rattle.reader.proofs.write_reading.Reads as write-reading
+use Rattle.walk.proofs.write_walk.Reads as write-walk
 use Rattle.iteration.proofs.iteration_key.Reads as iteration-key
 use Rattle.packet.proofs.write_packet_key.Reads as write-packet-key
 use Rattle.identifiers.proofs.client_id.write_client_id.Reads as write-client-id
@@ -168,6 +170,10 @@ pub hp-read-holds : Demand1 hp-read.Pre hp-read.Post readings (λ κs r. r .refu
 unfolding readFault
 hp-read-holds = writes-number readings _ _ (λ κs a. tt) (λ κs r. r .refusal) (λ κs a. readingBytes (now (a .0))) refl refl (λ κs a. reading-wants _) (λ κs a r s p. (ap (λ (f : Fault). f .refusal) (p .0), p .1))
 
+pub hp-walk-holds : Demand1 hp-walk.Pre hp-walk.Post readings (λ κs r. r .refusal) (λ κs r. []) (λ κs a. now (a .1 .0)) (λ κs s. now (s .1 .0))
+unfolding readFault
+hp-walk-holds = writes-number readings _ _ (λ κs a. tt) (λ κs r. r .refusal) (λ κs a. readingBytes (now (a .0))) refl refl (λ κs a. reading-wants _) (λ κs a r s p. (ap (λ (f : Fault). f .refusal) (p .0), p .1))
+
 -- ---- calls that are lent nothing to write
 pub hp-validate-identifier-chars-holds : Demand1 hp-validate-identifier-chars.Pre hp-validate-identifier-chars.Post (2 ∷ 5 ∷ []) (λ κs r. r) (λ κs r. []) (λ κs a. []) (λ κs s. [])
 hp-validate-identifier-chars-holds = checks (2 ∷ 5 ∷ []) (λ κs a. tt) (λ κs r. r) (λ κs a r s p. subst (Listed (2 ∷ 5 ∷ [])) (sym p) (chars-number (Listed (2 ∷ 5 ∷ [])) refl refl refl _))
@@ -254,6 +260,10 @@ write-key-holds = writes readings _ _ (λ κs a. tt) (λ κs r. r) (λ κs a. ke
 pub write-reading-holds : Demand1 write-reading.Pre write-reading.Post readings (λ κs r. r .refusal) (λ κs r. []) (λ κs a. now (a .1 .0)) (λ κs s. now (s .1 .0))
 unfolding readFault
 write-reading-holds = writes-number readings _ _ (λ κs a. tt) (λ κs r. r .refusal) (λ κs a. readingBytes (now (a .0))) refl refl (λ κs a. reading-wants _) (λ κs a r s p. (ap (λ (f : Fault). f .refusal) (p .0), p .1))
+
+pub write-walk-holds : Demand1 write-walk.Pre write-walk.Post readings (λ κs r. r .refusal) (λ κs r. []) (λ κs a. now (a .1 .0)) (λ κs s. now (s .1 .0))
+unfolding readFault
+write-walk-holds = writes-number readings _ _ (λ κs a. tt) (λ κs r. r .refusal) (λ κs a. readingBytes (now (a .0))) refl refl (λ κs a. reading-wants _) (λ κs a r s p. (ap (λ (f : Fault). f .refusal) (p .0), p .1))
 
 pub iteration-key-holds : Demand1 iteration-key.Pre iteration-key.Post room (λ κs r. r .refusal) (λ κs r. r .length ∷ []) (λ κs a. now (a .1 .1 .0)) (λ κs s. now (s .1 .1 .0))
 iteration-key-holds = writes room _ _ (λ κs a. tt) (λ κs r. r) (λ κs a. text (iterationKey (a .0 .0) (a .1 .0 .0))) refl refl (λ κs a. tt) (λ κs a r s p. p)

@@ -29,7 +29,8 @@ use Rattle.scan.specs.TailLaws.{word-more, after-word, after-last, after-other,
 use Rattle.families.specs.declared.Walked.{Walked}
 use Rattle.families.specs.Walked.{nothing, read, flat, clientKinds}
 use Rattle.families.specs.FlatLaws.{skip, found, none-left}
-use Rattle.families.specs.PieceLaws.{withName, withPair, rule-none, rule-some, pair-first, pair-none, pair-some}
+use Rattle.families.specs.Ends.{withName}
+use Rattle.families.specs.PieceLaws.{withPair, rule-none, rule-some, pair-first, pair-none, pair-some}
 use Rattle.families.specs.Client.{timeParts, heightParts, stateParts, linkParts, ended, WordKind, state, links, neither, UpdateKind, over, time, height, other, owned, Consensus, unread, five, six, seven}
 
 -- ---- one word more

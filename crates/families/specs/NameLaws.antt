@@ -23,7 +23,8 @@ use Rattle.scan.specs.TailLaws.{Scans, after-end, after-more, after-word}
 use Rattle.families.specs.declared.name.Ends.{Ends}
 use Rattle.families.specs.declared.Walked.{Walked}
 use Rattle.families.specs.Walked.{nothing, read, walked, endsParts, packetParts}
-use Rattle.families.specs.PieceLaws.{withName, rule-none, rule-some, count-none, count-some, count-within, EndsAt}
+use Rattle.families.specs.Ends.{withName, EndsAt}
+use Rattle.families.specs.PieceLaws.{rule-none, rule-some, count-none, count-some, count-within}
 
 -- ---- an identifier, and the text's end
 module _ (k : ℕ) (i : Name) (r : check.Rule) (scans : Scans (name i) (λ s. ltb 0 (ruleRun r s)) (ruleRun r)) (t : List ℕ) (at n : ℕ) (e : n ≡ ruleRun r (drop at t)) where

@@ -31,13 +31,9 @@ use Rattle.scan.specs.NameLaws.{scans-client, scans-connection, scans-port, sca
 use Rattle.scan.specs.Tail.{Tail, none, some, tailOf, afterOf, added}
 use Rattle.scan.specs.TailLaws.{Scans, step-none, step-some, after-word}
 use Rattle.families.specs.declared.name.Ends.{Ends}
-use Rattle.families.specs.Walked.{endsParts}
+use Rattle.families.specs.Ends.{withName, EndsAt}
 
 -- ---- a tail with something in front
-abbrev pub withName : Name → Place → Tail → Tail
-withName n q none = none
-withName n q (some v e) = some (setName n q v) e
-
 abbrev pub withCount : ℕ → Bool → Tail → Tail
 withCount a x none = none
 withCount a x (some v e) = some (carried (v .first) (v .second) a (v .b)) (x && e)
@@ -162,12 +158,6 @@ module _ (t : List ℕ) (at : ℕ) (r h : Counted) (e : r ≡ countedOf at (drop
       (added-pair (numText (drop at t)) (numText (drop (r .end + 1) t)) (record { start = at; len = pairLen (drop at t) }) (afterOf ps (h .end) (drop (h .end) t)) x y ∙ rw (k .0, k .2, m .0, m .2))
 
 -- ---- `P/channels/H`, whatever follows
-pub record EndsAt (t : List ℕ) (at : ℕ) (r : Ends) : Type 0 where
-  pub within : 0 < r .channel → at + r .port + 10 + r .channel ≤ length t
-  pub nothing : r .channel ≡ 0 → (ps : List Part) → tailOf (name Port ∷ word (bytes "channels") ∷ name Channel ∷ ps) at (drop at t) ≡ none
-  pub both : (r .channel ≡ 0 → ⊥) → (ps : List Part) → tailOf (name Port ∷ word (bytes "channels") ∷ name Channel ∷ ps) at (drop at t)
-      ≡ withName Port (record { start = at; len = r .port }) (withName Channel (record { start = at + r .port + 10; len = r .channel }) (afterOf ps (at + r .port + 10 + r .channel) (drop (at + r .port + 10 + r .channel) t)))
-
 module _ (t : List ℕ) (at p : ℕ) (e : p ≡ ruleRun check.port (drop at t)) where
   pub ends-none : p ≡ 0 → EndsAt t at (record { port = 0; channel = 0 })
   ends-none h = record { within = λ k. absurd (omega arith); nothing = λ k ps. rule-none Port check.port scans-port t at p e h _; both = λ k. absurd (k refl) }

@@ -1,4 +1,4 @@
--- The walk of an upgrade path: what it finds, and its exits.
+-- The exits of the walk of an upgrade path.
 -- Assumes nothing.
 use Prim.Native.Nat.{ℕ, suc, _+_, _-_, _≤_, _<_}
 use mathlib.Core.Path.{_≡_, refl, sym, ap, _∙_}
@@ -26,20 +26,10 @@ use Rattle.scan.specs.Tail.{Tail, none, some, tailOf, afterOf}
 use Rattle.scan.specs.TailLaws.{after-slash, after-last, after-other, after-longer}
 use Rattle.families.specs.Walked.{nothing, flat, upgrades}
 use Rattle.families.specs.FlatLaws.{skip, found, none-left}
-use Rattle.families.specs.PieceLaws.{withName, withCount, upgrade-none, upgrade-some, count-none, count-some}
+use Rattle.families.specs.Ends.{withName}
+use Rattle.families.specs.PieceLaws.{withCount, upgrade-none, upgrade-some, count-none, count-some}
+use Rattle.families.specs.Upgrade.{clientParts, consParts, UpgradeKind, client, cons, neither}
 use Rattle.families.specs.Client.{ended}
-
-abbrev pub clientParts : List Part
-clientParts = word (bytes "upgradedClient") ∷ []
-
-abbrev pub consParts : List Part
-consParts = word (bytes "upgradedConsState") ∷ []
-
--- the word after n
-pub data UpgradeKind (t : List ℕ) (q : ℕ) : ℕ → Type 0 where
-  client : afterOf clientParts q (drop q t) ≡ ended → UpgradeKind t q 18
-  cons : afterOf consParts q (drop q t) ≡ ended → UpgradeKind t q 19
-  neither : afterOf clientParts q (drop q t) ≡ none → afterOf consParts q (drop q t) ≡ none → UpgradeKind t q 0
 
 module _ (t : List ℕ) (q : ℕ) (l : q ≤ length t) where
   left-is : length (drop q t) ≡ length t - q

@@ -15,7 +15,7 @@ ghost use Rattle.path.specs.declared.name.Name.the-variants.{Connection, Port};
 ghost use Rattle.path.specs.Kinds.{name};
 ghost use Rattle.scan.specs.Tail.{tailOf};
 ghost use Rattle.families.specs.Walked.{walked, endsParts};
-ghost use Rattle.families.specs.PieceLaws.{EndsAt};
+ghost use Rattle.families.specs.Ends.{EndsAt};
 
 // Kind 9: `K` from `at` on.
 pub fn connection(text: &[u8], at: usize) -> Walked
@@ -54,7 +54,7 @@ pub struct Ends {
 }
 
 // `P/channels/H` from `at` on.
-pub fn ends_at(text: &[u8], at: usize) -> Ends
+pub(crate) fn ends_at(text: &[u8], at: usize) -> Ends
     requires { ⌜ at ≤ length (now text) ⌝ }
     ensures { λ r. ⌜ EndsAt (now (text .entry)) at r ⌝ }
 {

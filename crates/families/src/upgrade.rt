@@ -11,7 +11,7 @@ ghost use Prim.Native.Nat.{_≤_};
 ghost use lib.ListN.{length};
 ghost use Rattle.path.specs.Read.{readFirst};
 ghost use Rattle.families.specs.Walked.{flat, upgrades};
-ghost use Rattle.families.specs.UpgradeLaws.{UpgradeKind};
+ghost use Rattle.families.specs.Upgrade.{UpgradeKind};
 
 // The kind by the word after n, 0 where it is neither.
 fn upgrade_kind(text: &[u8], q: usize) -> u8

@@ -2,11 +2,11 @@
 use key::write_read;
 use keys::Manner;
 use path::Reading;
-use reader::read_path;
 use text::Written;
 use text::refusal::KEY_TOO_LONG;
 use text::refusal::LOOSE;
 use text::refusal::NO_ROOM;
+use walk::walk_path;
 ghost use mathlib.Core.Path.{_≡_};
 ghost use lib.ListN.{length};
 ghost use Rattle.text.specs.Put.{left};
@@ -32,7 +32,7 @@ pub fn key_into(manner: Manner, text: &[u8], field: &mut [u8]) -> Written
     ensures { λ r. ⌜ r ≡ keyAnswer (keyFor manner (now (text .entry))) ⌝ }
     ensures { λ _. ⌜ now (field .exit) ≡ left (keyOf (now (text .entry))) (now (field .entry)) ⌝ }
 {
-    let reading = read_path(text);
+    let reading = walk_path(text);
     let loose = is_loose(manner, reading);
     let w = write_read(text, reading, field);
     let long = w.refusal == NO_ROOM;

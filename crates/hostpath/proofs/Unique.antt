@@ -21,6 +21,7 @@ use Rattle.hostpath.proofs.hp_validate_channel_identifier.Reads as hp-v
 use Rattle.hostpath.proofs.hp_client_id_new.Reads as hp-client-id-new
 use Rattle.hostpath.proofs.hp_channel_id_new.Reads as hp-channel-id-new
 use Rattle.hostpath.proofs.hp_read.Reads as hp-read
+use Rattle.hostpath.proofs.hp_walk.Reads as hp-walk
 use Rattle.hostpath.proofs.hp_key.Reads as hp-key
 use Rattle.hostpath.proofs.hp_render.Reads as hp-render
 use Rattle.hostpath.proofs.hp_is_provable.Reads as hp-is-provable
@@ -89,6 +90,9 @@ one-hp-channel-id-new κs a r₁ r₂ s₁ s₂ p q = agree p q
 
 pub one-hp-read : OneWith hp-read.Post (λ κs s. now (s .1 .0))
 one-hp-read κs a r₁ r₂ s₁ s₂ p q = agree p q
+
+pub one-hp-walk : OneWith hp-walk.Post (λ κs s. now (s .1 .0))
+one-hp-walk κs a r₁ r₂ s₁ s₂ p q = agree p q
 
 pub one-hp-key : OneWith hp-key.Post (λ κs s. now (s .1 .0))
 one-hp-key κs a r₁ r₂ s₁ s₂ p q = agree p q

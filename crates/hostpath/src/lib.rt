@@ -166,6 +166,15 @@ pub extern "C" fn hp_read(text: &[u8], out: &mut [u8]) -> Fault
     reader::write_reading(text, out)
 }
 
+// The same by the second reader, which walks the text once: equal to hp_read on every input.
+#[no_mangle]
+pub extern "C" fn hp_walk(text: &[u8], out: &mut [u8]) -> Fault
+    ensures { λ r. ⌜ r ≡ readFault (now (text .entry)) (length (now (out .entry))) ⌝ }
+    ensures { λ _. ⌜ now (out .exit) ≡ left (readingBytes (now (text .entry))) (now (out .entry)) ⌝ }
+{
+    walk::write_walk(text, out)
+}
+
 // The rendering of the text: 1, 2, 3 (17, 18, 19), 4.
 #[no_mangle]
 pub extern "C" fn hp_key(text: &[u8], out: &mut [u8]) -> Written

@@ -59,5 +59,5 @@ pub fn write_key(text: &[u8], out: &mut [u8]) -> Written
     ensures { λ r. ⌜ r ≡ answer (keyOf (now (text .entry))) (length (now (out .entry))) ⌝ }
     ensures { λ _. ⌜ now (out .exit) ≡ left (keyOf (now (text .entry))) (now (out .entry)) ⌝ }
 {
-    write_read(text, reader::read_path(text), out)
+    write_read(text, walk::walk_path(text), out)
 }

@@ -28,7 +28,7 @@ pub enum StateAnswer {
 fn state_in(key: &[u8], client: &[u8]) -> StateAnswer
     ensures { λ r. ⌜ r ≡ stateOf (now (client .entry)) (now (key .entry)) ⌝ }
 {
-    let Reading::Read { path, exact: _ } = reader::read_path(key) else {
+    let Reading::Read { path, exact: _ } = walk::walk_path(key) else {
         return StateAnswer::Nothing;
     };
     let v = path::view(path);

@@ -26,7 +26,7 @@ use Rattle.scan.specs.declared.number.Figures.{Figures}
 use Rattle.scan.specs.declared.number.Counted.{Counted}
 use Rattle.scan.specs.Run.{run}
 use Rattle.scan.specs.RunLaws.{run-within, run-every}
-use Rattle.scan.specs.Number.{figures, sign, numLen, numText, countedOf}
+use Rattle.scan.specs.Number.{figures, sign, numLen, numText, countedOf, plainOf}
 use Rattle.scan.specs.WordLaws.{starts-split}
 use Rattle.scan.specs.NumberLaws.{value-cond, no-value}
 
@@ -82,9 +82,6 @@ figures-no v i j (b ∷ s) h = go (isDigit b) refl (ltb (withDigit v b) (2 ^ 64)
     go false d l m k ih = no-value (sym k)
 
 -- ---- a number without a sign is spelled as it is rendered where it has one digit, or no leading zero
-unfoldable pub plainOf : ℕ → ℕ → Bool
-plainOf n b = cond (eqb n 1) true (not (eqb b 48))
-
 -- each digit after a value makes it one digit wider
 wider : (s : List ℕ) (v i n : ℕ) → 0 < v → digitsFrom v i s ≡ Value n → width v + length s ≡ width n
 unfolding digitsFrom

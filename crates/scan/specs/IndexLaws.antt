@@ -26,6 +26,7 @@ use Rattle.scan.specs.RunLaws.{run-every, run-within}
 use Rattle.scan.specs.WordLaws.{starts-split, starts-whole}
 use Rattle.scan.specs.NameLaws.{run-is}
 use Rattle.scan.specs.Tail.{Stops, at-end, at-slash}
+use Rattle.scan.specs.Index.{Leads, Index}
 
 -- ---- digits of a number below ten to the j, and at most 19 in all
 unfoldable tens : ℕ → ℕ
@@ -67,10 +68,6 @@ no-fault (NoDigits i) h = let z : _≡_ {A = ℕ} 0 1 = cc in absurd (omega arit
 no-fault (NotADigit i) h = let z : _≡_ {A = ℕ} 0 1 = cc in absurd (omega arith)
 no-fault (TooLarge i) h = let z : _≡_ {A = ℕ} 0 1 = cc in absurd (omega arith)
 
--- one digit, or no leading zero
-abbrev pub Leads : ℕ → ℕ → Type 0
-Leads n b = (n ≡ 1) ⊎ (b ≡ 48 → ⊥)
-
 index-good : (d : List ℕ) → every isDigit d ≡ true → 0 < length d → length d ≤ 19 → Leads (length d) (getD d 0 0) → indexOf d ≡ 0
 index-good d h l m (inl e) = index-short d (omega arith) ∙ no-fault (numeralOf d) (number-value d h l m)
 index-good d h l m (inr e) = index-other d l e ∙ no-fault (numeralOf d) (number-value d h l m)
@@ -87,14 +84,6 @@ digits-identifier : (d : List ℕ) → every isDigit d ≡ true → every identi
 unfolding every
 digits-identifier [] h = refl
 digits-identifier (b ∷ d) h = rw (digit-identifier b (and-left (isDigit b) (every isDigit d) h)) (digits-identifier d (and-right (isDigit b) (every isDigit d) h))
-
--- ---- what the code finds: where an index that needs no reading ends
-pub record Index (s : List ℕ) (d e : ℕ) : Type 0 where
-  pub some : d < e
-  pub few : e ≤ d + 19
-  pub digits : e ≡ d + run isDigit (drop d s)
-  pub leads : Leads (e - d) (getD s d 0)
-  pub stops : Stops (drop e s)
 
 -- a place where a component ends
 pub stops-end : (s : List ℕ) (i : ℕ) → i ≡ length s → Stops (drop i s)

@@ -35,6 +35,10 @@ numText s = take (numLen s) s
 unfoldable pub countedOf : ℕ → List ℕ → Counted
 countedOf at s = cond (isNumber (numText s)) (record { ok = true; value = numberIn (numText s); end = at + numLen s; plain = spelled count (numText s) }) (record { ok = false; value = 0; end = 0; plain = false })
 
+-- n digits, the first of them b, are spelled as their number is rendered: one digit, or no leading zero
+unfoldable pub plainOf : ℕ → ℕ → Bool
+plainOf n b = cond (eqb n 1) true (not (eqb b 48))
+
 -- R-h at the start of a text
 unfoldable pub pairOk : List ℕ → Bool
 pairOk s = isNumber (numText s) && (startsWith (45 ∷ []) (drop (numLen s) s) && isNumber (numText (drop (numLen s + 1) s)))

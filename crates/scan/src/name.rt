@@ -12,7 +12,7 @@ ghost use lib.ListN.{length, drop, getD};
 ghost use Rattle.text.specs.Part.{ascii};
 ghost use Rattle.identifiers.specs.Check.{identifierByte, plain, channel, connection};
 ghost use Rattle.scan.specs.Byte.{upper, figure, mark};
-ghost use Rattle.scan.specs.IndexLaws.{Index};
+ghost use Rattle.scan.specs.Index.{Index};
 ghost use Rattle.scan.specs.Number.{noSlash};
 ghost use Rattle.scan.specs.Run.{run, ruleRun};
 

@@ -7,8 +7,7 @@ ghost use lib.Dec.{ltb};
 ghost use lib.ListN.{length, drop, getD};
 ghost use Rattle.text.specs.Number.{isDigit};
 ghost use Rattle.text.specs.Part.{startsWith};
-ghost use Rattle.scan.specs.CountLaws.{plainOf};
-ghost use Rattle.scan.specs.Number.{figures, countedOf};
+ghost use Rattle.scan.specs.Number.{figures, countedOf, plainOf};
 ghost use Rattle.scan.specs.Run.{run};
 
 // Digits as a number, and where they end; not ok where the value passes a u64.
@@ -39,7 +38,7 @@ fn is_digit(b: u8) -> bool
 }
 
 // Where the digits from `at` on end.
-pub fn digit_end(s: &[u8], at: usize) -> usize
+pub(crate) fn digit_end(s: &[u8], at: usize) -> usize
     requires { ⌜ at ≤ length (now s) ⌝ }
     ensures { λ r. ⌜ (at ≤ r) × (r ≤ length (now (s .entry))) × (r ≡ at + run isDigit (drop at (now (s .entry)))) ⌝ }
 {

@@ -22,7 +22,7 @@ use Rattle.path.specs.Reads.{kindAt}
 use Rattle.path.specs.ReadLaws.{is-reads, made-range, path-made}
 use Rattle.path.specs.AsciiLaws.{first-low, kinds-low}
 use Rattle.path.specs.View.{kindOf, carriedOf, seen, viewOf}
-use Rattle.parse.specs.CountLaws.{read-append}
+use Rattle.pieces.specs.CountLaws.{read-append}
 use Rattle.reader.specs.ReadingLaws.{no-path}
 use Rattle.families.specs.declared.Walked.{Walked}
 use Rattle.families.specs.Walked.{nothing, flat, listed, upgrades}

@@ -19,7 +19,7 @@ const NO_INDEX: u8 = 8;
 /// What it says to a call where a number alone is wrong.
 pub fn untold(function: Function) -> u8 {
     match function {
-        Function::Read | Function::Key => NOT_A_PATH,
+        Function::Read | Function::Walk | Function::Key => NOT_A_PATH,
         _ => NO_INDEX,
     }
 }
@@ -38,7 +38,9 @@ pub fn says(call: &Call) -> Theirs<Text> {
             Theirs::Silent("no reader")
         }
         Function::V2Read | Function::V2Write => Theirs::Silent(NO_PACKET_KEY),
-        Function::Read => reads(call.texts[0], |path, _| Bytes(vec![terms::parts(path).kind])),
+        Function::Read | Function::Walk => {
+            reads(call.texts[0], |path, _| Bytes(vec![terms::parts(path).kind]))
+        }
         Function::Key => reads(call.texts[0], |_, key| Bytes(key.into())),
         Function::Render => renders(call),
         Function::IsProvable => provable(call.kind),

@@ -130,6 +130,10 @@ impl Asked {
         }
     }
 
+    fn reads(&self) -> bool {
+        matches!(self.function, Function::Read | Function::Walk)
+    }
+
     fn shown(&self, answer: Text) -> String {
         let text = match answer {
             Ok(Bytes(text)) => text,
@@ -137,8 +141,8 @@ impl Asked {
             Err(fault) => return fault.to_string(),
         };
         match &text[..] {
-            [kind] if self.function == Function::Read => format!("kind {kind}"),
-            [kind, mark, ..] if self.function == Function::Read => {
+            [kind] if self.reads() => format!("kind {kind}"),
+            [kind, mark, ..] if self.reads() => {
                 format!("kind {kind}, {}", ["loose", "exact"][usize::from(*mark)])
             }
             _ if !self.function.writes() => "0".into(),

@@ -1,4 +1,4 @@
-//! Reading: `hp_read` and `hp_key` against `Path::from_str` and `Path`'s `Display`.
+//! Reading: `hp_read`, `hp_walk` and `hp_key` against `Path::from_str` and `Path`'s `Display`.
 use model::path::{self, Part, KINDS};
 use model::pool::{self, Pools};
 use model::random::Random;
@@ -6,7 +6,7 @@ use model::table;
 
 use crate::call::{Call, Function};
 use crate::set::{Bytes, Set, Text, Theirs};
-use crate::told::{self, read_call};
+use crate::told::{self, read_call, walk_call};
 use crate::{Sets, Size};
 
 pub const SETS: Sets = &[
@@ -37,6 +37,7 @@ pub fn ask(set: &mut Set, text: &[u8]) {
     let key: Text = model.as_ref().map(|(_, key)| key.clone()).map_err(|e| e.refusal.into());
     set.count();
     set.lend_around(read_call(text), &bytes);
+    set.lend_around(walk_call(text), &bytes);
     set.lend_around(key_call(text), &key);
     let told = model.map(|(reading, key)| told::by_reading(&reading, &key.0, text));
     set.agree(told::by_original(text), &told, read_call(text));

@@ -26,6 +26,11 @@ pub fn read_call(text: &[u8]) -> Call<'_> {
     Call::new(Function::Read, [text, b""], [0, 0])
 }
 
+/// The same by the second reader.
+pub fn walk_call(text: &[u8]) -> Call<'_> {
+    Call::new(Function::Walk, [text, b""], [0, 0])
+}
+
 /// The original has no mark: it is taken to say whether its rendering is the text.
 pub fn by_original(text: &[u8]) -> Theirs<Answer> {
     reads(text, |path, key| {

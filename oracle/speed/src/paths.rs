@@ -30,7 +30,9 @@ fn refused() -> Vec<String> {
     cut.filter(|text| path::read(text.as_bytes()).is_err()).collect()
 }
 
-fn reading(name: String, texts: Vec<String>) -> Family {
+type Reader = fn(&[u8], &mut [u8]) -> raw::Fault;
+
+fn reading(name: String, texts: Vec<String>, read: Reader) -> Family {
     let same = texts.clone();
     Family::new(
         name,
@@ -38,7 +40,7 @@ fn reading(name: String, texts: Vec<String>) -> Family {
         move || {
             let mut out = [0; READING];
             for text in &same {
-                let answer = raw::read(black_box(text.as_bytes()), &mut out);
+                let answer = read(black_box(text.as_bytes()), &mut out);
                 keep((answer, &out));
             }
         },
@@ -96,10 +98,15 @@ fn rendering(name: String, texts: &[String]) -> Family {
 pub fn families() -> Vec<Family> {
     let mut all = vec![];
     for (kind, shape) in (1..).zip(KINDS) {
-        all.push(reading(format!("reading, kind {kind}"), texts(shape)));
+        all.push(reading(format!("reading, kind {kind}"), texts(shape), raw::read));
     }
-    all.push(reading("reading, all kinds together".into(), all_texts()));
-    all.push(reading("reading, refused".into(), refused()));
+    all.push(reading("reading, all kinds together".into(), all_texts(), raw::read));
+    all.push(reading("reading, refused".into(), refused(), raw::read));
+    for (kind, shape) in (1..).zip(KINDS) {
+        all.push(reading(format!("walk, kind {kind}"), texts(shape), raw::walk));
+    }
+    all.push(reading("walk, all kinds together".into(), all_texts(), raw::walk));
+    all.push(reading("walk, refused".into(), refused(), raw::walk));
     for (kind, shape) in (1..).zip(KINDS) {
         all.push(rendering(format!("rendering, kind {kind}"), &texts(shape)));
     }

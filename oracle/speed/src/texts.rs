@@ -38,6 +38,10 @@ pub fn run(call: &str, kind: usize, times: usize) {
                 original_read(text);
                 keep(raw::read(bytes, &mut reading));
             }
+            "walk" => {
+                original_read(text);
+                keep(raw::walk(bytes, &mut reading));
+            }
             "render" => {
                 original_render(black_box(&path));
                 keep(raw::render(kind, first, second, a, b, &mut out));
@@ -46,7 +50,7 @@ pub fn run(call: &str, kind: usize, times: usize) {
                 original_key(text);
                 keep(raw::key(bytes, &mut out));
             }
-            _ => panic!("read, render or key"),
+            _ => panic!("read, walk, render or key"),
         }
     }
 }

@@ -114,7 +114,7 @@ impl<'a> Path<'a> {
     /// ```
     pub fn read(text: &'a [u8]) -> Result<Reading<'a>, Fault> {
         let mut bytes = [0; READING];
-        Fault::of_path(raw::read(text, &mut bytes), text)?;
+        Fault::of_path(raw::walk(text, &mut bytes), text)?;
         let part = |at: usize| {
             let start = number(&bytes[at..at + 2]) as usize;
             ascii(&text[start..start + number(&bytes[at + 2..at + 4]) as usize])

@@ -97,6 +97,8 @@ pub mod c {
         pub fn hp_channel_id_new(counter: u64, out: *mut u8, out_len: usize) -> Written;
         /// [`read`] on pointers.
         pub fn hp_read(text: *const u8, text_len: usize, out: *mut u8, out_len: usize) -> Fault;
+        /// [`walk`] on pointers.
+        pub fn hp_walk(text: *const u8, text_len: usize, out: *mut u8, out_len: usize) -> Fault;
         /// [`key`] on pointers.
         pub fn hp_key(text: *const u8, text_len: usize, out: *mut u8, out_len: usize) -> Written;
         /// [`render`] on pointers.
@@ -242,6 +244,12 @@ pub fn channel_id_new(counter: u64, out: &mut [u8]) -> Written {
 pub fn read(text: &[u8], out: &mut [u8]) -> Fault {
     // SAFETY: each pointer and count are those of one live slice.
     unsafe { c::hp_read(text.as_ptr(), text.len(), out.as_mut_ptr(), out.len()) }
+}
+
+/// The same by the second reader, which walks the text once: equal to hp_read on every input.
+pub fn walk(text: &[u8], out: &mut [u8]) -> Fault {
+    // SAFETY: each pointer and count are those of one live slice.
+    unsafe { c::hp_walk(text.as_ptr(), text.len(), out.as_mut_ptr(), out.len()) }
 }
 
 /// The rendering of the text: 1, 2, 3 (17, 18, 19), 4.

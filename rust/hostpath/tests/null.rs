@@ -34,6 +34,8 @@ fn paths() {
     unsafe {
         assert_eq!(hp_read(null(), 0, null_mut(), 0), fault(3));
         assert_eq!(hp_read(port, size, null_mut(), 0), fault(4));
+        assert_eq!(hp_walk(null(), 0, null_mut(), 0), fault(3));
+        assert_eq!(hp_walk(port, size, null_mut(), 0), fault(4));
         assert_eq!(hp_key(null(), 0, null_mut(), 0), refused(3));
         assert_eq!(hp_key(port, size, null_mut(), 0), refused(4));
         assert_eq!(hp_render(10, null(), 0, null(), 0, 0, 0, null_mut(), 0), refused(6));

@@ -6,17 +6,17 @@ use Rattle.field.proofs.key_into.Statement.{statement}
 use Rattle.field.proofs.key_into.Tie as tie
 
 returns : tie.Need-returns
-returns c = (field-loose _ _ _ (c .before .before .before .before .before .before .before .read-path .ensures) _ (c .before .before .before .before .before .before .is-loose .ensures) (c .if1 .taken), c .before .before .before .before .write-read .ensures .1)
+returns c = (field-loose _ _ _ (c .before .before .before .before .before .before .before .walk-path .ensures) _ (c .before .before .before .before .before .before .is-loose .ensures) (c .if1 .taken), c .before .before .before .before .write-read .ensures .1)
 
 returns-2 : tie.Need-returns-2
 returns-2 c =
     let w = c .before .before .before .before .before .write-read in
-    (field-long _ _ _ (c .before .before .before .before .before .before .before .before .read-path .ensures) _ (c .before .before .before .before .before .before .before .is-loose .ensures) _ _ (c .before .before .before .before .before .before .before .before .before .before .before .pre) (w .ensures .0) (c .before .if1 .left) (c .if2 .taken), w .ensures .1)
+    (field-long _ _ _ (c .before .before .before .before .before .before .before .before .walk-path .ensures) _ (c .before .before .before .before .before .before .before .is-loose .ensures) _ _ (c .before .before .before .before .before .before .before .before .before .before .before .pre) (w .ensures .0) (c .before .if1 .left) (c .if2 .taken), w .ensures .1)
 
 returns-3 : tie.Need-returns-3
 returns-3 c =
     let w = c .before .before .before .before .before .write-read in
-    (field-fits _ _ _ (c .before .before .before .before .before .before .before .before .read-path .ensures) _ (c .before .before .before .before .before .before .before .is-loose .ensures) _ _ (c .before .before .before .before .before .before .before .before .before .before .before .pre) (w .ensures .0) (c .before .if1 .left) (c .if2 .left), w .ensures .1)
+    (field-fits _ _ _ (c .before .before .before .before .before .before .before .before .walk-path .ensures) _ (c .before .before .before .before .before .before .before .is-loose .ensures) _ _ (c .before .before .before .before .before .before .before .before .before .before .before .pre) (w .ensures .0) (c .before .if1 .left) (c .if2 .left), w .ensures .1)
 
 pub key-into-spec : {M : Type 1} → statement M
 key-into-spec =

@@ -3,7 +3,7 @@
 use mathlib.Core.Path.{_≡_, sym, _∙_}
 use borrow.Author.Tests.{not-false}
 use Rattle.text.specs.Bytes.{bytes}
-use Rattle.scan.specs.IndexLaws.{connection-run, Index}
+use Rattle.scan.specs.IndexLaws.{connection-run}
 use Rattle.scan.specs.WordLaws.{word-room}
 use Rattle.scan.specs.Words.{connection-word}
 use native.Mathlib.Omega.{arith}

@@ -1,7 +1,7 @@
 -- `index_end` meets its contract.
 -- Assumes nothing.
 use mathlib.Core.Path.{_≡_, sym, _∙_}
-use Rattle.scan.specs.IndexLaws.{Index, index-some, stops-end, stops-slash}
+use Rattle.scan.specs.IndexLaws.{index-some, stops-end, stops-slash}
 use native.Mathlib.Omega.{arith}
 use borrow.Author.Needs.{needs}
 use Rattle.scan.proofs.name.index_end.Statement.{statement}

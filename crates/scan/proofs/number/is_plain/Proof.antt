@@ -2,7 +2,7 @@
 -- Assumes nothing.
 use mathlib.Core.Path.{_≡_, refl}
 use borrow.Author.Tests.{eq-eqb, ne-eqb}
-use Rattle.scan.specs.CountLaws.{plainOf}
+use Rattle.scan.specs.Number.{plainOf}
 use Rattle.scan.proofs.number.is_plain.Statement.{statement}
 use Rattle.scan.proofs.number.is_plain.Tie as tie
 

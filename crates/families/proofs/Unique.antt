@@ -1,0 +1,36 @@
+-- The contract of each public function, as the source has it, leaves one outcome.
+-- Assumes nothing.
+use mathlib.Core.Path.{_≡_, sym, _∙_}
+use Rattle.text.specs.Outcome.{One}
+use Rattle.families.proofs.no_path.Reads as no-path
+use Rattle.families.proofs.bare.Reads as bare
+use Rattle.families.proofs.client.client.Reads as client
+use Rattle.families.proofs.name.connection.Reads as connection
+use Rattle.families.proofs.name.port.Reads as port
+use Rattle.families.proofs.name.channel.Reads as channel
+use Rattle.families.proofs.packet.packet.Reads as packet
+use Rattle.families.proofs.upgrade.upgrade.Reads as upgrade
+
+pub one-no-path : One no-path.Post
+one-no-path κs a r₁ r₂ s₁ s₂ p q = p ∙ sym q
+
+pub one-bare : One bare.Post
+one-bare κs a r₁ r₂ s₁ s₂ p q = p ∙ sym q
+
+pub one-client : One client.Post
+one-client κs a r₁ r₂ s₁ s₂ p q = p ∙ sym q
+
+pub one-connection : One connection.Post
+one-connection κs a r₁ r₂ s₁ s₂ p q = p ∙ sym q
+
+pub one-port : One port.Post
+one-port κs a r₁ r₂ s₁ s₂ p q = p ∙ sym q
+
+pub one-channel : One channel.Post
+one-channel κs a r₁ r₂ s₁ s₂ p q = p ∙ sym q
+
+pub one-packet : One packet.Post
+one-packet κs a r₁ r₂ s₁ s₂ p q = p ∙ sym q
+
+pub one-upgrade : One upgrade.Post
+one-upgrade κs a r₁ r₂ s₁ s₂ p q = p ∙ sym q
