@@ -1,4 +1,6 @@
-use Prim.Native.Nat.{ℕ, suc, _+_, _-_, _<_, _≤_}
+-- `digit_end` meets its contract.
+-- Assumes nothing.
+use Prim.Native.Nat.{_+_, _-_, _≤_}
 use mathlib.Core.Path.{_≡_, refl, sym, _∙_}
 use lib.ListN.{length, drop}
 use Rattle.text.specs.Number.{isDigit}
@@ -8,9 +10,6 @@ use borrow.Author.Needs.{needs}
 use native.Mathlib.Omega.{arith}
 use Rattle.scan.proofs.number.digit_end.Statement.{statement}
 use Rattle.scan.proofs.number.digit_end.Tie as tie
-use Rattle.scan.proofs.number.digit_end.Reads as reads
-use Rattle.scan.proofs.number.digit_end.Lts as lts
-use Rattle.scan.proofs.number.is_digit.Reads as is-digit-reads
 
 abbrev Inv-loop : tie.InvT-loop
 Inv-loop s at i₀ i = ((at ≤ i) × (i ≤ length s)) × (at + run isDigit (drop at s) ≡ i + run isDigit (drop i s))
@@ -18,35 +17,15 @@ Inv-loop s at i₀ i = ((at ≤ i) × (i ≤ length s)) × (at + run isDigit (dr
 abbrev μ-loop : tie.MeasureT-loop
 μ-loop s at i₀ i = length s - i
 
--- src/scan.rt:146:5
 loop-holds : tie.Need-loop-holds Inv-loop μ-loop
 loop-holds c = (search needs, refl)
 
--- src/scan.rt:146:40
-shared-slice-read-is-digit : tie.Need-shared-slice-read-is-digit Inv-loop μ-loop
-shared-slice-read-is-digit c = search needs
-
--- src/scan.rt:146:26
-is-digit-requires : tie.Need-is-digit-requires Inv-loop μ-loop
-is-digit-requires c κs = search needs
-
--- src/scan.rt:147:9
-add-i : tie.Need-add-i Inv-loop μ-loop
-add-i c = search needs
-
--- src/scan.rt:146:5
-loop-less : tie.Need-loop-less Inv-loop μ-loop
-loop-less c = search needs
-
--- src/scan.rt:146:5
 loop-again : tie.Need-loop-again Inv-loop μ-loop
 loop-again c = let l = c .before .before .before .before .loop in let e = run-more isDigit (c .before .before .before .before .before .before .args .s .now) (l .i) (omega arith) (sym (c .before .is-digit .ensures) ∙ c .if1 .taken) in (search needs, omega (arith, e, l .inv .1))
 
--- src/scan.rt:141:1
 returns : tie.Need-returns Inv-loop μ-loop
 returns c = let l = c .before .before .before .before .loop in let e = run-stop isDigit (c .before .before .before .before .before .before .args .s .now) (l .i) (omega arith) (sym (c .before .is-digit .ensures) ∙ c .if1 .left) in (omega arith, omega arith, omega (arith, e, l .inv .1))
 
--- src/scan.rt:141:1
 returns-2 : tie.Need-returns-2 Inv-loop μ-loop
 returns-2 c = let l = c .before .loop in let e = run-none isDigit (c .before .before .before .args .s .now) (l .i) (omega arith) in (omega arith, omega arith, omega (arith, e, l .inv .1))
 
@@ -57,10 +36,10 @@ digit-end-spec =
     Inv-loop
     μ-loop
     loop-holds
-    shared-slice-read-is-digit
-    is-digit-requires
-    add-i
-    loop-less
+    (λ c. search needs)
+    (λ c κs. search needs)
+    (λ c. search needs)
+    (λ c. search needs)
     loop-again
     returns
     returns-2)

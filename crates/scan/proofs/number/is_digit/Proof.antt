@@ -1,24 +1,24 @@
-use mathlib.Core.Path.{sym}
+-- `is_digit` meets its contract.
+-- Assumes nothing.
 use Prim.Native.Nat.{_≤_, _<_}
 use borrow.Author.Tests.{lt-leb, le-leb}
-use borrow.Author.Needs.{needs}
 use native.Mathlib.Omega.{arith}
 use Rattle.scan.proofs.number.is_digit.Statement.{statement}
 use Rattle.scan.proofs.number.is_digit.Tie as tie
-use Rattle.scan.proofs.number.is_digit.Reads as reads
-use Rattle.scan.proofs.number.is_digit.Lts as lts
 
--- src/scan.rt:99:9
 returns : tie.Need-returns
 returns c = rw (lt-leb 48 _ (c .if1 .taken))
 
--- src/scan.rt:102:9
 returns-2 : tie.Need-returns-2
 returns-2 c = let b = c .before .before .args .b in let l : 48 ≤ b = omega arith in let h : 57 < b = omega arith in rw (le-leb 48 b l, lt-leb b 57 h)
 
--- src/scan.rt:95:1
 returns-3 : tie.Need-returns-3
 returns-3 c = let b = c .before .before .args .b in let l : 48 ≤ b = omega arith in let h : b ≤ 57 = omega arith in rw (le-leb 48 b l, le-leb b 57 h)
 
 pub is-digit-spec : {M : Type 1} → statement M
-is-digit-spec = tie.close (tie.spec returns returns-2 returns-3)
+is-digit-spec =
+    tie.close
+    (tie.spec
+    returns
+    returns-2
+    returns-3)
