@@ -129,6 +129,8 @@ enum hp_refusal {
     HP_TOO_LARGE = 19,
     /* a number of the text has a plus or leading zeros, so it is not its own key: give its key, or make the lenient call */
     HP_LOOSE = 20,
+    /* the text is no UTF-8: give it as UTF-8 without overlong forms and surrogates */
+    HP_BAD_UTF8 = 21,
     /* the bytes are not a client, a marker of 1, 2 or 3 and 8 more, or the kind is not one of these: give a whole packet key */
     HP_BAD_V2_KEY = 24
     /* Above, made by bin/interface. */
@@ -245,6 +247,47 @@ struct hp_written hp_commitment_prefix(uint8_t *out, size_t out_len);
 struct hp_written hp_ack_prefix(uint8_t *out, size_t out_len);
 /* `receipts`: 4. */
 struct hp_written hp_receipt_prefix(uint8_t *out, size_t out_len);
+
+/* Letters beyond ASCII: as the plain call of that name, with 21 in the place of 2. Characters are those of UTF-8; a letter or number
+ * of any script may stand in an identifier; lengths and places are counted in bytes. */
+
+/* All characters are letters, numbers or one of `. _ + - # [ ] < >`: 21, 5. */
+uint8_t hp_wide_validate_identifier_chars(const uint8_t *id, size_t id_len);
+/* As hp_validate_identifier_length: 21, 6. */
+uint8_t hp_wide_validate_identifier_length(const uint8_t *id, size_t id_len, uint64_t min, uint64_t max);
+/* As hp_validate_prefix_length: 21, 6. */
+uint8_t hp_wide_validate_prefix_length(const uint8_t *prefix, size_t prefix_len, uint64_t min, uint64_t max);
+/* As hp_validate_named_u64_index; the digits of an index are ASCII: 21, 7, then 17, 18 or 19. */
+struct hp_fault hp_wide_validate_named_u64_index(const uint8_t *id, size_t id_len, const uint8_t *name, size_t name_len);
+/* As hp_validate_client_type: 21, 5, 6. */
+uint8_t hp_wide_validate_client_type(const uint8_t *id, size_t id_len);
+/* As hp_validate_client_identifier: 21, 5, 6. */
+uint8_t hp_wide_validate_client_identifier(const uint8_t *id, size_t id_len);
+/* As hp_validate_connection_identifier: 21, 5, 6, 7, then 17, 18 or 19. */
+struct hp_fault hp_wide_validate_connection_identifier(const uint8_t *id, size_t id_len);
+/* As hp_validate_port_identifier: 21, 5, 6. */
+uint8_t hp_wide_validate_port_identifier(const uint8_t *id, size_t id_len);
+/* As hp_validate_channel_identifier: 21, 5, 6, 7, then 17, 18 or 19. */
+struct hp_fault hp_wide_validate_channel_identifier(const uint8_t *id, size_t id_len);
+/* As hp_client_id_new, without the white space of all scripts at the ends: 21, 5, 6, 4. */
+struct hp_written hp_wide_client_id_new(const uint8_t *client_type, size_t client_type_len, uint64_t counter, uint8_t *out, size_t out_len);
+/* As hp_read: 1, 21, 3 (17, 18, 19), 4. */
+struct hp_fault hp_wide_read(const uint8_t *text, size_t text_len, uint8_t *out, size_t out_len);
+/* As hp_key: 1, 21, 3 (17, 18, 19), 4. */
+struct hp_written hp_wide_key(const uint8_t *text, size_t text_len, uint8_t *out, size_t out_len);
+/* As hp_render: 14, first, second (an upgrade path: 21, 13), 1, 4. */
+struct hp_written hp_wide_render(uint8_t kind, const uint8_t *first, size_t first_len, const uint8_t *second, size_t second_len, uint64_t a, uint64_t b, uint8_t *out, size_t out_len);
+/* As hp_consensus_state_parent: the client's 21, 5, 6; then 4. */
+struct hp_written hp_wide_consensus_state_parent(const uint8_t *client, size_t client_len, uint8_t *out, size_t out_len);
+/* As hp_commitments_path: the port's 21, 5, 6; the channel's 21, 5, 6, 7, then
+ * 17, 18 or 19; then 4. */
+struct hp_written hp_wide_commitments_path(const uint8_t *port, size_t port_len, const uint8_t *channel, size_t channel_len, uint8_t *out, size_t out_len);
+/* As hp_acks_path: the port's 21, 5, 6; the channel's 21, 5, 6, 7, then
+ * 17, 18 or 19; then 4. */
+struct hp_written hp_wide_acks_path(const uint8_t *port, size_t port_len, const uint8_t *channel, size_t channel_len, uint8_t *out, size_t out_len);
+/* As hp_receipts_path: the port's 21, 5, 6; the channel's 21, 5, 6, 7, then
+ * 17, 18 or 19; then 4. */
+struct hp_written hp_wide_receipts_path(const uint8_t *port, size_t port_len, const uint8_t *channel, size_t channel_len, uint8_t *out, size_t out_len);
 
 /* Books. */
 

@@ -3,7 +3,7 @@
  * such call gets a function around it. */
 #include "hostpath.h"
 
-/* Below, made by bin/interface: wide calls. */
+/* Below, made by bin/interface: calls around others. */
 
 void inner_hp_read_iteration_key(struct hp_pair *answer, const uint8_t *key, size_t key_len);
 

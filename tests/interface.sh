@@ -38,7 +38,7 @@ refuses rust/hostpath/src/raw.rs '/ hp_render(/s/a: u64, b: u64/b: u64, a: u64/'
 refuses rust/hostpath/src/raw.rs '/c::hp_render(/s/, a, b,/, b, a,/' rust/hostpath/src/raw.rs
 refuses oracle/compare/src/dispatch.rs 's/render(kind, texts\[0\], texts\[1\]/render(kind, texts[1], texts[0]/' oracle/compare/src/dispatch.rs
 for file in include/hostpath.h rust/hostpath/src/raw.rs; do
-    refuses crates/hostpath/src/lib.rt '/fn hp_acks_path(/s/port: &\[u8\], channel: &\[u8\]/channel: \&[u8], port: \&[u8]/' "$file"
+    refuses crates/hostpath/src/lib.rt '/fn hp_book_write(/s/text: &\[u8\], value: &\[u8\]/value: \&[u8], text: \&[u8]/' "$file"
 done
 # a type, a buffer that is no longer lent to be written, the order of an answer's fields
 refuses include/hostpath.h '/ hp_is_provable(/s/uint8_t kind/uint64_t kind/' include/hostpath.h
@@ -51,6 +51,10 @@ refuses crates/hostpath/src/lib.rt 's/^\/\/ The C interface: /\/\/ EMPTY: /' 'a 
 # a call without a word, and one that takes what no C call can be given
 refuses crates/hostpath/src/lib.rt '/^\/\/ The rendering of the text: /d' 'hp_key has no comment above it'
 refuses crates/hostpath/src/lib.rt '/fn hp_is_provable(/s/u8)/bool)/' 'hp_is_provable takes a bool'
+# a wide call that takes or answers other things than the plain one, and one of no plain call
+refuses crates/hostpath/src/lib.rt '/fn hp_wide_acks_path(/s/port: &\[u8\], channel: &\[u8\]/channel: \&[u8], port: \&[u8]/' 'hp_wide_acks_path takes or answers other things'
+refuses crates/hostpath/src/lib.rt '/fn hp_wide_key(/s/Written/Fault/' 'hp_wide_key takes or answers other things'
+refuses crates/hostpath/src/lib.rt 's/fn hp_wide_key(/fn hp_wide_keys(/' 'hp_wide_keys is the wide mode of no call'
 
 echo "$passed passed, $failed failed"
 [ "$failed" -eq 0 ]

@@ -103,6 +103,25 @@ function check(    n, k, seen, told) {
     }
     for (k in sentence) told--
     if (told) fault("a sentence is of no refusal")
+    for (n = 1; n <= calls; n++) if (is_wide(n)) same(n)
+}
+
+function is_wide(n) {
+    return call[n] ~ /^wide_/
+}
+
+# The call whose wide mode a call is.
+function plain(n) {
+    return substr(call[n], length("wide_") + 1)
+}
+
+# A wide call takes and answers what the plain one does.
+function same(n,    k, i, other) {
+    for (k = 1; k <= calls && call[k] != plain(n); k++);
+    if (k > calls) fault("hp_" call[n] " is the wide mode of no call")
+    other = answer[n] != answer[k] || count[n] != count[k]
+    for (i = 1; i <= count[n]; i++) if (name[n, i] != name[k, i] || type[n, i] != type[k, i]) other = 1
+    if (other) fault("hp_" call[n] " takes or answers other things than hp_" call[k])
 }
 
 # --- What is made
@@ -169,7 +188,7 @@ function of_call(what, n) {
     if (what == "calls in c") {
         if (heads[n] != "") say("\n" c_comment(heads[n]) "\n")
         say(c_comment(says[n]) "\n" c_prototype(n) ";")
-    } else if (what == "wide calls") {
+    } else if (what == "calls around others") {
         if (answer[n] != "u8" && fields[answer[n]] > 2) around(n)
     } else if (what == "calls on pointers") {
         say("/// [`" call[n] "`] on pointers.")
@@ -182,7 +201,11 @@ function of_call(what, n) {
     } else if (what == "calls") say(camel(call[n]) ",")
     else if (what == "names of calls") say("\"hp_" call[n] "\" => Self::" camel(call[n]) ",")
     else if (what == "what calls take") say("Self::" camel(call[n]) " => [" has(n, "kind") ", " has(n, "book") ", " has(n, "out") "],")
-    else if (what == "each call made") say("Function::" camel(call[n]) " => raw::" call[n] "(" from_call(n) ").into(),")
+    else if (what == "calls in the wide mode") {
+        if (is_wide(n)) say("Self::" camel(plain(n)) " => Self::" camel(call[n]) ",")
+    } else if (what == "calls of the wide mode") {
+        if (is_wide(n)) say("Self::" camel(call[n]) " => (Mode::Wide, Self::" camel(plain(n)) "),")
+    } else if (what == "each call made") say("Function::" camel(call[n]) " => raw::" call[n] "(" from_call(n) ").into(),")
     else fault("nothing is made for " what)
 }
 

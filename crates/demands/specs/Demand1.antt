@@ -15,6 +15,10 @@ use Rattle.identifiers.specs.Owned.{newClient, newChannel}
 use Rattle.path.specs.Kinds.{word, carried}
 use Rattle.path.specs.Read.{renderOf, keyOf, readingBytes, readFault}
 use Rattle.path.specs.Parents.{textOf, consensusParent, consensusLeaf, packetsPath}
+use Rattle.wide.specs.Mode.{wide}
+use Rattle.wide.specs.Check.{namedIndexFaultIn, faultIn, newClientIn}
+use Rattle.wide.specs.Read.{readFaultIn, readingBytesIn, keyIn as wideKeyIn}
+use Rattle.wide.specs.Render.{renderIn, textIn}
 use Rattle.keys.specs.declared.Manner.the-variants.{Plain, Lenient}
 use Rattle.keys.specs.Calls.{write, remove}
 use Rattle.iteration.specs.Block.{blockOf, firstAbove, lastBelow, scanned}
@@ -22,6 +26,7 @@ use Rattle.iteration.specs.Key.{iterationKey, revision, keyIn, answered}
 use Rattle.packet.specs.Key.{packetWanted}
 use Rattle.demands.specs.Shape.{Listed, Demand1}
 use Rattle.demands.specs.ShapeLaws.{writes, writes-number, checks, readings, key-wants, reading-wants, renderings, render-wants, clients, client-wants, channel-wants, leaf-wants, update-wants, parent-wants, ends, packets-wants, plain-of, indexed-of, chars-number, length-number, prefix-number, named-index-number}
+use Rattle.demands.specs.WideShapeLaws as wides
 use Rattle.demands.specs.IterationLaws.{pairs, key-refuses, scan-refuses}
 use Rattle.demands.specs.PacketLaws.{packetReads, packetWrites, packet-wants, packets}
 use Rattle.demands.specs.BookNumberLaws.{writeNumbers, removeNumbers, lookNumbers, write-listed, remove-listed, provable-demand, made-demand, changed-demand, found-demand, converted-demand, oldest-demand}
@@ -60,6 +65,23 @@ use Rattle.hostpath.proofs.hp_validate_port_identifier.Reads as hp-validate-por
 use Rattle.hostpath.proofs.hp_validate_channel_identifier.Reads as hp-validate-channel-identifier
 use Rattle.hostpath.proofs.hp_read.Reads as hp-read
 use Rattle.hostpath.proofs.hp_walk.Reads as hp-walk
+use Rattle.hostpath.proofs.hp_wide_validate_identifier_chars.Reads as hp-wide-validate-identifier-chars
+use Rattle.hostpath.proofs.hp_wide_validate_identifier_length.Reads as hp-wide-validate-identifier-length
+use Rattle.hostpath.proofs.hp_wide_validate_prefix_length.Reads as hp-wide-validate-prefix-length
+use Rattle.hostpath.proofs.hp_wide_validate_named_u64_index.Reads as hp-wide-validate-named-u64-index
+use Rattle.hostpath.proofs.hp_wide_validate_client_type.Reads as hp-wide-validate-client-type
+use Rattle.hostpath.proofs.hp_wide_validate_client_identifier.Reads as hp-wide-validate-client-identifier
+use Rattle.hostpath.proofs.hp_wide_validate_connection_identifier.Reads as hp-wide-validate-connection-identifier
+use Rattle.hostpath.proofs.hp_wide_validate_port_identifier.Reads as hp-wide-validate-port-identifier
+use Rattle.hostpath.proofs.hp_wide_validate_channel_identifier.Reads as hp-wide-validate-channel-identifier
+use Rattle.hostpath.proofs.hp_wide_client_id_new.Reads as hp-wide-client-id-new
+use Rattle.hostpath.proofs.hp_wide_read.Reads as hp-wide-read
+use Rattle.hostpath.proofs.hp_wide_key.Reads as hp-wide-key
+use Rattle.hostpath.proofs.hp_wide_render.Reads as hp-wide-render
+use Rattle.hostpath.proofs.hp_wide_consensus_state_parent.Reads as hp-wide-consensus-state-parent
+use Rattle.hostpath.proofs.hp_wide_commitments_path.Reads as hp-wide-commitments-path
+use Rattle.hostpath.proofs.hp_wide_acks_path.Reads as hp-wide-acks-path
+use Rattle.hostpath.proofs.hp_wide_receipts_path.Reads as hp-wide-receipts-path
 use Rattle.hostpath.proofs.hp_is_provable.Reads as hp-is-provable
 use Rattle.hostpath.proofs.hp_book_new.Reads as hp-book-new
 use Rattle.hostpath.proofs.hp_book_write.Reads as hp-book-write
@@ -92,6 +114,14 @@ use Rattle.render.proofs.texts.receipts_path.Reads as receipts-path
 use Rattle.render.proofs.texts.commitment_prefix.Reads as commitment-prefix
 use Rattle.render.proofs.texts.ack_prefix.Reads as ack-prefix
 use Rattle.render.proofs.texts.receipt_prefix.Reads as receipt-prefix
+use Rattle.wide.proofs.client_id.write_client_id.Reads as wide-write-client-id
+use Rattle.wide.proofs.reading.write_key.Reads as wide-write-key
+use Rattle.wide.proofs.reading.write_reading.Reads as wide-write-reading
+use Rattle.wide.proofs.rendering.render.Reads as wide-render
+use Rattle.wide.proofs.rendering.consensus_state_parent.Reads as wide-consensus-state-parent
+use Rattle.wide.proofs.rendering.commitments_path.Reads as wide-commitments-path
+use Rattle.wide.proofs.rendering.acks_path.Reads as wide-acks-path
+use Rattle.wide.proofs.rendering.receipts_path.Reads as wide-receipts-path
 use Rattle.text.proofs.put.give.Reads as give
 
 -- the check of a name and an index, and that of an identifier that is such
@@ -100,6 +130,12 @@ named = 2 ∷ 7 ∷ 17 ∷ 18 ∷ 19 ∷ []
 
 abbrev indexes : List ℕ
 indexes = 2 ∷ 5 ∷ 6 ∷ 7 ∷ 17 ∷ 18 ∷ 19 ∷ []
+
+abbrev wideNamed : List ℕ
+wideNamed = 21 ∷ 7 ∷ 17 ∷ 18 ∷ 19 ∷ []
+
+abbrev wideIndexes : List ℕ
+wideIndexes = 21 ∷ 5 ∷ 6 ∷ 7 ∷ 17 ∷ 18 ∷ 19 ∷ []
 
 -- a text that is always there: only the room can lack
 abbrev room : List ℕ
@@ -236,6 +272,62 @@ hp-book-convert-holds = converted-demand (λ κs a. tt) (λ κs r. r) (λ κs a.
 pub hp-book-oldest-holds : Demand1 hp-book-oldest.Pre hp-book-oldest.Post (9 ∷ 2 ∷ 5 ∷ 6 ∷ 12 ∷ []) (λ κs r. r .refusal) (λ κs r. r .number ∷ r .height ∷ []) (λ κs a. []) (λ κs s. [])
 hp-book-oldest-holds = oldest-demand (λ κs a. tt) (λ κs r. r) (λ κs a. now (a .0)) (λ κs a. now (a .1 .0)) (λ κs a r s p. p)
 
+-- ---- the wide calls: 21 stands in the place of 2
+pub hp-wide-validate-identifier-chars-holds : Demand1 hp-wide-validate-identifier-chars.Pre hp-wide-validate-identifier-chars.Post (21 ∷ 5 ∷ []) (λ κs r. r) (λ κs r. []) (λ κs a. []) (λ κs s. [])
+hp-wide-validate-identifier-chars-holds = checks (21 ∷ 5 ∷ []) (λ κs a. tt) (λ κs r. r) (λ κs a r s p. subst (Listed (21 ∷ 5 ∷ [])) (sym p) (wides.chars-number (Listed (21 ∷ 5 ∷ [])) refl refl refl _))
+
+pub hp-wide-validate-identifier-length-holds : Demand1 hp-wide-validate-identifier-length.Pre hp-wide-validate-identifier-length.Post (21 ∷ 6 ∷ []) (λ κs r. r) (λ κs r. []) (λ κs a. []) (λ κs s. [])
+hp-wide-validate-identifier-length-holds = checks (21 ∷ 6 ∷ []) (λ κs a. tt) (λ κs r. r) (λ κs a r s p. subst (Listed (21 ∷ 6 ∷ [])) (sym p) (wides.length-number (Listed (21 ∷ 6 ∷ [])) refl refl refl _ _ _))
+
+pub hp-wide-validate-prefix-length-holds : Demand1 hp-wide-validate-prefix-length.Pre hp-wide-validate-prefix-length.Post (21 ∷ 6 ∷ []) (λ κs r. r) (λ κs r. []) (λ κs a. []) (λ κs s. [])
+hp-wide-validate-prefix-length-holds = checks (21 ∷ 6 ∷ []) (λ κs a. tt) (λ κs r. r) (λ κs a r s p. subst (Listed (21 ∷ 6 ∷ [])) (sym p) (wides.prefix-number (Listed (21 ∷ 6 ∷ [])) refl refl refl _ _ _))
+
+pub hp-wide-validate-named-u64-index-holds : Demand1 hp-wide-validate-named-u64-index.Pre hp-wide-validate-named-u64-index.Post wideNamed (λ κs r. r .refusal) (λ κs r. []) (λ κs a. []) (λ κs s. [])
+unfolding namedIndexFaultIn
+hp-wide-validate-named-u64-index-holds = checks wideNamed (λ κs a. tt) (λ κs r. r .refusal) (λ κs a r s p. subst (Listed wideNamed) (sym (ap (λ (f : Fault). f .refusal) p)) (wides.named-index-number (Listed wideNamed) refl refl refl refl refl refl _ _))
+
+pub hp-wide-validate-client-type-holds : Demand1 hp-wide-validate-client-type.Pre hp-wide-validate-client-type.Post (21 ∷ 5 ∷ 6 ∷ []) (λ κs r. r) (λ κs r. []) (λ κs a. []) (λ κs s. [])
+hp-wide-validate-client-type-holds = checks (21 ∷ 5 ∷ 6 ∷ []) (λ κs a. tt) (λ κs r. r) (λ κs a r s p. subst (Listed (21 ∷ 5 ∷ 6 ∷ [])) (sym p) (wides.plain-of (Listed (21 ∷ 5 ∷ 6 ∷ [])) refl refl refl refl 7 43 _))
+
+pub hp-wide-validate-client-identifier-holds : Demand1 hp-wide-validate-client-identifier.Pre hp-wide-validate-client-identifier.Post (21 ∷ 5 ∷ 6 ∷ []) (λ κs r. r) (λ κs r. []) (λ κs a. []) (λ κs s. [])
+hp-wide-validate-client-identifier-holds = checks (21 ∷ 5 ∷ 6 ∷ []) (λ κs a. tt) (λ κs r. r) (λ κs a r s p. subst (Listed (21 ∷ 5 ∷ 6 ∷ [])) (sym p) (wides.plain-of (Listed (21 ∷ 5 ∷ 6 ∷ [])) refl refl refl refl 9 64 _))
+
+pub hp-wide-validate-connection-identifier-holds : Demand1 hp-wide-validate-connection-identifier.Pre hp-wide-validate-connection-identifier.Post wideIndexes (λ κs r. r .refusal) (λ κs r. []) (λ κs a. []) (λ κs s. [])
+unfolding faultIn
+hp-wide-validate-connection-identifier-holds = checks wideIndexes (λ κs a. tt) (λ κs r. r .refusal) (λ κs a r s p. subst (Listed wideIndexes) (sym (ap (λ (f : Fault). f .refusal) p)) (wides.indexed-of (Listed wideIndexes) refl refl refl refl refl refl refl refl 10 64 _ _))
+
+pub hp-wide-validate-port-identifier-holds : Demand1 hp-wide-validate-port-identifier.Pre hp-wide-validate-port-identifier.Post (21 ∷ 5 ∷ 6 ∷ []) (λ κs r. r) (λ κs r. []) (λ κs a. []) (λ κs s. [])
+hp-wide-validate-port-identifier-holds = checks (21 ∷ 5 ∷ 6 ∷ []) (λ κs a. tt) (λ κs r. r) (λ κs a r s p. subst (Listed (21 ∷ 5 ∷ 6 ∷ [])) (sym p) (wides.plain-of (Listed (21 ∷ 5 ∷ 6 ∷ [])) refl refl refl refl 2 128 _))
+
+pub hp-wide-validate-channel-identifier-holds : Demand1 hp-wide-validate-channel-identifier.Pre hp-wide-validate-channel-identifier.Post wideIndexes (λ κs r. r .refusal) (λ κs r. []) (λ κs a. []) (λ κs s. [])
+unfolding faultIn
+hp-wide-validate-channel-identifier-holds = checks wideIndexes (λ κs a. tt) (λ κs r. r .refusal) (λ κs a r s p. subst (Listed wideIndexes) (sym (ap (λ (f : Fault). f .refusal) p)) (wides.indexed-of (Listed wideIndexes) refl refl refl refl refl refl refl refl 8 64 _ _))
+
+pub hp-wide-client-id-new-holds : Demand1 hp-wide-client-id-new.Pre hp-wide-client-id-new.Post wides.wideClients (λ κs r. r .refusal) (λ κs r. r .length ∷ []) (λ κs a. now (a .1 .1 .0)) (λ κs s. now (s .1 .1 .0))
+hp-wide-client-id-new-holds = writes wides.wideClients _ _ (λ κs a. tt) (λ κs r. r) (λ κs a. newClientIn wide (now (a .0)) (a .1 .0)) refl refl (λ κs a. wides.client-wants _ _) (λ κs a r s p. p)
+
+pub hp-wide-read-holds : Demand1 hp-wide-read.Pre hp-wide-read.Post wides.wideReadings (λ κs r. r .refusal) (λ κs r. []) (λ κs a. now (a .1 .0)) (λ κs s. now (s .1 .0))
+unfolding readFaultIn
+hp-wide-read-holds = writes-number wides.wideReadings _ _ (λ κs a. tt) (λ κs r. r .refusal) (λ κs a. readingBytesIn wide (now (a .0))) refl refl (λ κs a. wides.reading-wants _) (λ κs a r s p. (ap (λ (f : Fault). f .refusal) (p .0), p .1))
+
+pub hp-wide-key-holds : Demand1 hp-wide-key.Pre hp-wide-key.Post wides.wideReadings (λ κs r. r .refusal) (λ κs r. r .length ∷ []) (λ κs a. now (a .1 .0)) (λ κs s. now (s .1 .0))
+hp-wide-key-holds = writes wides.wideReadings _ _ (λ κs a. tt) (λ κs r. r) (λ κs a. wideKeyIn wide (now (a .0))) refl refl (λ κs a. wides.key-wants _) (λ κs a r s p. p)
+
+pub hp-wide-render-holds : Demand1 hp-wide-render.Pre hp-wide-render.Post wides.wideRenderings (λ κs r. r .refusal) (λ κs r. r .length ∷ []) (λ κs a. now (a .1 .1 .1 .1 .1 .0)) (λ κs s. now (s .1 .1 .1 .1 .1 .0))
+hp-wide-render-holds = writes wides.wideRenderings _ _ (λ κs a. tt) (λ κs r. r) (λ κs a. renderIn wide (a .0) (carried (now (a .1 .0)) (now (a .1 .1 .0)) (a .1 .1 .1 .0) (a .1 .1 .1 .1 .0))) refl refl (λ κs a. wides.render-wants _ _) (λ κs a r s p. p)
+
+pub hp-wide-consensus-state-parent-holds : Demand1 hp-wide-consensus-state-parent.Pre hp-wide-consensus-state-parent.Post wides.wideClients (λ κs r. r .refusal) (λ κs r. r .length ∷ []) (λ κs a. now (a .1 .0)) (λ κs s. now (s .1 .0))
+hp-wide-consensus-state-parent-holds = writes wides.wideClients _ _ (λ κs a. tt) (λ κs r. r) (λ κs a. textIn wide consensusParent (carried (now (a .0)) [] 0 0)) refl refl (λ κs a. wides.parent-wants _) (λ κs a r s p. p)
+
+pub hp-wide-commitments-path-holds : Demand1 hp-wide-commitments-path.Pre hp-wide-commitments-path.Post wides.wideEnds (λ κs r. r .refusal) (λ κs r. r .length ∷ []) (λ κs a. now (a .1 .1 .0)) (λ κs s. now (s .1 .1 .0))
+hp-wide-commitments-path-holds = writes wides.wideEnds _ _ (λ κs a. tt) (λ κs r. r) (λ κs a. textIn wide (packetsPath (bytes "commitments")) (carried (now (a .0)) (now (a .1 .0)) 0 0)) refl refl (λ κs a. wides.packets-wants _ _) (λ κs a r s p. p)
+
+pub hp-wide-acks-path-holds : Demand1 hp-wide-acks-path.Pre hp-wide-acks-path.Post wides.wideEnds (λ κs r. r .refusal) (λ κs r. r .length ∷ []) (λ κs a. now (a .1 .1 .0)) (λ κs s. now (s .1 .1 .0))
+hp-wide-acks-path-holds = writes wides.wideEnds _ _ (λ κs a. tt) (λ κs r. r) (λ κs a. textIn wide (packetsPath (bytes "acks")) (carried (now (a .0)) (now (a .1 .0)) 0 0)) refl refl (λ κs a. wides.packets-wants _ _) (λ κs a r s p. p)
+
+pub hp-wide-receipts-path-holds : Demand1 hp-wide-receipts-path.Pre hp-wide-receipts-path.Post wides.wideEnds (λ κs r. r .refusal) (λ κs r. r .length ∷ []) (λ κs a. now (a .1 .1 .0)) (λ κs s. now (s .1 .1 .0))
+hp-wide-receipts-path-holds = writes wides.wideEnds _ _ (λ κs a. tt) (λ κs r. r) (λ κs a. textIn wide (packetsPath (bytes "receipts")) (carried (now (a .0)) (now (a .1 .0)) 0 0)) refl refl (λ κs a. wides.packets-wants _ _) (λ κs a r s p. p)
+
 -- ---- calls that answer a revision number and a height
 pub hp-read-iteration-key-holds : Demand1 hp-read-iteration-key.Pre hp-read-iteration-key.Post (15 ∷ []) (λ κs r. r .refusal) (λ κs r. r .number ∷ r .height ∷ []) (λ κs a. []) (λ κs s. [])
 hp-read-iteration-key-holds = pairs (15 ∷ []) refl (λ κs a. tt) (λ κs r. r) (λ κs a. answered 15 (keyIn (now (a .0)))) (λ κs a. key-refuses (keyIn (now (a .0)))) (λ κs a r s p. p)
@@ -321,3 +413,28 @@ receipt-prefix-holds = writes room _ _ (λ κs a. tt) (λ κs r. r) (λ κs a. t
 
 pub give-holds : Demand1 give.Pre give.Post room (λ κs r. r .refusal) (λ κs r. r .length ∷ []) (λ κs a. now (a .0)) (λ κs s. now (s .0))
 give-holds = writes room _ _ (λ κs a. tt) (λ κs r. r) (λ κs a. text (now (a .1 .0))) refl refl (λ κs a. tt) (λ κs a r s p. p)
+
+pub wide-write-client-id-holds : Demand1 wide-write-client-id.Pre wide-write-client-id.Post wides.wideClients (λ κs r. r .refusal) (λ κs r. r .length ∷ []) (λ κs a. now (a .1 .1 .0)) (λ κs s. now (s .1 .1 .0))
+wide-write-client-id-holds = writes wides.wideClients _ _ (λ κs a. tt) (λ κs r. r) (λ κs a. newClientIn wide (now (a .0)) (a .1 .0)) refl refl (λ κs a. wides.client-wants _ _) (λ κs a r s p. p)
+
+pub wide-write-key-holds : Demand1 wide-write-key.Pre wide-write-key.Post wides.wideReadings (λ κs r. r .refusal) (λ κs r. r .length ∷ []) (λ κs a. now (a .1 .0)) (λ κs s. now (s .1 .0))
+wide-write-key-holds = writes wides.wideReadings _ _ (λ κs a. tt) (λ κs r. r) (λ κs a. wideKeyIn wide (now (a .0))) refl refl (λ κs a. wides.key-wants _) (λ κs a r s p. p)
+
+pub wide-write-reading-holds : Demand1 wide-write-reading.Pre wide-write-reading.Post wides.wideReadings (λ κs r. r .refusal) (λ κs r. []) (λ κs a. now (a .1 .0)) (λ κs s. now (s .1 .0))
+unfolding readFaultIn
+wide-write-reading-holds = writes-number wides.wideReadings _ _ (λ κs a. tt) (λ κs r. r .refusal) (λ κs a. readingBytesIn wide (now (a .0))) refl refl (λ κs a. wides.reading-wants _) (λ κs a r s p. (ap (λ (f : Fault). f .refusal) (p .0), p .1))
+
+pub wide-render-holds : Demand1 wide-render.Pre wide-render.Post wides.wideRenderings (λ κs r. r .refusal) (λ κs r. r .length ∷ []) (λ κs a. now (a .1 .1 .1 .1 .1 .0)) (λ κs s. now (s .1 .1 .1 .1 .1 .0))
+wide-render-holds = writes wides.wideRenderings _ _ (λ κs a. tt) (λ κs r. r) (λ κs a. renderIn wide (a .0) (carried (now (a .1 .0)) (now (a .1 .1 .0)) (a .1 .1 .1 .0) (a .1 .1 .1 .1 .0))) refl refl (λ κs a. wides.render-wants _ _) (λ κs a r s p. p)
+
+pub wide-consensus-state-parent-holds : Demand1 wide-consensus-state-parent.Pre wide-consensus-state-parent.Post wides.wideClients (λ κs r. r .refusal) (λ κs r. r .length ∷ []) (λ κs a. now (a .1 .0)) (λ κs s. now (s .1 .0))
+wide-consensus-state-parent-holds = writes wides.wideClients _ _ (λ κs a. tt) (λ κs r. r) (λ κs a. textIn wide consensusParent (carried (now (a .0)) [] 0 0)) refl refl (λ κs a. wides.parent-wants _) (λ κs a r s p. p)
+
+pub wide-commitments-path-holds : Demand1 wide-commitments-path.Pre wide-commitments-path.Post wides.wideEnds (λ κs r. r .refusal) (λ κs r. r .length ∷ []) (λ κs a. now (a .1 .1 .0)) (λ κs s. now (s .1 .1 .0))
+wide-commitments-path-holds = writes wides.wideEnds _ _ (λ κs a. tt) (λ κs r. r) (λ κs a. textIn wide (packetsPath (bytes "commitments")) (carried (now (a .0)) (now (a .1 .0)) 0 0)) refl refl (λ κs a. wides.packets-wants _ _) (λ κs a r s p. p)
+
+pub wide-acks-path-holds : Demand1 wide-acks-path.Pre wide-acks-path.Post wides.wideEnds (λ κs r. r .refusal) (λ κs r. r .length ∷ []) (λ κs a. now (a .1 .1 .0)) (λ κs s. now (s .1 .1 .0))
+wide-acks-path-holds = writes wides.wideEnds _ _ (λ κs a. tt) (λ κs r. r) (λ κs a. textIn wide (packetsPath (bytes "acks")) (carried (now (a .0)) (now (a .1 .0)) 0 0)) refl refl (λ κs a. wides.packets-wants _ _) (λ κs a r s p. p)
+
+pub wide-receipts-path-holds : Demand1 wide-receipts-path.Pre wide-receipts-path.Post wides.wideEnds (λ κs r. r .refusal) (λ κs r. r .length ∷ []) (λ κs a. now (a .1 .1 .0)) (λ κs s. now (s .1 .1 .0))
+wide-receipts-path-holds = writes wides.wideEnds _ _ (λ κs a. tt) (λ κs r. r) (λ κs a. textIn wide (packetsPath (bytes "receipts")) (carried (now (a .0)) (now (a .1 .0)) 0 0)) refl refl (λ κs a. wides.packets-wants _ _) (λ κs a r s p. p)

@@ -2,20 +2,28 @@
 -- `PathCalls`, `Told` and `Written`; what the place of a bad number tells, request L3, is in `Faults`; that the two
 -- readers answer the same, request L7, is in `Walk`; the keys of request L1 are in `Iteration`,
 -- in the words of `KeyCalls` and `Scanned`; demand 3 is `Demand3`, in the words of `Held`, `Refusals` and `BookCalls`; what plain and lenient calls
--- share, request L6, is in `Manners`; the packet keys of request L11 are in `Packets`, in the words of `PacketCalls` and `Packeted`; what lies
--- below a path, request L12, is `Below`, in the words of `Above`; `Useless` shows which line each useless book breaks. Files that end in `Laws` may
--- be skipped.
+-- share, request L6, is in `Manners`; the wide calls of request L8 are in `Wide`, in the words of `WideCalls` and `WideWritten`; the packet keys of
+-- request L11 are in `Packets`, in the words of `PacketCalls` and `Packeted`; what lies below a path, request L12, is `Below`, in the words of
+-- `Above`; `Useless` shows which line each useless book breaks. Files that end in `Laws` may be skipped.
 pub mod Shape
 pub mod ShapeLaws
 pub mod KeepsLaws
 pub mod BookNumberLaws
-pub mod Demand1
 pub mod PathCalls
 pub mod Told
 pub mod ToldLaws
 pub mod Written
 pub mod Demand2Laws
+pub mod WideShapeLaws
+pub mod Demand1
 pub mod Demand2
+pub mod WideCalls
+pub mod WideWritten
+pub mod WideAlikeLaws
+pub mod WideLaws
+pub mod WideBackLaws
+pub mod WideCallLaws
+pub mod Wide
 pub mod Faults
 pub mod Walk
 pub mod KeyCalls

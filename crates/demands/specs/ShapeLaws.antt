@@ -89,11 +89,11 @@ module _ {L : Type 0} {A R S : L → Type 0} {Pre : (κs : L) → A κs → Type
 
 -- ---- the numbers of the checks, for any property that 0 and these have
 module _ (P : ℕ → Type 0) (zero : P 0) where
-  one-of : (n : ℕ) (t : Bool) → P n → P (unless n t)
+  pub one-of : (n : ℕ) (t : Bool) → P n → P (unless n t)
   one-of n true p = zero
   one-of n false p = p
 
-  both-of : (a b : ℕ) → P a → P b → P (first a b)
+  pub both-of : (a b : ℕ) → P a → P b → P (first a b)
   both-of a b p q = go (eqb a 0)
     where
       go : (v : Bool) → P (cond v b a)
@@ -106,7 +106,7 @@ module _ (P : ℕ → Type 0) (zero : P 0) where
   numeral-of none other large (NotADigit i) = other
   numeral-of none other large (TooLarge i) = large
 
-  named-number : P 7 → P 17 → P 18 → P 19 → (n s : List ℕ) → P (namedOf n s)
+  pub named-number : P 7 → P 17 → P 18 → P 19 → (n s : List ℕ) → P (namedOf n s)
   unfolding namedOf indexOf
   named-number seven none other large n s =
       let d : List ℕ = drop (length n + 1) s in

@@ -45,6 +45,23 @@ use Rattle.hostpath.proofs.hp_receipts_path.Reads as hp-receipts-path
 use Rattle.hostpath.proofs.hp_commitment_prefix.Reads as hp-commitment-prefix
 use Rattle.hostpath.proofs.hp_ack_prefix.Reads as hp-ack-prefix
 use Rattle.hostpath.proofs.hp_receipt_prefix.Reads as hp-receipt-prefix
+use Rattle.hostpath.proofs.hp_wide_validate_identifier_chars.Reads as hp-wide-validate-identifier-chars
+use Rattle.hostpath.proofs.hp_wide_validate_identifier_length.Reads as hp-wide-validate-identifier-length
+use Rattle.hostpath.proofs.hp_wide_validate_prefix_length.Reads as hp-wide-validate-prefix-length
+use Rattle.hostpath.proofs.hp_wide_validate_named_u64_index.Reads as hp-wide-validate-named-u64-index
+use Rattle.hostpath.proofs.hp_wide_validate_client_type.Reads as hp-wide-validate-client-type
+use Rattle.hostpath.proofs.hp_wide_validate_client_identifier.Reads as hp-wide-validate-client-identifier
+use Rattle.hostpath.proofs.hp_wide_validate_connection_identifier.Reads as hp-wide-validate-connection-identifier
+use Rattle.hostpath.proofs.hp_wide_validate_port_identifier.Reads as hp-wide-validate-port-identifier
+use Rattle.hostpath.proofs.hp_wide_validate_channel_identifier.Reads as hp-wide-validate-channel-identifier
+use Rattle.hostpath.proofs.hp_wide_client_id_new.Reads as hp-wide-client-id-new
+use Rattle.hostpath.proofs.hp_wide_read.Reads as hp-wide-read
+use Rattle.hostpath.proofs.hp_wide_key.Reads as hp-wide-key
+use Rattle.hostpath.proofs.hp_wide_render.Reads as hp-wide-render
+use Rattle.hostpath.proofs.hp_wide_consensus_state_parent.Reads as hp-wide-consensus-state-parent
+use Rattle.hostpath.proofs.hp_wide_commitments_path.Reads as hp-wide-commitments-path
+use Rattle.hostpath.proofs.hp_wide_acks_path.Reads as hp-wide-acks-path
+use Rattle.hostpath.proofs.hp_wide_receipts_path.Reads as hp-wide-receipts-path
 use Rattle.hostpath.proofs.hp_book_new.Reads as hp-book-new
 use Rattle.hostpath.proofs.hp_book_write.Reads as hp-book-write
 use Rattle.hostpath.proofs.hp_book_write_lenient.Reads as hp-book-write-lenient
@@ -162,6 +179,57 @@ one-hp-ack-prefix κs a r₁ r₂ s₁ s₂ p q = agree p q
 
 pub one-hp-receipt-prefix : OneWith hp-receipt-prefix.Post (λ κs s. now (s .0))
 one-hp-receipt-prefix κs a r₁ r₂ s₁ s₂ p q = agree p q
+
+pub one-hp-wide-validate-identifier-chars : One hp-wide-validate-identifier-chars.Post
+one-hp-wide-validate-identifier-chars κs a r₁ r₂ s₁ s₂ p q = p ∙ sym q
+
+pub one-hp-wide-validate-identifier-length : One hp-wide-validate-identifier-length.Post
+one-hp-wide-validate-identifier-length κs a r₁ r₂ s₁ s₂ p q = p ∙ sym q
+
+pub one-hp-wide-validate-prefix-length : One hp-wide-validate-prefix-length.Post
+one-hp-wide-validate-prefix-length κs a r₁ r₂ s₁ s₂ p q = p ∙ sym q
+
+pub one-hp-wide-validate-named-u64-index : One hp-wide-validate-named-u64-index.Post
+one-hp-wide-validate-named-u64-index κs a r₁ r₂ s₁ s₂ p q = p ∙ sym q
+
+pub one-hp-wide-validate-client-type : One hp-wide-validate-client-type.Post
+one-hp-wide-validate-client-type κs a r₁ r₂ s₁ s₂ p q = p ∙ sym q
+
+pub one-hp-wide-validate-client-identifier : One hp-wide-validate-client-identifier.Post
+one-hp-wide-validate-client-identifier κs a r₁ r₂ s₁ s₂ p q = p ∙ sym q
+
+pub one-hp-wide-validate-connection-identifier : One hp-wide-validate-connection-identifier.Post
+one-hp-wide-validate-connection-identifier κs a r₁ r₂ s₁ s₂ p q = p ∙ sym q
+
+pub one-hp-wide-validate-port-identifier : One hp-wide-validate-port-identifier.Post
+one-hp-wide-validate-port-identifier κs a r₁ r₂ s₁ s₂ p q = p ∙ sym q
+
+pub one-hp-wide-validate-channel-identifier : One hp-wide-validate-channel-identifier.Post
+one-hp-wide-validate-channel-identifier κs a r₁ r₂ s₁ s₂ p q = p ∙ sym q
+
+pub one-hp-wide-client-id-new : OneWith hp-wide-client-id-new.Post (λ κs s. now (s .1 .1 .0))
+one-hp-wide-client-id-new κs a r₁ r₂ s₁ s₂ p q = agree p q
+
+pub one-hp-wide-read : OneWith hp-wide-read.Post (λ κs s. now (s .1 .0))
+one-hp-wide-read κs a r₁ r₂ s₁ s₂ p q = agree p q
+
+pub one-hp-wide-key : OneWith hp-wide-key.Post (λ κs s. now (s .1 .0))
+one-hp-wide-key κs a r₁ r₂ s₁ s₂ p q = agree p q
+
+pub one-hp-wide-render : OneWith hp-wide-render.Post (λ κs s. now (s .1 .1 .1 .1 .1 .0))
+one-hp-wide-render κs a r₁ r₂ s₁ s₂ p q = agree p q
+
+pub one-hp-wide-consensus-state-parent : OneWith hp-wide-consensus-state-parent.Post (λ κs s. now (s .1 .0))
+one-hp-wide-consensus-state-parent κs a r₁ r₂ s₁ s₂ p q = agree p q
+
+pub one-hp-wide-commitments-path : OneWith hp-wide-commitments-path.Post (λ κs s. now (s .1 .1 .0))
+one-hp-wide-commitments-path κs a r₁ r₂ s₁ s₂ p q = agree p q
+
+pub one-hp-wide-acks-path : OneWith hp-wide-acks-path.Post (λ κs s. now (s .1 .1 .0))
+one-hp-wide-acks-path κs a r₁ r₂ s₁ s₂ p q = agree p q
+
+pub one-hp-wide-receipts-path : OneWith hp-wide-receipts-path.Post (λ κs s. now (s .1 .1 .0))
+one-hp-wide-receipts-path κs a r₁ r₂ s₁ s₂ p q = agree p q
 
 pub one-hp-book-new : OneWith hp-book-new.Post (λ κs s. now (s .0))
 one-hp-book-new κs a r₁ r₂ s₁ s₂ p q = one-made lawful tt _ _ _ _ _ p q

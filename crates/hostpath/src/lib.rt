@@ -21,6 +21,7 @@
 // NOT_A_DIGIT: a byte of the number is no digit: write it in the digits 0 to 9 alone
 // TOO_LARGE: the number is above 18446744073709551615: write a smaller one
 // LOOSE: a number of the text has a plus or leading zeros, so it is not its own key: give its key, or make the lenient call
+// BAD_UTF8: the text is no UTF-8: give it as UTF-8 without overlong forms and surrogates
 // BAD_V2_KEY: the bytes are not a client, a marker of 1, 2 or 3 and 8 more, or the kind is not one of these: give a whole packet key
 use identifiers::channel_id::write_channel_id;
 use identifiers::client_id::write_client_id;
@@ -50,6 +51,10 @@ ghost use Rattle.path.specs.View.{provableFlag};
 ghost use Rattle.iteration.specs.Block.{blockOf, firstAbove, lastBelow, scanned};
 ghost use Rattle.iteration.specs.Key.{iterationKey, revision, keyIn, answered, pairOf};
 ghost use Rattle.packet.specs.Key.{packetIn, packetOf, packetWanted};
+ghost use Rattle.wide.specs.Mode.{wide};
+ghost use Rattle.wide.specs.Check.{charsIn, lengthIn, prefixLengthIn, namedIndexFaultIn, checkIn, faultIn, newClientIn};
+ghost use Rattle.wide.specs.Read.{readFaultIn, readingBytesIn, keyIn as wideKeyIn};
+ghost use Rattle.wide.specs.Render.{renderIn, textIn};
 ghost use Rattle.keys.specs.declared.Manner.the-variants.{Plain, Lenient};
 ghost use Rattle.book.specs.Book.{Current};
 ghost use Rattle.book.specs.Outcome.{Wrote, Removed, Looked, Made};
@@ -401,6 +406,163 @@ pub extern "C" fn hp_receipt_prefix(out: &mut [u8]) -> Written
     ensures { λ _. ⌜ now (out .exit) ≡ left (text (bytes "receipts")) (now (out .entry)) ⌝ }
 {
     render::texts::receipt_prefix(out)
+}
+
+// Letters beyond ASCII: as the plain call of that name, with 21 in the place of 2. Characters are those of UTF-8; a letter or number
+// of any script may stand in an identifier; lengths and places are counted in bytes.
+
+// All characters are letters, numbers or one of `. _ + - # [ ] < >`: 21, 5.
+#[no_mangle]
+pub extern "C" fn hp_wide_validate_identifier_chars(id: &[u8]) -> u8
+    ensures { λ r. ⌜ r ≡ charsIn wide (now (id .entry)) ⌝ }
+{
+    wide::validate::validate_identifier_chars(id)
+}
+
+// As hp_validate_identifier_length: 21, 6.
+#[no_mangle]
+pub extern "C" fn hp_wide_validate_identifier_length(id: &[u8], min: u64, max: u64) -> u8
+    ensures { λ r. ⌜ r ≡ lengthIn wide (now (id .entry)) min max ⌝ }
+{
+    wide::validate::validate_identifier_length(id, min, max)
+}
+
+// As hp_validate_prefix_length: 21, 6.
+#[no_mangle]
+pub extern "C" fn hp_wide_validate_prefix_length(prefix: &[u8], min: u64, max: u64) -> u8
+    ensures { λ r. ⌜ r ≡ prefixLengthIn wide (now (prefix .entry)) min max ⌝ }
+{
+    wide::validate::validate_prefix_length(prefix, min, max)
+}
+
+// As hp_validate_named_u64_index; the digits of an index are ASCII: 21, 7, then 17, 18 or 19.
+#[no_mangle]
+pub extern "C" fn hp_wide_validate_named_u64_index(id: &[u8], name: &[u8]) -> Fault
+    ensures { λ r. ⌜ r ≡ namedIndexFaultIn wide (now (id .entry)) (now (name .entry)) ⌝ }
+{
+    wide::validate::validate_named_u64_index(id, name)
+}
+
+// As hp_validate_client_type: 21, 5, 6.
+#[no_mangle]
+pub extern "C" fn hp_wide_validate_client_type(id: &[u8]) -> u8
+    ensures { λ r. ⌜ r ≡ checkIn wide clientType (now (id .entry)) ⌝ }
+{
+    wide::validate::validate_client_type(id)
+}
+
+// As hp_validate_client_identifier: 21, 5, 6.
+#[no_mangle]
+pub extern "C" fn hp_wide_validate_client_identifier(id: &[u8]) -> u8
+    ensures { λ r. ⌜ r ≡ checkIn wide client (now (id .entry)) ⌝ }
+{
+    wide::validate::validate_client_identifier(id)
+}
+
+// As hp_validate_connection_identifier: 21, 5, 6, 7, then 17, 18 or 19.
+#[no_mangle]
+pub extern "C" fn hp_wide_validate_connection_identifier(id: &[u8]) -> Fault
+    ensures { λ r. ⌜ r ≡ faultIn wide connection (now (id .entry)) ⌝ }
+{
+    wide::validate::validate_connection_identifier(id)
+}
+
+// As hp_validate_port_identifier: 21, 5, 6.
+#[no_mangle]
+pub extern "C" fn hp_wide_validate_port_identifier(id: &[u8]) -> u8
+    ensures { λ r. ⌜ r ≡ checkIn wide port (now (id .entry)) ⌝ }
+{
+    wide::validate::validate_port_identifier(id)
+}
+
+// As hp_validate_channel_identifier: 21, 5, 6, 7, then 17, 18 or 19.
+#[no_mangle]
+pub extern "C" fn hp_wide_validate_channel_identifier(id: &[u8]) -> Fault
+    ensures { λ r. ⌜ r ≡ faultIn wide channel (now (id .entry)) ⌝ }
+{
+    wide::validate::validate_channel_identifier(id)
+}
+
+// As hp_client_id_new, without the white space of all scripts at the ends: 21, 5, 6, 4.
+#[no_mangle]
+pub extern "C" fn hp_wide_client_id_new(client_type: &[u8], counter: u64, out: &mut [u8]) -> Written
+    ensures { λ r. ⌜ r ≡ answer (newClientIn wide (now («client_type» .entry)) counter) (length (now (out .entry))) ⌝ }
+    ensures { λ _. ⌜ now (out .exit) ≡ left (newClientIn wide (now («client_type» .entry)) counter) (now (out .entry)) ⌝ }
+{
+    wide::client_id::write_client_id(client_type, counter, out)
+}
+
+// As hp_read: 1, 21, 3 (17, 18, 19), 4.
+#[no_mangle]
+pub extern "C" fn hp_wide_read(text: &[u8], out: &mut [u8]) -> Fault
+    ensures { λ r. ⌜ r ≡ readFaultIn wide (now (text .entry)) (length (now (out .entry))) ⌝ }
+    ensures { λ _. ⌜ now (out .exit) ≡ left (readingBytesIn wide (now (text .entry))) (now (out .entry)) ⌝ }
+{
+    wide::reading::write_reading(text, out)
+}
+
+// As hp_key: 1, 21, 3 (17, 18, 19), 4.
+#[no_mangle]
+pub extern "C" fn hp_wide_key(text: &[u8], out: &mut [u8]) -> Written
+    ensures { λ r. ⌜ r ≡ answer (wideKeyIn wide (now (text .entry))) (length (now (out .entry))) ⌝ }
+    ensures { λ _. ⌜ now (out .exit) ≡ left (wideKeyIn wide (now (text .entry))) (now (out .entry)) ⌝ }
+{
+    wide::reading::write_key(text, out)
+}
+
+// As hp_render: 14, first, second (an upgrade path: 21, 13), 1, 4.
+#[no_mangle]
+pub extern "C" fn hp_wide_render(
+    kind: u8,
+    first: &[u8],
+    second: &[u8],
+    a: u64,
+    b: u64,
+    out: &mut [u8],
+) -> Written
+    ensures { λ r. ⌜ r ≡ answer (renderIn wide kind (carried (now (first .entry)) (now (second .entry)) a b)) (length (now (out .entry))) ⌝ }
+    ensures { λ _. ⌜ now (out .exit) ≡ left (renderIn wide kind (carried (now (first .entry)) (now (second .entry)) a b)) (now (out .entry)) ⌝ }
+{
+    wide::rendering::render(kind, first, second, a, b, out)
+}
+
+// As hp_consensus_state_parent: the client's 21, 5, 6; then 4.
+#[no_mangle]
+pub extern "C" fn hp_wide_consensus_state_parent(client: &[u8], out: &mut [u8]) -> Written
+    ensures { λ r. ⌜ r ≡ answer (textIn wide consensusParent (carried (now (client .entry)) [] 0 0)) (length (now (out .entry))) ⌝ }
+    ensures { λ _. ⌜ now (out .exit) ≡ left (textIn wide consensusParent (carried (now (client .entry)) [] 0 0)) (now (out .entry)) ⌝ }
+{
+    wide::rendering::consensus_state_parent(client, out)
+}
+
+// As hp_commitments_path: the port's 21, 5, 6; the channel's 21, 5, 6, 7, then
+// 17, 18 or 19; then 4.
+#[no_mangle]
+pub extern "C" fn hp_wide_commitments_path(port: &[u8], channel: &[u8], out: &mut [u8]) -> Written
+    ensures { λ r. ⌜ r ≡ answer (textIn wide (packetsPath (bytes "commitments")) (carried (now (port .entry)) (now (channel .entry)) 0 0)) (length (now (out .entry))) ⌝ }
+    ensures { λ _. ⌜ now (out .exit) ≡ left (textIn wide (packetsPath (bytes "commitments")) (carried (now (port .entry)) (now (channel .entry)) 0 0)) (now (out .entry)) ⌝ }
+{
+    wide::rendering::commitments_path(port, channel, out)
+}
+
+// As hp_acks_path: the port's 21, 5, 6; the channel's 21, 5, 6, 7, then
+// 17, 18 or 19; then 4.
+#[no_mangle]
+pub extern "C" fn hp_wide_acks_path(port: &[u8], channel: &[u8], out: &mut [u8]) -> Written
+    ensures { λ r. ⌜ r ≡ answer (textIn wide (packetsPath (bytes "acks")) (carried (now (port .entry)) (now (channel .entry)) 0 0)) (length (now (out .entry))) ⌝ }
+    ensures { λ _. ⌜ now (out .exit) ≡ left (textIn wide (packetsPath (bytes "acks")) (carried (now (port .entry)) (now (channel .entry)) 0 0)) (now (out .entry)) ⌝ }
+{
+    wide::rendering::acks_path(port, channel, out)
+}
+
+// As hp_receipts_path: the port's 21, 5, 6; the channel's 21, 5, 6, 7, then
+// 17, 18 or 19; then 4.
+#[no_mangle]
+pub extern "C" fn hp_wide_receipts_path(port: &[u8], channel: &[u8], out: &mut [u8]) -> Written
+    ensures { λ r. ⌜ r ≡ answer (textIn wide (packetsPath (bytes "receipts")) (carried (now (port .entry)) (now (channel .entry)) 0 0)) (length (now (out .entry))) ⌝ }
+    ensures { λ _. ⌜ now (out .exit) ≡ left (textIn wide (packetsPath (bytes "receipts")) (carried (now (port .entry)) (now (channel .entry)) 0 0)) (now (out .entry)) ⌝ }
+{
+    wide::rendering::receipts_path(port, channel, out)
 }
 
 // Books.

@@ -13,6 +13,12 @@ use Rattle.identifiers.proofs.validate.validate_client_identifier.Reads
 use Rattle.identifiers.proofs.validate.validate_connection_identifier.Reads as validate-connection-identifier
 use Rattle.identifiers.proofs.validate.validate_port_identifier.Reads as validate-port-identifier
 use Rattle.identifiers.proofs.validate.validate_channel_identifier.Reads as validate-channel-identifier
+use Rattle.identifiers.proofs.validate.length_within.Reads as length-within
+use Rattle.identifiers.proofs.validate.placeless.Reads as placeless
+use Rattle.identifiers.proofs.validate.check_named.Reads as check-named
+use Rattle.identifiers.proofs.validate.larger.Reads as larger
+use Rattle.identifiers.proofs.validate.less.Reads as less
+use Rattle.identifiers.proofs.write_named.Reads as write-named
 use Rattle.identifiers.proofs.client_id.ClientId.from_str.Reads as client-id-from-str
 use Rattle.identifiers.proofs.client_id.ClientId.new.Reads as client-id-new
 use Rattle.identifiers.proofs.client_id.write_client_id.Reads as write-client-id
@@ -48,6 +54,24 @@ one-validate-port-identifier κs a r₁ r₂ s₁ s₂ p q = p ∙ sym q
 
 pub one-validate-channel-identifier : One validate-channel-identifier.Post
 one-validate-channel-identifier κs a r₁ r₂ s₁ s₂ p q = p ∙ sym q
+
+pub one-length-within : One length-within.Post
+one-length-within κs a r₁ r₂ s₁ s₂ p q = p ∙ sym q
+
+pub one-placeless : One placeless.Post
+one-placeless κs a r₁ r₂ s₁ s₂ p q = p ∙ sym q
+
+pub one-check-named : One check-named.Post
+one-check-named κs a r₁ r₂ s₁ s₂ p q = p ∙ sym q
+
+pub one-larger : One larger.Post
+one-larger κs a r₁ r₂ s₁ s₂ p q = p ∙ sym q
+
+pub one-less : One less.Post
+one-less κs a r₁ r₂ s₁ s₂ p q = p ∙ sym q
+
+pub one-write-named : OneWith write-named.Post (λ κs s. now (s .1 .1 .0))
+one-write-named κs a r₁ r₂ s₁ s₂ p q = agree p q
 
 pub one-client-id-from-str : One client-id-from-str.Post
 one-client-id-from-str κs a r₁ r₂ s₁ s₂ p q = p ∙ sym q

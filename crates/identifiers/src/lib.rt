@@ -26,7 +26,7 @@ fn write_accepted(refusal: u8, s: &[u8], out: &mut [u8]) -> Written
 }
 
 // Writes `{name}-{counter}`.
-fn write_named(name: &[u8], counter: u64, out: &mut [u8]) -> Written
+pub fn write_named(name: &[u8], counter: u64, out: &mut [u8]) -> Written
     ensures { λ r. ⌜ r ≡ answer (text (now (name .entry) ++ (bytes "-" ++ decimal counter))) (length (now (out .entry))) ⌝ }
     ensures { λ _. ⌜ now (out .exit) ≡ left (text (now (name .entry) ++ (bytes "-" ++ decimal counter))) (now (out .entry)) ⌝ }
 {

@@ -51,7 +51,7 @@ pub fn validate_identifier_chars(id: &[u8]) -> u8
 }
 
 // Whether a number of bytes lies between two limits.
-fn length_within(n: u64, least: u64, most: u64) -> u8
+pub fn length_within(n: u64, least: u64, most: u64) -> u8
     ensures { λ r. ⌜ r ≡ within least most n ⌝ }
 {
     if n < least {
@@ -64,7 +64,7 @@ fn length_within(n: u64, least: u64, most: u64) -> u8
 }
 
 // A refusal without a place.
-fn placeless(refusal: u8) -> Fault
+pub fn placeless(refusal: u8) -> Fault
     ensures { λ r. ⌜ r ≡ record { refusal = refusal; place = 0 } ⌝ }
 {
     Fault { refusal, place: 0 }
@@ -85,7 +85,7 @@ fn check_index(id: &[u8], start: usize) -> Fault
 }
 
 // Whether the text is the name, `-` and an index.
-fn check_named(id: &[u8], name: &[u8]) -> Fault
+pub fn check_named(id: &[u8], name: &[u8]) -> Fault
     ensures { λ r. ⌜ r ≡ fault (namedOf (now (name .entry)) (now (id .entry))) (indexPlace (now (name .entry)) (now (id .entry))) ⌝ }
 {
     if !text::part::same_at(id, 0, name) {
@@ -102,14 +102,14 @@ fn check_named(id: &[u8], name: &[u8]) -> Fault
 }
 
 // The larger of two limits.
-fn larger(a: u64, b: u64) -> u64
+pub fn larger(a: u64, b: u64) -> u64
     ensures { λ r. ⌜ r ≡ max a b ⌝ }
 {
     if a < b { b } else { a }
 }
 
 // The difference, or 0 where it would be less.
-fn less(a: u64, b: u64) -> u64
+pub fn less(a: u64, b: u64) -> u64
     ensures { λ r. ⌜ r ≡ a - b ⌝ }
 {
     if a < b { 0 } else { a - b }

@@ -12,6 +12,7 @@ ghost use Rattle.text.specs.Put.{put, answer, left};
 ghost use Rattle.path.specs.Kinds.{carried};
 ghost use Rattle.path.specs.Read.{readPath, keyOf, render, partsOf};
 ghost use Rattle.path.specs.Text.{shownOf};
+ghost use Rattle.key.specs.Key.{shownBy};
 
 // Writes the rendering of a path whose places are in the text, and returns the place after it.
 pub fn write_rendering(out: &mut [u8], at: usize, text: &[u8], v: PathView) -> usize
@@ -31,11 +32,10 @@ pub fn write_rendering(out: &mut [u8], at: usize, text: &[u8], v: PathView) -> u
     )
 }
 
-// Writes the key of a text that was read: 1, 2, 3, then 4.
-pub fn write_read(text: &[u8], reading: Reading, out: &mut [u8]) -> Written
-    requires { ⌜ reading ≡ readPath (now text) ⌝ }
-    ensures { λ r. ⌜ r ≡ answer (keyOf (now (text .entry))) (length (now (out .entry))) ⌝ }
-    ensures { λ _. ⌜ now (out .exit) ≡ left (keyOf (now (text .entry))) (now (out .entry)) ⌝ }
+// Writes the rendering of what was read with the parts of the text that stand at its places, or its refusal.
+pub fn write_shown(text: &[u8], reading: Reading, out: &mut [u8]) -> Written
+    ensures { λ r. ⌜ r ≡ answer (shownBy (now (text .entry)) reading) (length (now (out .entry))) ⌝ }
+    ensures { λ _. ⌜ now (out .exit) ≡ left (shownBy (now (text .entry)) reading) (now (out .entry)) ⌝ }
 {
     let Reading::Read { path, exact: _ } = reading else {
         return Written {
@@ -52,6 +52,15 @@ pub fn write_read(text: &[u8], reading: Reading, out: &mut [u8]) -> Written
         v.a,
         v.b,
     )
+}
+
+// Writes the key of a text that was read: 1, 2, 3, then 4.
+pub fn write_read(text: &[u8], reading: Reading, out: &mut [u8]) -> Written
+    requires { ⌜ reading ≡ readPath (now text) ⌝ }
+    ensures { λ r. ⌜ r ≡ answer (keyOf (now (text .entry))) (length (now (out .entry))) ⌝ }
+    ensures { λ _. ⌜ now (out .exit) ≡ left (keyOf (now (text .entry))) (now (out .entry)) ⌝ }
+{
+    write_shown(text, reading, out)
 }
 
 // Writes the key of a text: 1, 2, 3, then 4.

@@ -7,6 +7,7 @@ use Rattle.path.proofs.provable.is_provable.Reads as is-provable
 use Rattle.path.proofs.fault_of.Reads as fault-of
 use Rattle.path.proofs.measure.render_length.Reads as render-length
 use Rattle.path.proofs.name.name_fault.Reads as name-fault
+use Rattle.path.proofs.name.no_slash.Reads as no-slash
 use Rattle.path.proofs.refusal_of.Reads as refusal-of
 use Rattle.path.proofs.provable.kind_is_provable.Reads as kind-is-provable
 
@@ -30,3 +31,6 @@ one-kind-is-provable κs a r₁ r₂ s₁ s₂ p q = p ∙ sym q
 
 pub one-name-fault : One name-fault.Post
 one-name-fault κs a r₁ r₂ s₁ s₂ p q = p ∙ sym q
+
+pub one-no-slash : One no-slash.Post
+one-no-slash κs a r₁ r₂ s₁ s₂ p q = p ∙ sym q

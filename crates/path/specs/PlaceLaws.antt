@@ -43,7 +43,7 @@ read-lies t p r =
     let l = carried-lies t 0 (r .kind .parts) in
     (rw e (l .0), rw e (l .1))
 
-shown-lies : (t : List ℕ) (p : Place) → p .start + p .len ≤ length t → shownOf t p ≡ partOf t p
+pub shown-lies : (t : List ℕ) (p : Place) → p .start + p .len ≤ length t → shownOf t p ≡ partOf t p
 unfolding shownOf
 shown-lies t p h = rw (le-leb (p .start) (length t) (omega arith), le-leb (p .len) (length t - p .start) (omega arith))
 

@@ -18,7 +18,7 @@ pub enum Name {
 }
 
 // Whether the text has no `/`.
-fn no_slash(s: &[u8]) -> bool
+pub fn no_slash(s: &[u8]) -> bool
     ensures { λ r. ⌜ r ≡ every (λ b. not (eqb b 47)) (now (s .entry)) ⌝ }
 {
     let mut i = 0;

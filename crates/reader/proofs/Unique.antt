@@ -10,6 +10,7 @@ use Rattle.reader.proofs.part.Reads as part
 use Rattle.reader.proofs.fault.Reads as fault
 use Rattle.reader.proofs.encode.write_view.Reads as write-view
 use Rattle.reader.proofs.read_path.Reads as read-path
+use Rattle.reader.proofs.write_answer.Reads as write-answer
 use Rattle.reader.proofs.write_reading.Reads as write-reading
 use Rattle.reader.proofs.first_identifier.Reads as first-identifier
 use Rattle.reader.proofs.second_identifier.Reads as second-identifier
@@ -22,6 +23,9 @@ one-write-view κs a r₁ r₂ s₁ s₂ p q = agree p q
 
 pub one-read-path : One read-path.Post
 one-read-path κs a r₁ r₂ s₁ s₂ p q = p ∙ sym q
+
+pub one-write-answer : OneWith write-answer.Post (λ κs s. now (s .1 .0))
+one-write-answer κs a r₁ r₂ s₁ s₂ p q = agree p q
 
 pub one-write-reading : OneWith write-reading.Post (λ κs s. now (s .1 .0))
 one-write-reading κs a r₁ r₂ s₁ s₂ p q = agree p q

@@ -14,12 +14,13 @@ use Rattle.path.specs.declared.Place.{Place}
 use Rattle.path.specs.declared.PathView.{PathView}
 use Rattle.path.specs.declared.Path.{Path}
 use Rattle.path.specs.declared.Refusal.{Refusal}
+use Rattle.path.specs.declared.Reading.{Reading}
 use Rattle.path.specs.declared.Reading.the-variants.{Read, Refused}
-use Rattle.path.specs.Read.{placeBytes, refusalOf, faultOf, readPath, readingBytes, readFault}
+use Rattle.path.specs.Read.{placeBytes, refusalOf, faultOf, readPath, bytesBy, readingBytes, readFault}
 use Rattle.text.specs.Number.{bigEndian}
 use Rattle.path.specs.View.{viewOf}
 use Rattle.text.specs.NumberLaws.{length-big}
-use Rattle.reader.specs.Encode.{viewBytes}
+use Rattle.reader.specs.Encode.{viewBytes, answerBy}
 
 pub length-place : (p : Place) → length (placeBytes p) ≡ 4
 length-place p = simp (length-append, length-big)
@@ -55,22 +56,30 @@ put-view v x m o o1 o2 o3 o4 o5 o6 h i e1 e2 e3 e4 e5 e6 =
     ∙ sym e6)
     )
 
--- ---- the reading's bytes: those of what a path shows, or a refusal
-module _ (t : List ℕ) where
-  pub bytes-read : (p : Path) (x : Bool) (v : PathView) → Read p x ≡ readPath t → v ≡ viewOf p → text (viewBytes v x) ≡ readingBytes t
-  unfolding viewBytes viewOf readingBytes
-  bytes-read p x v h e = rw (← h, e)
+-- ---- a reading's bytes: those of what a path shows, or a refusal
+module _ (r : Reading) where
+  pub bytes-read : (p : Path) (x : Bool) (v : PathView) → r ≡ Read p x → v ≡ viewOf p → text (viewBytes v x) ≡ bytesBy r
+  unfolding viewBytes viewOf
+  bytes-read p x v h e = rw (h, e)
 
-  pub bytes-refused : (w : Refusal) (n : ℕ) → Refused w ≡ readPath t → n ≡ refusalOf w → refused n ≡ readingBytes t
-  unfolding readingBytes
-  bytes-refused w n h e = rw (← h, e)
+  pub bytes-refused : (w : Refusal) → r ≡ Refused w → refused (refusalOf w) ≡ bytesBy r
+  bytes-refused w h = rw h
 
   -- and the answer beside them
   module _ (room : ℕ) where
-    pub fault-read : (p : Path) (x : Bool) → Read p x ≡ readPath t → (w : Wanted) → w ≡ readingBytes t → (a : Written) → a ≡ answer w room → record { refusal = a .refusal; place = 0 } ≡ readFault t room
-    unfolding readFault
-    fault-read p x h w e a i = rw (← h, ← e, i)
+    pub fault-read : (p : Path) (x : Bool) → r ≡ Read p x → (w : Wanted) → w ≡ bytesBy r → (a : Written) → a ≡ answer w room → record { refusal = a .refusal; place = 0 } ≡ answerBy r room
+    unfolding answerBy
+    fault-read p x h w e a i = rw (i, e, h)
 
-    pub fault-refused : (w : Refusal) (f : Fault) → Refused w ≡ readPath t → f ≡ faultOf w → f ≡ readFault t room
-    unfolding readFault readingBytes answer
-    fault-refused w f h e = rw (← h) e
+    pub fault-refused : (w : Refusal) (f : Fault) → r ≡ Refused w → f ≡ faultOf w → f ≡ answerBy r room
+    unfolding answerBy answer
+    fault-refused w f h e = rw h e
+
+-- those of the reading of a text are the reader's for the node
+pub answer-reading : (t : List ℕ) (r : Reading) → r ≡ readPath t → (room : ℕ) → answerBy r room ≡ readFault t room
+unfolding answerBy readFault readingBytes
+answer-reading t r e room = rw e
+
+pub bytes-reading : (t : List ℕ) (r : Reading) → r ≡ readPath t → bytesBy r ≡ readingBytes t
+unfolding readingBytes
+bytes-reading t r e = rw e

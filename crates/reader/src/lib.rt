@@ -12,8 +12,9 @@ ghost use lib.ListN.{length};
 ghost use Rattle.text.specs.Part.{ascii};
 ghost use Rattle.text.specs.Put.{left};
 ghost use Rattle.path.specs.declared.Refusal.the-variants.{NotAscii};
-ghost use Rattle.path.specs.Read.{whyNot, readPath, readingBytes, readFault};
+ghost use Rattle.path.specs.Read.{whyNot, readPath, bytesBy, readingBytes, readFault};
 ghost use Rattle.path.specs.View.{Shows, firstPlace, secondPlace};
+ghost use Rattle.reader.specs.Encode.{answerBy};
 
 // What stands at a place, as a part of the text: the empty part at the start where the place does not lie in the text.
 pub fn part(text: &[u8], p: Place) -> &[u8]
@@ -85,12 +86,12 @@ pub fn read_path(text: &[u8]) -> Reading
     }
 }
 
-// The reading of a text as 26 bytes, for the node.
-pub fn write_reading(text: &[u8], out: &mut [u8]) -> Fault
-    ensures { λ r. ⌜ r ≡ readFault (now (text .entry)) (length (now (out .entry))) ⌝ }
-    ensures { λ _. ⌜ now (out .exit) ≡ left (readingBytes (now (text .entry))) (now (out .entry)) ⌝ }
+// A reading as 26 bytes.
+pub fn write_answer(reading: Reading, out: &mut [u8]) -> Fault
+    ensures { λ r. ⌜ r ≡ answerBy reading (length (now (out .entry))) ⌝ }
+    ensures { λ _. ⌜ now (out .exit) ≡ left (bytesBy reading) (now (out .entry)) ⌝ }
 {
-    match read_path(text) {
+    match reading {
         Reading::Read { path, exact } => {
             let written = encode::write_view(path::view(path), exact, out);
             Fault {
@@ -100,4 +101,12 @@ pub fn write_reading(text: &[u8], out: &mut [u8]) -> Fault
         }
         Reading::Refused(why) => path::fault_of(why),
     }
+}
+
+// The reading of a text as 26 bytes, for the node.
+pub fn write_reading(text: &[u8], out: &mut [u8]) -> Fault
+    ensures { λ r. ⌜ r ≡ readFault (now (text .entry)) (length (now (out .entry))) ⌝ }
+    ensures { λ _. ⌜ now (out .exit) ≡ left (readingBytes (now (text .entry))) (now (out .entry)) ⌝ }
+{
+    write_answer(read_path(text), out)
 }

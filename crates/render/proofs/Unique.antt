@@ -1,10 +1,14 @@
 -- The contract of each public function, as the source has it, leaves one outcome: the result, and the content of the buffer that is lent.
 -- Assumes nothing.
+use mathlib.Core.Path.{sym, _∙_}
 use denote.Ref.{now}
-use Rattle.text.specs.Outcome.{OneWith}
+use Rattle.text.specs.Outcome.{One, OneWith}
 use Rattle.text.specs.OutcomeLaws.{agree}
 use Rattle.render.proofs.render.Reads as render
 use Rattle.render.proofs.fit.fit_kind.Reads as fit-kind
+use Rattle.render.proofs.names_of.Reads as names-of
+use Rattle.render.proofs.texts.fit_parent.Reads as fit-parent
+use Rattle.render.proofs.texts.fit_packets_path.Reads as fit-packets-path
 use Rattle.render.proofs.texts.client_state_prefix.Reads as client-state-prefix
 use Rattle.render.proofs.texts.client_state_leaf.Reads as client-state-leaf
 use Rattle.render.proofs.texts.consensus_state_parent.Reads as consensus-state-parent
@@ -25,6 +29,15 @@ one-render κs a r₁ r₂ s₁ s₂ p q = agree p q
 
 pub one-fit-kind : OneWith fit-kind.Post (λ κs s. now (s .0))
 one-fit-kind κs a r₁ r₂ s₁ s₂ p q = agree p q
+
+pub one-names-of : One names-of.Post
+one-names-of κs a r₁ r₂ s₁ s₂ p q = p ∙ sym q
+
+pub one-fit-parent : OneWith fit-parent.Post (λ κs s. now (s .1 .0))
+one-fit-parent κs a r₁ r₂ s₁ s₂ p q = agree p q
+
+pub one-fit-packets-path : OneWith fit-packets-path.Post (λ κs s. now (s .1 .1 .1 .0))
+one-fit-packets-path κs a r₁ r₂ s₁ s₂ p q = agree p q
 
 pub one-client-state-prefix : OneWith client-state-prefix.Post (λ κs s. now (s .0))
 one-client-state-prefix κs a r₁ r₂ s₁ s₂ p q = agree p q

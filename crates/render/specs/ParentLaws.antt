@@ -16,7 +16,8 @@ use Rattle.path.specs.Read.{nameFault, namesFault}
 use Rattle.path.specs.Parents.{textOf, consensusParent, consensusLeaf, packetsPath}
 use Rattle.writers.specs.Texts.{parentText, leafText, packetsText}
 use Rattle.writers.specs.TextLaws.{parent-text, leaf-text, below-text, packets-text}
-use Rattle.render.specs.Render.{kindFault}
+use Rattle.render.specs.declared.Names.the-variants.{PortAndChannel}
+use Rattle.render.specs.Render.{faultBy}
 
 module _ (v : Carried (List ℕ)) where
   pub parent-wanted : textOf consensusParent v ≡ accepted (checkOf check.client (v .first)) (parentText (v .first))
@@ -31,8 +32,8 @@ module _ (v : Carried (List ℕ)) where
   unfolding textOf namesFault
   below-wanted w = rw (below-text v w)
 
-  pub packets-wanted : (w f : List ℕ) → f ≡ w ++ bytes "/ports/" → textOf (packetsPath w) v ≡ accepted (kindFault 15 (v .first) (v .second)) (packetsText f (v .first) (v .second))
-  unfolding textOf namesFault kindFault
+  pub packets-wanted : (w f : List ℕ) → f ≡ w ++ bytes "/ports/" → textOf (packetsPath w) v ≡ accepted (faultBy nameFault PortAndChannel (v .first) (v .second)) (packetsText f (v .first) (v .second))
+  unfolding textOf namesFault
   packets-wanted w f e = rw (packets-text v w f e, first-last (nameFault channel (v .second)))
 
 -- ---- a check's refusal, and none
@@ -44,6 +45,6 @@ module _ {n m : ℕ} (w : List ℕ) (e : n ≡ m) where
   accepted-text h = rw (← e, h)
 
 -- ---- accepted identifiers are short
-pub ends-most : (p h : List ℕ) → kindFault 15 p h ≡ 0 → (length p ≤ 128) × (length h ≤ 64)
-unfolding kindFault nameFault
+pub ends-most : (p h : List ℕ) → faultBy nameFault PortAndChannel p h ≡ 0 → (length p ≤ 128) × (length h ≤ 64)
+unfolding nameFault
 ends-most p h e = let z = first-zero (nameFault port p) (nameFault channel h) e in (accepted-length check.port p (z .0) .1, accepted-length check.channel h (z .1) .1)

@@ -8,17 +8,19 @@ use lib.ListN.{length}
 use Rattle.text.specs.Refusal.{tooLong}
 use Rattle.text.specs.Put.{Wanted, accepted}
 use Rattle.identifiers.specs.Check.{first, unless}
+use Rattle.path.specs.declared.name.Name.{Name}
 use Rattle.path.specs.declared.name.Name.the-variants.{Client as client, Connection as connection, Port as port, Channel as channel, Upgrade as upgrade}
-use Rattle.path.specs.Read.{nameFault}
+use Rattle.render.specs.declared.Names.{Names}
+use Rattle.render.specs.declared.Names.the-variants.{One, PortAndChannel}
 
--- the first refusal of the identifiers, by the number of a kind from 4 on
-unfoldable pub kindFault : ℕ → List ℕ → List ℕ → ℕ
-kindFault k one two =
-    cond (ltb k 9) (nameFault client one)
-    (cond (ltb k 10) (nameFault connection one)
-    (cond (ltb 17 k) (nameFault upgrade one)
-    (cond (ltb k 11) (nameFault port one)
-    (first (nameFault port one) (nameFault channel two)))))
+-- the identifiers of a kind, by its number from 4 on
+unfoldable pub namesOf : ℕ → Names
+namesOf k = cond (ltb k 9) (One client) (cond (ltb k 10) (One connection) (cond (ltb 17 k) (One upgrade) (cond (ltb k 11) (One port) PortAndChannel)))
+
+-- the first refusal of these identifiers, where f checks one
+abbrev pub faultBy : (Name → List ℕ → ℕ) → Names → List ℕ → List ℕ → ℕ
+faultBy f (One n) one two = f n one
+faultBy f PortAndChannel one two = first (f port one) (f channel two)
 
 -- a text of at most 4,096 bytes
 unfoldable pub short : List ℕ → Wanted

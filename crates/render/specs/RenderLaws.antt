@@ -18,7 +18,7 @@ use Rattle.path.specs.Read.{show, render, nameFault, namesFault, limited, parts
 use Rattle.path.specs.Length.{renderLength, firstOf}
 use Rattle.path.specs.MeasureLaws.{render-length, length-by}
 use Rattle.writers.specs.Texts.{sequenceTexts}
-use Rattle.render.specs.Render.{kindFault, short}
+use Rattle.render.specs.Render.{namesOf, faultBy, short}
 
 -- ---- the kind
 module _ (k : ℕ) (v : Carried (List ℕ)) where
@@ -41,17 +41,17 @@ module _ (k : ℕ) (v : Carried (List ℕ)) where
     render-kind = rw (le-leb 1 k (omega arith), le-leb k 19 high)
 
     -- ---- the identifiers
-    kind-fault : namesFault (partsOf k) v ≡ kindFault k (v .first) (v .second)
-    unfolding kindFault partsOf namesFault kinds
+    kind-fault : namesFault (partsOf k) v ≡ faultBy nameFault (namesOf k) (v .first) (v .second)
+    unfolding namesOf partsOf namesFault kinds
     kind-fault =
-        agree-at (λ k. namesFault (partsOf k) v) (λ k. kindFault k (v .first) (v .second)) 4 16
+        agree-at (λ k. namesFault (partsOf k) v) (λ k. faultBy nameFault (namesOf k) (v .first) (v .second)) 4 16
         (rw (first-last (nameFault client (v .first)), first-last (nameFault connection (v .first)), first-last (nameFault upgrade (v .first)), first-last (nameFault port (v .first)), first-last (nameFault channel (v .second))))
         k low (omega arith)
 
-    pub kind-refused : (n : ℕ) → n ≡ kindFault k (v .first) (v .second) → (n ≡ 0 → ⊥) → limited (partsOf k) v ≡ refused n
+    pub kind-refused : (n : ℕ) → n ≡ faultBy nameFault (namesOf k) (v .first) (v .second) → (n ≡ 0 → ⊥) → limited (partsOf k) v ≡ refused n
     kind-refused n e h = rw (kind-fault, ← e, ne-eqb n 0 h, ne-eqb n 0 h)
 
-    pub kind-limited : kindFault k (v .first) (v .second) ≡ 0 → limited (partsOf k) v ≡ short (render (partsOf k) v)
+    pub kind-limited : faultBy nameFault (namesOf k) (v .first) (v .second) ≡ 0 → limited (partsOf k) v ≡ short (render (partsOf k) v)
     unfolding short
     kind-limited e = rw (kind-fault, e)
 

@@ -11,30 +11,54 @@ ghost use Prim.Native.Nat.{_≤_};
 ghost use lib.ListN.{length};
 ghost use Rattle.text.specs.Put.{answer, left};
 ghost use Rattle.path.specs.Kinds.{carried};
-ghost use Rattle.path.specs.Read.{limited, partsOf, renderOf};
-ghost use Rattle.render.specs.Render.{kindFault};
+ghost use Rattle.path.specs.Read.{nameFault, limited, partsOf, renderOf};
+ghost use Rattle.render.specs.declared.Names.the-variants.{PortAndChannel};
+ghost use Rattle.render.specs.Render.{namesOf, faultBy};
 
-// The first refusal of the identifiers that a kind from 4 on has.
-pub(crate) fn kind_fault(kind: u8, first: &[u8], second: &[u8]) -> u8
-    ensures { λ r. ⌜ r ≡ kindFault kind (now (first .entry)) (now (second .entry)) ⌝ }
+// The identifiers of a kind from 4 on: one, or a port and a channel.
+pub enum Names {
+    One(Name),
+    PortAndChannel,
+}
+
+// Which identifiers a kind from 4 on has.
+pub fn names_of(kind: u8) -> Names
+    ensures { λ r. ⌜ r ≡ namesOf kind ⌝ }
 {
     if kind < 9 {
-        return name_fault(Name::Client, first);
+        return Names::One(Name::Client);
     }
     if kind < 10 {
-        return name_fault(Name::Connection, first);
+        return Names::One(Name::Connection);
     }
     if 17 < kind {
-        return name_fault(Name::Upgrade, first);
+        return Names::One(Name::Upgrade);
     }
-    let port = name_fault(Name::Port, first);
     if kind < 11 {
-        return port;
+        return Names::One(Name::Port);
     }
-    if port != 0 {
-        return port;
+    Names::PortAndChannel
+}
+
+// The first refusal of a port and a channel.
+pub(crate) fn ends_fault(port: &[u8], channel: &[u8]) -> u8
+    ensures { λ r. ⌜ r ≡ faultBy nameFault PortAndChannel (now (port .entry)) (now (channel .entry)) ⌝ }
+{
+    let refusal = name_fault(Name::Port, port);
+    if refusal != 0 {
+        return refusal;
     }
-    name_fault(Name::Channel, second)
+    name_fault(Name::Channel, channel)
+}
+
+// The first refusal of the identifiers that a kind from 4 on has.
+fn kind_fault(kind: u8, first: &[u8], second: &[u8]) -> u8
+    ensures { λ r. ⌜ r ≡ faultBy nameFault (namesOf kind) (now (first .entry)) (now (second .entry)) ⌝ }
+{
+    match names_of(kind) {
+        Names::One(name) => name_fault(name, first),
+        Names::PortAndChannel => ends_fault(first, second),
+    }
 }
 
 // Checks the identifiers of a kind, then writes it.

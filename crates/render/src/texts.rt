@@ -1,5 +1,5 @@
 // The texts that are no whole path: prefixes, parents, leaves and the paths of packets.
-use crate::kind_fault;
+use crate::ends_fault;
 use path::RevisionHeight;
 use path::RevisionNumber;
 use text::Written;
@@ -15,8 +15,10 @@ ghost use Rattle.text.specs.Bytes.{bytes};
 ghost use Rattle.text.specs.Put.{text, accepted, answer, left};
 ghost use Rattle.path.specs.Kinds.{word, carried};
 ghost use Rattle.path.specs.Parents.{textOf, consensusParent, consensusLeaf, packetsPath};
-ghost use Rattle.writers.specs.Texts.{leafText, packetsText};
-ghost use Rattle.render.specs.Render.{kindFault};
+ghost use Rattle.path.specs.Read.{nameFault};
+ghost use Rattle.writers.specs.Texts.{parentText, leafText, packetsText};
+ghost use Rattle.render.specs.declared.Names.the-variants.{PortAndChannel};
+ghost use Rattle.render.specs.Render.{faultBy};
 
 // `consensusStates/R-h`, and what stands after it.
 fn fit_leaf(number: u64, height: u64, rest: &[u8], out: &mut [u8]) -> Written
@@ -37,17 +39,31 @@ fn fit_leaf(number: u64, height: u64, rest: &[u8], out: &mut [u8]) -> Written
     }
 }
 
-// `ports/P/channels/H/sequences` after the first component; `first` is that component and `/ports/`. The identifiers are those
-// of kind 15.
-fn fit_packets(first: &[u8], port: &[u8], channel: &[u8], out: &mut [u8]) -> Written
-    requires { ⌜ length (now first) ≤ 64 ⌝ }
-    ensures { λ r. ⌜ r ≡ answer (accepted (kindFault 15 (now (port .entry)) (now (channel .entry))) (packetsText (now (first .entry)) (now (port .entry)) (now (channel .entry)))) (length (now (out .entry))) ⌝ }
-    ensures { λ _. ⌜ now (out .exit) ≡ left (accepted (kindFault 15 (now (port .entry)) (now (channel .entry))) (packetsText (now (first .entry)) (now (port .entry)) (now (channel .entry)))) (now (out .entry)) ⌝ }
+// `clients/C/consensusStates`, of a client that was accepted.
+pub fn fit_parent(client: &[u8], out: &mut [u8]) -> Written
+    ensures { λ r. ⌜ r ≡ answer (text (parentText (now (client .entry)))) (length (now (out .entry))) ⌝ }
+    ensures { λ _. ⌜ now (out .exit) ≡ left (text (parentText (now (client .entry)))) (now (out .entry)) ⌝ }
 {
-    let refusal = kind_fault(15, port, channel);
-    if refusal != 0 {
-        return Written { refusal, length: 0 };
+    if out.len() < 24 + client.len() {
+        return Written {
+            refusal: NO_ROOM,
+            length: 0,
+        };
     }
+    let length = write_consensus_parent(out, 0, client);
+    Written {
+        refusal: 0,
+        length: length as u64,
+    }
+}
+
+// `ports/P/channels/H/sequences` after the first component, of a port and a channel that were accepted; `first` is that
+// component and `/ports/`.
+pub fn fit_packets_path(first: &[u8], port: &[u8], channel: &[u8], out: &mut [u8]) -> Written
+    requires { ⌜ (length (now first) ≤ 64) × (length (now port) ≤ 128) × (length (now channel) ≤ 64) ⌝ }
+    ensures { λ r. ⌜ r ≡ answer (text (packetsText (now (first .entry)) (now (port .entry)) (now (channel .entry)))) (length (now (out .entry))) ⌝ }
+    ensures { λ _. ⌜ now (out .exit) ≡ left (text (packetsText (now (first .entry)) (now (port .entry)) (now (channel .entry)))) (now (out .entry)) ⌝ }
+{
     if out.len() < 20 + first.len() + port.len() + channel.len() {
         return Written {
             refusal: NO_ROOM,
@@ -59,6 +75,19 @@ fn fit_packets(first: &[u8], port: &[u8], channel: &[u8], out: &mut [u8]) -> Wri
         refusal: 0,
         length: length as u64,
     }
+}
+
+// Checks a port and a channel, then writes the path of their packets.
+fn checked_packets(first: &[u8], port: &[u8], channel: &[u8], out: &mut [u8]) -> Written
+    requires { ⌜ length (now first) ≤ 64 ⌝ }
+    ensures { λ r. ⌜ r ≡ answer (accepted (faultBy nameFault PortAndChannel (now (port .entry)) (now (channel .entry))) (packetsText (now (first .entry)) (now (port .entry)) (now (channel .entry)))) (length (now (out .entry))) ⌝ }
+    ensures { λ _. ⌜ now (out .exit) ≡ left (accepted (faultBy nameFault PortAndChannel (now (port .entry)) (now (channel .entry))) (packetsText (now (first .entry)) (now (port .entry)) (now (channel .entry)))) (now (out .entry)) ⌝ }
+{
+    let refusal = ends_fault(port, channel);
+    if refusal != 0 {
+        return Written { refusal, length: 0 };
+    }
+    fit_packets_path(first, port, channel, out)
 }
 
 // What all client states stand under.
@@ -86,17 +115,7 @@ pub fn consensus_state_parent(client: &[u8], out: &mut [u8]) -> Written
     if refusal != 0 {
         return Written { refusal, length: 0 };
     }
-    if out.len() < 24 + client.len() {
-        return Written {
-            refusal: NO_ROOM,
-            length: 0,
-        };
-    }
-    let length = write_consensus_parent(out, 0, client);
-    Written {
-        refusal: 0,
-        length: length as u64,
-    }
+    fit_parent(client, out)
 }
 
 // `consensusStates/R-h`.
@@ -148,7 +167,7 @@ pub fn commitments_path(port: &[u8], channel: &[u8], out: &mut [u8]) -> Written
     ensures { λ r. ⌜ r ≡ answer (textOf (packetsPath (bytes "commitments")) (carried (now (port .entry)) (now (channel .entry)) 0 0)) (length (now (out .entry))) ⌝ }
     ensures { λ _. ⌜ now (out .exit) ≡ left (textOf (packetsPath (bytes "commitments")) (carried (now (port .entry)) (now (channel .entry)) 0 0)) (now (out .entry)) ⌝ }
 {
-    fit_packets(b"commitments/ports/", port, channel, out)
+    checked_packets(b"commitments/ports/", port, channel, out)
 }
 
 // `acks/ports/P/channels/H/sequences`.
@@ -156,7 +175,7 @@ pub fn acks_path(port: &[u8], channel: &[u8], out: &mut [u8]) -> Written
     ensures { λ r. ⌜ r ≡ answer (textOf (packetsPath (bytes "acks")) (carried (now (port .entry)) (now (channel .entry)) 0 0)) (length (now (out .entry))) ⌝ }
     ensures { λ _. ⌜ now (out .exit) ≡ left (textOf (packetsPath (bytes "acks")) (carried (now (port .entry)) (now (channel .entry)) 0 0)) (now (out .entry)) ⌝ }
 {
-    fit_packets(b"acks/ports/", port, channel, out)
+    checked_packets(b"acks/ports/", port, channel, out)
 }
 
 // `receipts/ports/P/channels/H/sequences`.
@@ -164,7 +183,7 @@ pub fn receipts_path(port: &[u8], channel: &[u8], out: &mut [u8]) -> Written
     ensures { λ r. ⌜ r ≡ answer (textOf (packetsPath (bytes "receipts")) (carried (now (port .entry)) (now (channel .entry)) 0 0)) (length (now (out .entry))) ⌝ }
     ensures { λ _. ⌜ now (out .exit) ≡ left (textOf (packetsPath (bytes "receipts")) (carried (now (port .entry)) (now (channel .entry)) 0 0)) (now (out .entry)) ⌝ }
 {
-    fit_packets(b"receipts/ports/", port, channel, out)
+    checked_packets(b"receipts/ports/", port, channel, out)
 }
 
 // What all packet commitments stand under.

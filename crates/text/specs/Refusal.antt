@@ -79,6 +79,10 @@ tooLarge = 19
 abbrev pub loose : ℕ
 loose = 20
 
+-- a text that is no UTF-8, in a wide call
+abbrev pub badUtf8 : ℕ
+badUtf8 = 21
+
 -- a text that is no packet key of IBC version 2, or a kind of which there is none
 abbrev pub badV2Key : ℕ
 badV2Key = 24

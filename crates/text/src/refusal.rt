@@ -39,4 +39,6 @@ pub const TOO_LARGE: u8 = 19;
 
 pub const LOOSE: u8 = 20;
 
+pub const BAD_UTF8: u8 = 21;
+
 pub const BAD_V2_KEY: u8 = 24;

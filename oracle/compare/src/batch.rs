@@ -73,6 +73,7 @@ impl From<Packet> for Returned {
 }
 
 /// What a call is to return, and to leave in what is lent to it.
+#[derive(Clone, Copy)]
 pub struct Expected<'a> {
     pub returned: Returned,
     /// The size of the buffer for what it writes.

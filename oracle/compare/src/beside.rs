@@ -5,7 +5,7 @@ use std::fmt::{self, Display, Formatter};
 use std::io::{self, BufRead, Read, Write};
 
 use model::path::{shape, Part};
-use model::{Fault, TOO_LONG};
+use model::{Fault, Mode, TOO_LONG};
 
 use crate::call::Function;
 use crate::original::PANICKED;
@@ -89,7 +89,8 @@ impl<W: Write> Beside<'_, W> {
     pub fn ask(&mut self, file: &str, number: u64, text: &[u8]) -> io::Result<()> {
         let ours = (self.library)(text);
         let held = text.len() <= HELD;
-        let theirs = if held { told::by_original(text) } else { Theirs::Silent(NOT_ASKED) };
+        let theirs =
+            if held { told::by_original(Mode::Plain, text) } else { Theirs::Silent(NOT_ASKED) };
         let theirs = theirs.against(Function::Read, &ours);
         self.counts.add(&ours);
         let verdict = match standing(self.page, &theirs, &ours) {

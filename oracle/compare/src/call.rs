@@ -1,6 +1,8 @@
 //! A call over the C interface as data.
 use std::fmt::{self, Display, Formatter};
 
+use model::Mode;
+
 pub use crate::dispatch::Function;
 
 impl Function {
@@ -17,6 +19,11 @@ impl Function {
     pub fn writes(self) -> bool {
         self.takes()[2] && !self.has_book()
     }
+
+    /// Whether it gives a reading, in either mode and by either reader.
+    pub fn reads(self) -> bool {
+        matches!(self.mode().1, Self::Read | Self::Walk)
+    }
 }
 
 /// A call's arguments but for the lent buffer. What a call lacks is not looked at.
@@ -31,6 +38,30 @@ pub struct Call<'a> {
 impl<'a> Call<'a> {
     pub fn new(function: Function, texts: [&'a [u8]; 2], numbers: [u64; 2]) -> Self {
         Self { function, kind: 0, texts, numbers }
+    }
+
+    fn is_ascii(&self) -> bool {
+        self.texts.iter().all(|text| text.is_ascii())
+    }
+
+    /// The functions that are to answer alike: a plain one, and on ASCII texts its wide one too.
+    pub fn alike(&self) -> impl Iterator<Item = Function> {
+        let wide = self.function.wide().filter(|_| self.is_ascii());
+        [self.function].into_iter().chain(wide)
+    }
+
+    /// The modes to ask in for answers of their own.
+    pub fn modes(&self) -> impl Iterator<Item = Mode> {
+        let wide = self.function.wide().filter(|_| !self.is_ascii());
+        [Mode::Plain].into_iter().chain(wide.map(|_| Mode::Wide))
+    }
+
+    /// A plain call in a mode that it has.
+    pub fn in_mode(self, mode: Mode) -> Self {
+        match mode {
+            Mode::Plain => self,
+            Mode::Wide => Self { function: self.function.wide().expect("a wide call"), ..self },
+        }
     }
 }
 

@@ -1,5 +1,6 @@
 //! Every call: its name, what it takes, and the making of it.
 use hostpath::raw;
+use model::Mode;
 
 use crate::batch::Returned;
 use crate::call::Call;
@@ -44,6 +45,23 @@ pub enum Function {
     CommitmentPrefix,
     AckPrefix,
     ReceiptPrefix,
+    WideValidateIdentifierChars,
+    WideValidateIdentifierLength,
+    WideValidatePrefixLength,
+    WideValidateNamedU64Index,
+    WideValidateClientType,
+    WideValidateClientIdentifier,
+    WideValidateConnectionIdentifier,
+    WideValidatePortIdentifier,
+    WideValidateChannelIdentifier,
+    WideClientIdNew,
+    WideRead,
+    WideKey,
+    WideRender,
+    WideConsensusStateParent,
+    WideCommitmentsPath,
+    WideAcksPath,
+    WideReceiptsPath,
     BookNew,
     BookWrite,
     BookRemove,
@@ -99,6 +117,23 @@ impl Function {
             "hp_commitment_prefix" => Self::CommitmentPrefix,
             "hp_ack_prefix" => Self::AckPrefix,
             "hp_receipt_prefix" => Self::ReceiptPrefix,
+            "hp_wide_validate_identifier_chars" => Self::WideValidateIdentifierChars,
+            "hp_wide_validate_identifier_length" => Self::WideValidateIdentifierLength,
+            "hp_wide_validate_prefix_length" => Self::WideValidatePrefixLength,
+            "hp_wide_validate_named_u64_index" => Self::WideValidateNamedU64Index,
+            "hp_wide_validate_client_type" => Self::WideValidateClientType,
+            "hp_wide_validate_client_identifier" => Self::WideValidateClientIdentifier,
+            "hp_wide_validate_connection_identifier" => Self::WideValidateConnectionIdentifier,
+            "hp_wide_validate_port_identifier" => Self::WideValidatePortIdentifier,
+            "hp_wide_validate_channel_identifier" => Self::WideValidateChannelIdentifier,
+            "hp_wide_client_id_new" => Self::WideClientIdNew,
+            "hp_wide_read" => Self::WideRead,
+            "hp_wide_key" => Self::WideKey,
+            "hp_wide_render" => Self::WideRender,
+            "hp_wide_consensus_state_parent" => Self::WideConsensusStateParent,
+            "hp_wide_commitments_path" => Self::WideCommitmentsPath,
+            "hp_wide_acks_path" => Self::WideAcksPath,
+            "hp_wide_receipts_path" => Self::WideReceiptsPath,
             "hp_book_new" => Self::BookNew,
             "hp_book_write" => Self::BookWrite,
             "hp_book_remove" => Self::BookRemove,
@@ -111,6 +146,58 @@ impl Function {
             // Above, made by bin/interface.
             _ => return None,
         })
+    }
+
+    /// The call that asks the same in the wide mode.
+    pub fn wide(self) -> Option<Self> {
+        Some(match self {
+            // Below, made by bin/interface: calls in the wide mode.
+            Self::ValidateIdentifierChars => Self::WideValidateIdentifierChars,
+            Self::ValidateIdentifierLength => Self::WideValidateIdentifierLength,
+            Self::ValidatePrefixLength => Self::WideValidatePrefixLength,
+            Self::ValidateNamedU64Index => Self::WideValidateNamedU64Index,
+            Self::ValidateClientType => Self::WideValidateClientType,
+            Self::ValidateClientIdentifier => Self::WideValidateClientIdentifier,
+            Self::ValidateConnectionIdentifier => Self::WideValidateConnectionIdentifier,
+            Self::ValidatePortIdentifier => Self::WideValidatePortIdentifier,
+            Self::ValidateChannelIdentifier => Self::WideValidateChannelIdentifier,
+            Self::ClientIdNew => Self::WideClientIdNew,
+            Self::Read => Self::WideRead,
+            Self::Key => Self::WideKey,
+            Self::Render => Self::WideRender,
+            Self::ConsensusStateParent => Self::WideConsensusStateParent,
+            Self::CommitmentsPath => Self::WideCommitmentsPath,
+            Self::AcksPath => Self::WideAcksPath,
+            Self::ReceiptsPath => Self::WideReceiptsPath,
+            // Above, made by bin/interface.
+            _ => return None,
+        })
+    }
+
+    /// The mode that a call asks in, and the call that asks the same in the plain mode.
+    pub fn mode(self) -> (Mode, Self) {
+        match self {
+            // Below, made by bin/interface: calls of the wide mode.
+            Self::WideValidateIdentifierChars => (Mode::Wide, Self::ValidateIdentifierChars),
+            Self::WideValidateIdentifierLength => (Mode::Wide, Self::ValidateIdentifierLength),
+            Self::WideValidatePrefixLength => (Mode::Wide, Self::ValidatePrefixLength),
+            Self::WideValidateNamedU64Index => (Mode::Wide, Self::ValidateNamedU64Index),
+            Self::WideValidateClientType => (Mode::Wide, Self::ValidateClientType),
+            Self::WideValidateClientIdentifier => (Mode::Wide, Self::ValidateClientIdentifier),
+            Self::WideValidateConnectionIdentifier => (Mode::Wide, Self::ValidateConnectionIdentifier),
+            Self::WideValidatePortIdentifier => (Mode::Wide, Self::ValidatePortIdentifier),
+            Self::WideValidateChannelIdentifier => (Mode::Wide, Self::ValidateChannelIdentifier),
+            Self::WideClientIdNew => (Mode::Wide, Self::ClientIdNew),
+            Self::WideRead => (Mode::Wide, Self::Read),
+            Self::WideKey => (Mode::Wide, Self::Key),
+            Self::WideRender => (Mode::Wide, Self::Render),
+            Self::WideConsensusStateParent => (Mode::Wide, Self::ConsensusStateParent),
+            Self::WideCommitmentsPath => (Mode::Wide, Self::CommitmentsPath),
+            Self::WideAcksPath => (Mode::Wide, Self::AcksPath),
+            Self::WideReceiptsPath => (Mode::Wide, Self::ReceiptsPath),
+            // Above, made by bin/interface.
+            plain => (Mode::Plain, plain),
+        }
     }
 
     /// Whether it takes a kind, a book, and a buffer for its answer.
@@ -153,6 +240,23 @@ impl Function {
             Self::CommitmentPrefix => [false, false, true],
             Self::AckPrefix => [false, false, true],
             Self::ReceiptPrefix => [false, false, true],
+            Self::WideValidateIdentifierChars => [false, false, false],
+            Self::WideValidateIdentifierLength => [false, false, false],
+            Self::WideValidatePrefixLength => [false, false, false],
+            Self::WideValidateNamedU64Index => [false, false, false],
+            Self::WideValidateClientType => [false, false, false],
+            Self::WideValidateClientIdentifier => [false, false, false],
+            Self::WideValidateConnectionIdentifier => [false, false, false],
+            Self::WideValidatePortIdentifier => [false, false, false],
+            Self::WideValidateChannelIdentifier => [false, false, false],
+            Self::WideClientIdNew => [false, false, true],
+            Self::WideRead => [false, false, true],
+            Self::WideKey => [false, false, true],
+            Self::WideRender => [true, false, true],
+            Self::WideConsensusStateParent => [false, false, true],
+            Self::WideCommitmentsPath => [false, false, true],
+            Self::WideAcksPath => [false, false, true],
+            Self::WideReceiptsPath => [false, false, true],
             Self::BookNew => [false, true, false],
             Self::BookWrite => [false, true, false],
             Self::BookRemove => [false, true, false],
@@ -209,6 +313,23 @@ pub fn make(call: &Call, book: &mut [u8], out: &mut [u8]) -> Returned {
         Function::CommitmentPrefix => raw::commitment_prefix(out).into(),
         Function::AckPrefix => raw::ack_prefix(out).into(),
         Function::ReceiptPrefix => raw::receipt_prefix(out).into(),
+        Function::WideValidateIdentifierChars => raw::wide_validate_identifier_chars(texts[0]).into(),
+        Function::WideValidateIdentifierLength => raw::wide_validate_identifier_length(texts[0], numbers[0], numbers[1]).into(),
+        Function::WideValidatePrefixLength => raw::wide_validate_prefix_length(texts[0], numbers[0], numbers[1]).into(),
+        Function::WideValidateNamedU64Index => raw::wide_validate_named_u64_index(texts[0], texts[1]).into(),
+        Function::WideValidateClientType => raw::wide_validate_client_type(texts[0]).into(),
+        Function::WideValidateClientIdentifier => raw::wide_validate_client_identifier(texts[0]).into(),
+        Function::WideValidateConnectionIdentifier => raw::wide_validate_connection_identifier(texts[0]).into(),
+        Function::WideValidatePortIdentifier => raw::wide_validate_port_identifier(texts[0]).into(),
+        Function::WideValidateChannelIdentifier => raw::wide_validate_channel_identifier(texts[0]).into(),
+        Function::WideClientIdNew => raw::wide_client_id_new(texts[0], numbers[0], out).into(),
+        Function::WideRead => raw::wide_read(texts[0], out).into(),
+        Function::WideKey => raw::wide_key(texts[0], out).into(),
+        Function::WideRender => raw::wide_render(kind, texts[0], texts[1], numbers[0], numbers[1], out).into(),
+        Function::WideConsensusStateParent => raw::wide_consensus_state_parent(texts[0], out).into(),
+        Function::WideCommitmentsPath => raw::wide_commitments_path(texts[0], texts[1], out).into(),
+        Function::WideAcksPath => raw::wide_acks_path(texts[0], texts[1], out).into(),
+        Function::WideReceiptsPath => raw::wide_receipts_path(texts[0], texts[1], out).into(),
         Function::BookNew => raw::book_new(book).into(),
         Function::BookWrite => raw::book_write(book, texts[0], texts[1]).into(),
         Function::BookRemove => raw::book_remove(book, texts[0]).into(),

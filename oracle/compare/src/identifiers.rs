@@ -3,11 +3,11 @@ use model::identifier::{self, Identifier};
 use model::path::KINDS;
 use model::pool::{self, filled};
 use model::random::Random;
-use model::{table, Fault};
+use model::{table, Fault, Mode};
 
 use crate::call::{Call, Function};
 use crate::original::says;
-use crate::set::{Bytes, Set, Theirs};
+use crate::set::{Bytes, Set, Text, Theirs};
 use crate::{Sets, Size};
 
 pub const SETS: Sets = &[
@@ -27,7 +27,7 @@ pub const SETS: Sets = &[
 ];
 
 #[derive(Clone, Copy, Debug)]
-enum Check<'a> {
+pub enum Check<'a> {
     Chars,
     Length(u64, u64),
     Prefix(u64, u64),
@@ -52,19 +52,21 @@ impl<'a> Check<'a> {
         }
     }
 
-    fn model(self, id: &[u8]) -> Result<(), Fault> {
+    fn model(self, mode: Mode, id: &[u8]) -> Result<(), Fault> {
         match self {
-            Self::Chars => Ok(identifier::chars(id)?),
-            Self::Length(least, most) => Ok(identifier::length(id, least, most)?),
-            Self::Prefix(least, most) => Ok(identifier::prefix_length(id, least, most)?),
-            Self::Named(name) => identifier::named_index(id, name),
-            Self::Whole(identifier) => identifier.check(id),
+            Self::Chars => Ok(identifier::chars(mode, id)?),
+            Self::Length(least, most) => Ok(identifier::length(mode, id, least, most)?),
+            Self::Prefix(least, most) => Ok(identifier::prefix_length(mode, id, least, most)?),
+            Self::Named(name) => identifier::named_index(mode, id, name),
+            Self::Whole(identifier) => identifier.check(mode, id),
         }
     }
 
-    fn ask(self, set: &mut Set, id: &'a [u8]) {
-        let call = self.call(id);
-        set.refusal(call, says(&call), self.model(id));
+    pub fn ask(self, set: &mut Set, id: &'a [u8]) {
+        for mode in self.call(id).modes() {
+            let call = self.call(id).in_mode(mode);
+            set.refusal(call, says(&call), self.model(mode, id));
+        }
     }
 }
 
@@ -127,7 +129,7 @@ fn near(length: u64) -> [(u64, u64); 6] {
 }
 
 /// Every call on one text.
-fn every(set: &mut Set, id: &[u8]) {
+pub fn every(set: &mut Set, id: &[u8]) {
     Check::Chars.ask(set, id);
     for check in WHOLE {
         check.ask(set, id);
@@ -154,10 +156,15 @@ fn client_id_call(client_type: &[u8], counter: u64) -> Call<'_> {
     Call::new(Function::ClientIdNew, [client_type, b""], [counter, 0])
 }
 
-fn client_id_new(set: &mut Set, client_type: &[u8], counter: u64) {
-    let call = client_id_call(client_type, counter);
-    let model = identifier::client_id_new(client_type, counter).map(Bytes).map_err(Fault::from);
-    set.text(call, says(&call), &model);
+pub fn client_id_new(set: &mut Set, client_type: &[u8], counter: u64) {
+    for mode in client_id_call(client_type, counter).modes() {
+        let call = client_id_call(client_type, counter).in_mode(mode);
+        set.text(call, says(&call), &client_id(mode, client_type, counter));
+    }
+}
+
+fn client_id(mode: Mode, client_type: &[u8], counter: u64) -> Text {
+    identifier::client_id_new(mode, client_type, counter).map(Bytes).map_err(Fault::from)
 }
 
 fn channel_id_call(counter: u64) -> Call<'static> {
@@ -213,9 +220,10 @@ fn bytes(set: &mut Set, size: Size) {
     }
 }
 
-/// Characters of every script, in the middle and at both ends.
-fn scalars(set: &mut Set, size: Size) {
-    for scalar in ('\0'..=char::MAX).step_by(size.pick(61, 1)) {
+/// Every character alone, in the middle and at both ends.
+fn scalars(set: &mut Set, _: Size) {
+    for scalar in '\0'..=char::MAX {
+        Check::Chars.ask(set, scalar.to_string().as_bytes());
         let inside = format!("trans{scalar}fer");
         let around = format!("{scalar}07-tendermint{scalar}");
         Check::Chars.ask(set, inside.as_bytes());
@@ -368,9 +376,11 @@ fn counters(set: &mut Set, size: Size) {
 }
 
 fn every_room(set: &mut Set) {
-    let client =
-        identifier::client_id_new(b"07-tendermint", u64::MAX).map(Bytes).map_err(Fault::from);
-    set.lend(client_id_call(b"07-tendermint", u64::MAX), 0..80, &client);
+    for (mode, name) in [(Mode::Plain, "07-tendermint"), (Mode::Wide, "\u{2003}07-τέντερμιντ")]
+    {
+        let call = client_id_call(name.as_bytes(), u64::MAX).in_mode(mode);
+        set.lend(call, 0..80, &client_id(mode, name.as_bytes(), u64::MAX));
+    }
     let channel = Ok(Bytes(identifier::channel_id_new(u64::MAX)));
     set.lend(channel_id_call(u64::MAX), 0..80, &channel);
 }

@@ -21,6 +21,7 @@ pub mod renderings;
 pub mod set;
 pub mod told;
 pub mod typed;
+pub mod wide;
 
 /// How much of a set to run.
 #[derive(Clone, Copy, Debug, PartialEq, Eq)]
@@ -50,6 +51,7 @@ pub const FAMILIES: &[Sets] = &[
     paths::SETS,
     typed::SETS,
     renderings::SETS,
+    wide::SETS,
     iteration::SETS,
     packets::SETS,
     books::SETS,

@@ -38,7 +38,7 @@ pub fn answer(call: &Call, book: &mut Vec<u8>, out: &mut [u8]) -> Returned {
     let lent = book.get_mut(GUARD..end).unwrap_or_default();
     let mut returned = dispatch::make(call, lent, out);
     // the call says only that it has written, and no place; how much is known
-    if matches!(call.function, Function::Read | Function::Walk) && returned.refusal == 0 {
+    if call.function.reads() && returned.refusal == 0 {
         returned.numbers[0] = READING as u64;
     }
     returned

@@ -45,6 +45,9 @@ fn main() -> ExitCode {
     let chosen = std::env::args().nth(2).unwrap_or_default();
     let all = FAMILIES.iter().copied().flatten();
     let sets: Vec<&NamedSet> = all.filter(|(name, _)| name.starts_with(&chosen)).collect();
+    if let Some(notice) = letters::notice() {
+        println!("{notice}, on which the original is not asked by wide calls");
+    }
     let Tally { passed, failed, checks } = run_all(&sets, size);
     println!("{checks} checks");
     println!("{passed} passed, {failed} failed");

@@ -5,7 +5,7 @@ use ibc_core_host_types::path::{self as original, ChannelEndPath, ClientConsensu
 use ibc_core_host_types::terms::{self, Answer};
 use ibc_core_host_types::validate;
 use model::path::{self, Part, MOST};
-use model::{pool, Fault, NOT_A_PATH};
+use model::{pool, Fault, Mode, NOT_A_PATH};
 
 use crate::call::{Call, Function};
 use crate::set::{Bytes, Listed, Text, Theirs};
@@ -18,7 +18,7 @@ const NO_INDEX: u8 = 8;
 
 /// What it says to a call where a number alone is wrong.
 pub fn untold(function: Function) -> u8 {
-    match function {
+    match function.mode().1 {
         Function::Read | Function::Walk | Function::Key => NOT_A_PATH,
         _ => NO_INDEX,
     }
@@ -32,33 +32,44 @@ const PANICS: &[u8] = b"clients";
 
 /// The answer to any call. A reading is told by its kind alone.
 pub fn says(call: &Call) -> Theirs<Text> {
-    match call.function {
+    let (mode, function) = call.function.mode();
+    let call = &Call { function, ..*call };
+    match function {
         function if function.has_book() => Theirs::Silent("no book"),
         Function::ReadIterationKey | Function::FirstAbove | Function::LastBelow => {
             Theirs::Silent("no reader")
         }
         Function::V2Read | Function::V2Write => Theirs::Silent(NO_PACKET_KEY),
         Function::Read | Function::Walk => {
-            reads(call.texts[0], |path, _| Bytes(vec![terms::parts(path).kind]))
+            reads(mode, call.texts[0], |path, _| Bytes(vec![terms::parts(path).kind]))
         }
-        Function::Key => reads(call.texts[0], |_, key| Bytes(key.into())),
-        Function::Render => renders(call),
+        Function::Key => reads(mode, call.texts[0], |_, key| Bytes(key.into())),
+        Function::Render => renders(mode, call),
         Function::IsProvable => provable(call.kind),
-        _ => hear(call.texts, |texts| {
+        _ => hear(mode, call.texts, |texts| {
             let text = written(call, texts).or_else(|| checked(call, texts));
             text.expect("a call").map(Bytes).map_err(|e| e.number().into())
         }),
     }
 }
 
-/// Asks the original, which takes valid UTF-8 alone, about some texts.
-fn hear<T, const N: usize>(texts: [&[u8]; N], ask: impl FnOnce([&str; N]) -> T) -> Theirs<T> {
+/// Asks the original, which takes valid UTF-8 alone, about some texts. Its answers to characters beyond ASCII are
+/// those of the release that compiles it.
+fn hear<T, const N: usize>(
+    mode: Mode,
+    texts: [&[u8]; N],
+    ask: impl FnOnce([&str; N]) -> T,
+) -> Theirs<T> {
     let heard = texts.map(|text| std::str::from_utf8(text).ok());
     if heard.contains(&None) {
         return Theirs::Silent("no str");
     }
-    let said = ask(heard.map(Option::unwrap_or_default));
-    if texts.iter().all(|text| text.is_ascii()) {
+    let heard = heard.map(Option::unwrap_or_default);
+    if mode == Mode::Wide && heard.iter().any(|text| letters::in_doubt(text)) {
+        return Theirs::Silent("another release");
+    }
+    let said = ask(heard);
+    if mode == Mode::Wide || texts.iter().all(|text| text.is_ascii()) {
         Theirs::Says(said)
     } else {
         Theirs::Listed(Listed::NotAscii, said)
@@ -66,8 +77,12 @@ fn hear<T, const N: usize>(texts: [&[u8]; N], ask: impl FnOnce([&str; N]) -> T) 
 }
 
 /// What is told of the path that a text is read as and of its rendering.
-pub fn reads<T>(text: &[u8], tell: impl FnOnce(&Path, &str) -> T) -> Theirs<Result<T, Fault>> {
-    let said = hear([text], |[text]| match terms::read(text) {
+pub fn reads<T>(
+    mode: Mode,
+    text: &[u8],
+    tell: impl FnOnce(&Path, &str) -> T,
+) -> Theirs<Result<T, Fault>> {
+    let said = hear(mode, [text], |[text]| match terms::read(text) {
         Answer::Path(path) => Ok(tell(&path, &path.to_string())),
         Answer::Refused => Err(NOT_A_PATH.into()),
         Answer::Panic => Err(PANICKED.into()),
@@ -82,7 +97,7 @@ pub fn reads<T>(text: &[u8], tell: impl FnOnce(&Path, &str) -> T) -> Theirs<Resu
 }
 
 /// The rendering of the parts that a kind has.
-fn renders(call: &Call) -> Theirs<Text> {
+fn renders(mode: Mode, call: &Call) -> Theirs<Text> {
     let Call { kind, texts: [first, second], numbers, .. } = *call;
     let Ok(shape) = path::shape(kind) else {
         return Theirs::Silent("no kind");
@@ -92,7 +107,7 @@ fn renders(call: &Call) -> Theirs<Text> {
     let has_second = shape.iter().any(|part| matches!(part, Part::Second(_)));
     let first = if has_first { first } else { b"" };
     let second = if has_second { second } else { b"" };
-    let said = hear([first, second], |[first, second]| {
+    let said = hear(mode, [first, second], |[first, second]| {
         let typed = terms::typed(kind, first, second, numbers).expect("a kind from 1 to 19");
         typed.map(|path| Bytes(path.into_bytes())).map_err(|e| e.number().into())
     });

@@ -2,7 +2,7 @@
 use model::packet::{self, MARKERS};
 use model::path;
 use model::random::Random;
-use model::{Fault, NOT_ASCII, NOT_A_PATH};
+use model::{Fault, Mode, NOT_ASCII, NOT_A_PATH};
 
 use crate::call::{Call, Function};
 use crate::original::NO_PACKET_KEY;
@@ -112,7 +112,7 @@ fn as_paths(set: &mut Set, size: Size) {
                 let key = packet::write(kind, &client, sequence).expect("a key");
                 paths::ask(set, &key);
                 let refusal = if key.is_ascii() { NOT_A_PATH } else { NOT_ASCII };
-                if path::read_with_key(&key).map(|_| ()) != Err(refusal.into()) {
+                if path::read_with_key(Mode::Plain, &key).map(|_| ()) != Err(refusal.into()) {
                     set.differ(|| format!("{}: a path", key.escape_ascii()));
                 }
             }

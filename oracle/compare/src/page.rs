@@ -130,10 +130,6 @@ impl Asked {
         }
     }
 
-    fn reads(&self) -> bool {
-        matches!(self.function, Function::Read | Function::Walk)
-    }
-
     fn shown(&self, answer: Text) -> String {
         let text = match answer {
             Ok(Bytes(text)) => text,
@@ -141,8 +137,8 @@ impl Asked {
             Err(fault) => return fault.to_string(),
         };
         match &text[..] {
-            [kind] if self.reads() => format!("kind {kind}"),
-            [kind, mark, ..] if self.reads() => {
+            [kind] if self.function.reads() => format!("kind {kind}"),
+            [kind, mark, ..] if self.function.reads() => {
                 format!("kind {kind}, {}", ["loose", "exact"][usize::from(*mark)])
             }
             _ if !self.function.writes() => "0".into(),

@@ -2,10 +2,10 @@
 use model::path::{self, Part, KINDS};
 use model::pool::{self, Pools};
 use model::random::Random;
-use model::table;
+use model::{table, Mode};
 
 use crate::call::{Call, Function};
-use crate::set::{Bytes, Set, Text, Theirs};
+use crate::set::{Bytes, Set, Theirs};
 use crate::told::{self, read_call, walk_call};
 use crate::{Sets, Size};
 
@@ -31,16 +31,22 @@ fn key_call(text: &[u8]) -> Call<'_> {
 
 /// One text, read and rendered.
 pub fn ask(set: &mut Set, text: &[u8]) {
-    let model = path::read_with_key(text).map(|(reading, key)| (reading, Bytes(key)));
-    let bytes = model.as_ref().map(|(reading, _)| Bytes(reading.bytes().to_vec())).map_err(|e| *e);
-    // whoever asks for the key is not told the place
-    let key: Text = model.as_ref().map(|(_, key)| key.clone()).map_err(|e| e.refusal.into());
-    set.count();
-    set.lend_around(read_call(text), &bytes);
-    set.lend_around(walk_call(text), &bytes);
-    set.lend_around(key_call(text), &key);
-    let told = model.map(|(reading, key)| told::by_reading(&reading, &key.0, text));
-    set.agree(told::by_original(text), &told, read_call(text));
+    for mode in read_call(text).modes() {
+        let (read, key) = (read_call(text).in_mode(mode), key_call(text).in_mode(mode));
+        let model = path::read_with_key(mode, text);
+        let bytes = model.as_ref().map(|(reading, _)| Bytes(reading.bytes().into()));
+        set.count();
+        let bytes = bytes.map_err(|e| *e);
+        set.lend_around(read, &bytes);
+        if mode == Mode::Plain {
+            set.lend_around(walk_call(text), &bytes);
+        }
+        // whoever asks for the key is not told the place
+        let made = model.as_ref().map(|(_, key)| Bytes(key.clone()));
+        set.lend_around(key, &made.map_err(|e| e.refusal.into()));
+        let told = model.map(|(reading, key)| told::by_reading(&reading, &key, text));
+        set.agree(told::by_original(mode, text), &told, read);
+    }
 }
 
 /// Document 01's rows, held to the outcomes that it writes.
@@ -210,7 +216,8 @@ fn rooms(set: &mut Set, _: Size) {
     for shape in KINDS {
         let text = pool::plain(shape).into_bytes();
         ask(set, &text);
-        let (reading, key) = path::read_with_key(&text).expect("a plain text is a path");
+        let (reading, key) =
+            path::read_with_key(Mode::Plain, &text).expect("a plain text is a path");
         set.lend(read_call(&text), 0..66, &Ok(Bytes(reading.bytes().to_vec())));
         set.lend(key_call(&text), 0..key.len() + 40, &Ok(Bytes(key)));
     }

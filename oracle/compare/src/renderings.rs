@@ -2,7 +2,7 @@
 use model::path::{self, Part, KINDS, MOST};
 use model::pool::{self, filled, Pools};
 use model::random::Random;
-use model::Fault;
+use model::{Fault, Mode};
 
 use crate::call::{Call, Function};
 use crate::original::says;
@@ -45,9 +45,9 @@ const PARTS: [&[u8]; 18] = [
     &[b'p'; 129],
 ];
 
-fn ask(set: &mut Set, kind: u8, first: &[u8], second: &[u8], numbers: [u64; 2]) {
+pub fn ask(set: &mut Set, kind: u8, first: &[u8], second: &[u8], numbers: [u64; 2]) {
     let call = Call { function: Function::Render, kind, texts: [first, second], numbers };
-    text(set, call, path::render(kind, first, second, numbers));
+    text(set, call, |mode| path::render(mode, kind, first, second, numbers));
 }
 
 /// All that any kind takes as first or second identifier.
@@ -144,7 +144,7 @@ fn pairs(chances: usize) -> Vec<(u64, u64)> {
 fn iteration(set: &mut Set, size: Size) {
     for (number, height) in pairs(size.pick(1_000, 1_000_000)) {
         let call = Call::new(Function::IterationKey, [b"", b""], [number, height]);
-        text(set, call, Ok(path::iteration_key(number, height)));
+        text(set, call, |_| Ok(path::iteration_key(number, height)));
     }
 }
 
@@ -160,7 +160,7 @@ fn words(set: &mut Set, _: Size) {
         (Function::ReceiptPrefix, "receipts"),
     ];
     for (function, word) in rows {
-        text(set, Call::new(function, [b"", b""], [0, 0]), Ok(word.into()));
+        text(set, Call::new(function, [b"", b""], [0, 0]), |_| Ok(word.into()));
     }
 }
 
@@ -174,7 +174,7 @@ fn leaves(set: &mut Set, size: Size) {
     for (function, after) in rows {
         for (a, b) in pairs(size.pick(1_000, 1_000_000)) {
             let call = Call::new(function, [b"", b""], [a, b]);
-            text(set, call, Ok(path::consensus_state_leaf(a, b, after)));
+            text(set, call, |_| Ok(path::consensus_state_leaf(a, b, after)));
         }
     }
 }
@@ -197,23 +197,28 @@ fn parents(set: &mut Set, size: Size) {
     }
 }
 
-fn consensus_state_parent(set: &mut Set, client: &[u8]) {
+pub fn consensus_state_parent(set: &mut Set, client: &[u8]) {
     let call = Call::new(Function::ConsensusStateParent, [client, b""], [0, 0]);
-    text(set, call, path::consensus_state_parent(client));
+    text(set, call, |mode| path::consensus_state_parent(mode, client));
 }
 
-fn sequences_paths(set: &mut Set, port: &[u8], channel: &[u8]) {
-    let rows = [
-        (Function::CommitmentsPath, "commitments"),
-        (Function::AcksPath, "acks"),
-        (Function::ReceiptsPath, "receipts"),
-    ];
-    for (function, word) in rows {
+/// The calls for the texts above all packets of a channel, and the words that these begin with.
+pub const SEQUENCES: [(Function, &str); 3] = [
+    (Function::CommitmentsPath, "commitments"),
+    (Function::AcksPath, "acks"),
+    (Function::ReceiptsPath, "receipts"),
+];
+
+pub fn sequences_paths(set: &mut Set, port: &[u8], channel: &[u8]) {
+    for (function, word) in SEQUENCES {
         let call = Call::new(function, [port, channel], [0, 0]);
-        text(set, call, path::sequences_path(word, port, channel));
+        text(set, call, |mode| path::sequences_path(mode, word, port, channel));
     }
 }
 
-fn text(set: &mut Set, call: Call, model: Result<Vec<u8>, u8>) {
-    set.text(call, says(&call), &model.map(Bytes).map_err(Fault::from));
+fn text(set: &mut Set, call: Call, model: impl Fn(Mode) -> Result<Vec<u8>, u8>) {
+    for mode in call.modes() {
+        let call = call.in_mode(mode);
+        set.text(call, says(&call), &model(mode).map(Bytes).map_err(Fault::from));
+    }
 }

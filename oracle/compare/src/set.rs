@@ -175,8 +175,10 @@ impl<'a> Set<'a> {
                     (Returned::new(0, text.len() as u64), text.as_slice())
                 }
                 Ok(_) => {
-                    if !self.page.lists_no_room(call.function) {
-                        self.differ(|| format!("{call}: no row lists {NO_ROOM} of it"));
+                    for function in call.alike() {
+                        if !self.page.lists_no_room(function) {
+                            self.differ(|| format!("{function:?}: no row lists {NO_ROOM} of it"));
+                        }
                     }
                     (NO_ROOM.into(), &[][..])
                 }
@@ -220,13 +222,21 @@ impl<'a> Set<'a> {
         if let Theirs::Listed(reason, _) = theirs {
             self.listed[reason as usize] += 1;
         }
-        if self.page.covering(call.function, &theirs, model).is_empty() {
-            self.differ(|| format!("{call}: Rust {said:?}, here {model:?}, and no row lists it"));
+        for function in call.alike() {
+            if self.page.covering(function, &theirs, model).is_empty() {
+                let call = Call { function, ..call };
+                let differing =
+                    || format!("{call}: Rust {said:?}, here {model:?}, and no row lists it");
+                self.differ(differing);
+            }
         }
     }
 
     fn ask(&mut self, call: Call, room: usize, returned: Returned, text: &[u8]) {
-        self.push(call, Expected { returned, room, text, book: None });
+        for function in call.alike() {
+            let call = Call { function, ..call };
+            self.push(call, Expected { returned, room, text, book: None });
+        }
     }
 
     fn push(&mut self, call: Call, expected: Expected) {

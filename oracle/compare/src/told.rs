@@ -2,7 +2,7 @@
 use hostpath::{raw, READING};
 use ibc_core_host_types::terms::{self, Parts};
 use model::path::{Place, Reading, MOST};
-use model::Fault;
+use model::{Fault, Mode};
 
 use crate::call::{Call, Function};
 use crate::original::reads;
@@ -32,8 +32,8 @@ pub fn walk_call(text: &[u8]) -> Call<'_> {
 }
 
 /// The original has no mark: it is taken to say whether its rendering is the text.
-pub fn by_original(text: &[u8]) -> Theirs<Answer> {
-    reads(text, |path, key| {
+pub fn by_original(mode: Mode, text: &[u8]) -> Theirs<Answer> {
+    reads(mode, text, |path, key| {
         let Parts { kind, first, second, numbers } = terms::parts(path);
         let [first, second, key] = [first, second, key].map(|text| Bytes(text.into()));
         Told { kind, exact: key.0 == text, first, second, numbers, key }

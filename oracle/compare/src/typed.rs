@@ -1,10 +1,10 @@
 //! The typed paths of rust/hostpath beside the original's: the same case, the same fields, the same text.
 use std::fmt::{Debug, Display};
 
-use model::path::{self, KINDS};
+use model::path::{self, Part, KINDS};
 use model::pool::{self, Pools};
 use model::random::Random;
-use model::Fault;
+use model::{Fault, Mode};
 
 use crate::original;
 use crate::set::{Set, Theirs};
@@ -40,40 +40,62 @@ fn fault(hostpath::Fault { refusal, place }: hostpath::Fault) -> Fault {
     Fault { refusal: refusal.number(), place: place.map_or(0, |place| place.byte) }
 }
 
-/// Names of fields are compared where the original has them.
+/// A text in both modes.
 fn ask(set: &mut Set, text: &[u8]) {
+    let plain = hostpath::Path::read(text).map(|reading| (reading.exact, Shown::of(&reading.path)));
+    check(set, Mode::Plain, text, plain.map_err(fault));
+    let wide = hostpath::wide::Path::read(text);
+    let wide = wide.map(|reading| (reading.exact, Shown::of(&reading.path)));
+    check(set, Mode::Wide, text, wide.map_err(fault));
+}
+
+/// Names of fields are compared where the original has them.
+fn check(set: &mut Set, mode: Mode, text: &[u8], mut ours: Result<(bool, Shown), Fault>) {
     set.count();
-    let ours = hostpath::Path::read(text);
-    let Theirs::Says(theirs) = original::reads(text, |path, _| Shown::of(path)) else { return };
+    let said = original::reads(mode, text, |path, _| Shown::of(path));
+    let Theirs::Says(theirs) = said else { return };
     // that a text is refused is the original's word; why and where, the model's
-    let theirs = theirs.map_err(|said| path::read(text).err().unwrap_or(said));
+    let theirs = theirs.map_err(|said| path::read(mode, text).err().unwrap_or(said));
     let theirs = theirs.map(|shown| (shown.text.as_bytes() == text, shown));
-    let ours = ours.map_err(fault).map(|reading| {
-        let mut shown = Shown::of(&reading.path);
-        if theirs.as_ref().is_ok_and(|(_, theirs)| theirs.names.is_empty()) {
-            shown.names.clear();
+    if let (Ok((_, ours)), Ok((_, theirs))) = (&mut ours, &theirs) {
+        if theirs.names.is_empty() {
+            ours.names.clear();
         }
-        (reading.exact, shown)
-    });
+    }
     if ours != theirs {
-        set.differ(|| format!("\"{}\": expected {theirs:?}, here {ours:?}", text.escape_ascii()));
+        let text = text.escape_ascii();
+        set.differ(|| format!("\"{text}\", {mode:?}: expected {theirs:?}, here {ours:?}"));
     }
 }
 
-/// Good parts of each kind in changing company, and paths by chance.
+/// Texts that fit a part.
+type Good = fn(&Part) -> &[&'static str];
+
+/// In the plain mode, and in the wide mode.
+const GOOD: [Good; 2] = [pool::good, pool::wide];
+
+/// Good parts of a kind in changing company.
+fn company(set: &mut Set, shape: &[Part], good: Good) {
+    for turn in 0..20 {
+        let part = |(place, part)| {
+            let good = good(part);
+            good[(turn + place * (turn / 4)) % good.len()]
+        };
+        let text = shape.iter().enumerate().map(part).collect::<Vec<_>>().join("/");
+        ask(set, text.as_bytes());
+    }
+}
+
+/// Good parts of each kind, and paths by chance.
 fn typed(set: &mut Set, size: Size) {
-    for shape in KINDS {
-        for turn in 0..20 {
-            let part = |(place, part)| {
-                let good = pool::good(part);
-                good[(turn + place * (turn / 4)) % good.len()]
-            };
-            let text = shape.iter().enumerate().map(part).collect::<Vec<_>>().join("/");
-            ask(set, text.as_bytes());
+    for good in GOOD {
+        for shape in KINDS {
+            company(set, shape, good);
         }
     }
     let (mut random, pools) = (Random(11), Pools::default());
     for _ in 0..size.pick(100_000, 9_000_000) {
         ask(set, &pools.path(&mut random));
+        ask(set, &pools.wide_path(&mut random));
     }
 }

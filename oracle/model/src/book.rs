@@ -3,7 +3,9 @@ use std::collections::BTreeMap;
 
 use crate::identifier::Identifier;
 use crate::path::{self, read_with_key};
-use crate::{hold, Refusal, ABSENT, BAD_BOOK, BAD_LENGTH, FULL, KEY_TOO_LONG, LOOSE, NO_ROOM};
+use crate::{
+    hold, Mode, Refusal, ABSENT, BAD_BOOK, BAD_LENGTH, FULL, KEY_TOO_LONG, LOOSE, NO_ROOM,
+};
 
 pub const HEAD: usize = 8;
 pub const KEY: usize = 255;
@@ -79,7 +81,7 @@ impl Manner {
 
 /// The key of a text: its rendering. 1, 2, 3 (or 17, 18, 19, without the place), in a plain call 20, 10.
 pub fn key(manner: Manner, text: &[u8]) -> Result<Vec<u8>, Refusal> {
-    let (_, key) = read_with_key(text)?;
+    let (_, key) = read_with_key(Mode::Plain, text)?;
     hold(manner == Manner::Lenient || key == text, LOOSE)?;
     hold(key.len() <= KEY, KEY_TOO_LONG)?;
     Ok(key)
@@ -125,9 +127,9 @@ impl Book {
 
     /// Client checks, 12.
     pub fn oldest(&self, client: &[u8]) -> Result<[u64; 2], Refusal> {
-        Identifier::Client.check(client)?;
+        Identifier::Client.check(Mode::Plain, client)?;
         let heights = |key: &Vec<u8>| {
-            let reading = path::read(key).expect("a key is a path");
+            let reading = path::read(Mode::Plain, key).expect("a key is a path");
             let state = reading.kind == STATE && reading.first.of(key) == client;
             state.then_some(reading.numbers)
         };
@@ -199,7 +201,7 @@ fn records(version: Version, bytes: &[u8]) -> Option<Records<'_>> {
 /// The key of a used slot: it reads back exact, and zeros fill its field.
 fn slot_key(slot: &[u8]) -> Option<&[u8]> {
     let (key, fill) = slot[1..1 + KEY].split_at(slot[0].into());
-    let exact = path::read(key).is_ok_and(|reading| reading.exact);
+    let exact = path::read(Mode::Plain, key).is_ok_and(|reading| reading.exact);
     (exact && fill.iter().all(|byte| *byte == 0)).then_some(key)
 }
 
@@ -221,7 +223,7 @@ impl Call {
     pub fn path(&self) -> Option<Vec<u8>> {
         match self {
             Self::Write(_, text, _) | Self::Remove(_, text) | Self::Lookup(_, text, _) => {
-                read_with_key(text).ok().map(|(_, key)| key)
+                read_with_key(Mode::Plain, text).ok().map(|(_, key)| key)
             }
             Self::New | Self::Oldest(_) | Self::Convert(_) => None,
         }

@@ -1,5 +1,5 @@
-//! The section 'Numbers and identifiers' of document 01, and request L3's faults of an index.
-use crate::{ascii, hold, number, Fault, Refusal, BAD_CHAR, BAD_LENGTH, BAD_PREFIX};
+//! The section 'Numbers and identifiers' of document 01, request L3's faults of an index, and L8's wide mode.
+use crate::{hold, number, Fault, Mode, Refusal, BAD_CHAR, BAD_LENGTH, BAD_PREFIX};
 
 /// A row of the table of identifiers.
 #[derive(Clone, Copy, Debug, PartialEq, Eq)]
@@ -30,56 +30,47 @@ impl Identifier {
         }
     }
 
-    /// ASCII, bytes, length, prefix, number.
-    pub fn check(self, id: &[u8]) -> Result<(), Fault> {
+    /// ASCII or UTF-8, characters, length, prefix, number.
+    pub fn check(self, mode: Mode, id: &[u8]) -> Result<(), Fault> {
         let (least, most) = self.lengths();
-        chars(id)?;
-        length(id, least, most)?;
-        self.name().map_or(Ok(()), |name| named_index(id, name))
+        chars(mode, id)?;
+        length(mode, id, least, most)?;
+        self.name().map_or(Ok(()), |name| named_index(mode, id, name))
     }
 }
 
-pub fn chars(id: &[u8]) -> Result<(), Refusal> {
-    ascii(id)?;
-    let allowed = |b: &u8| b.is_ascii_alphanumeric() || b"._+-#[]<>".contains(b);
-    hold(id.iter().all(allowed), BAD_CHAR)
+pub fn chars(mode: Mode, id: &[u8]) -> Result<(), Refusal> {
+    let allowed = |c: char| mode.alphanumeric(c) || "._+-#[]<>".contains(c);
+    hold(mode.text(id)?.chars().all(allowed), BAD_CHAR)
 }
 
-pub fn length(id: &[u8], least: u64, most: u64) -> Result<(), Refusal> {
-    ascii(id)?;
-    let length = id.len() as u64;
+/// In bytes.
+pub fn length(mode: Mode, id: &[u8], least: u64, most: u64) -> Result<(), Refusal> {
+    let length = mode.text(id)?.len() as u64;
     hold(least.max(1) <= length && length <= most, BAD_LENGTH)
 }
 
-pub fn prefix_length(prefix: &[u8], least: u64, most: u64) -> Result<(), Refusal> {
-    length(prefix, least.saturating_sub(2), most.saturating_sub(21))
+pub fn prefix_length(mode: Mode, prefix: &[u8], least: u64, most: u64) -> Result<(), Refusal> {
+    length(mode, prefix, least.saturating_sub(2), most.saturating_sub(21))
 }
 
 /// The name, `-`, and an index: a number text that begins with `0` only if it is `0`. The place of its
 /// fault is counted from the start of the identifier.
-pub fn named_index(id: &[u8], name: &[u8]) -> Result<(), Fault> {
-    ascii(id)?;
-    ascii(name)?;
+pub fn named_index(mode: Mode, id: &[u8], name: &[u8]) -> Result<(), Fault> {
+    mode.text(id)?;
+    mode.text(name)?;
     let index = id.strip_prefix(name).and_then(|rest| rest.strip_prefix(b"-")).ok_or(BAD_PREFIX)?;
     hold(index == b"0" || !index.starts_with(b"0"), BAD_PREFIX)?;
     number(index).map(|_| ()).map_err(|fault| fault.behind(id.len() - index.len()))
 }
 
-pub fn client_id_new(client_type: &[u8], counter: u64) -> Result<Vec<u8>, Refusal> {
-    ascii(client_type)?;
-    let client_type = trimmed(client_type);
-    Identifier::ClientType.check(client_type)?;
-    Ok([client_type, b"-", counter.to_string().as_bytes()].concat())
+/// The client type without white space at its ends, `-` and the counter.
+pub fn client_id_new(mode: Mode, client_type: &[u8], counter: u64) -> Result<Vec<u8>, Refusal> {
+    let client_type = mode.text(client_type)?.trim_matches(|c| mode.white(c));
+    Identifier::ClientType.check(mode, client_type.as_bytes())?;
+    Ok(format!("{client_type}-{counter}").into_bytes())
 }
 
 pub fn channel_id_new(counter: u64) -> Vec<u8> {
     format!("channel-{counter}").into_bytes()
-}
-
-/// Without the bytes 9 to 13 and 32 at both ends.
-fn trimmed(text: &[u8]) -> &[u8] {
-    let kept = |b: &u8| !matches!(b, 9..=13 | 32);
-    let start = text.iter().position(kept).unwrap_or(text.len());
-    let end = text.iter().rposition(kept).map_or(start, |last| last + 1);
-    &text[start..end]
 }

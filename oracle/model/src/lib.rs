@@ -35,6 +35,7 @@ pub const NO_DIGITS: Refusal = 17;
 pub const NOT_A_DIGIT: Refusal = 18;
 pub const TOO_LARGE: Refusal = 19;
 pub const LOOSE: Refusal = 20;
+pub const BAD_UTF8: Refusal = 21;
 pub const BAD_V2_KEY: Refusal = 24;
 
 /// What may be wrong with a number. The refusals that have a place.
@@ -93,9 +94,39 @@ pub fn number(text: &[u8]) -> Result<u64, Fault> {
     Ok(value)
 }
 
-/// The first check of every call on a text.
-pub fn ascii(text: &[u8]) -> Result<(), Refusal> {
-    hold(text.is_ascii(), NOT_ASCII)
+/// What texts are made of: ASCII, or in request L8's wide calls the characters of every script.
+#[derive(Clone, Copy, Debug, PartialEq, Eq)]
+pub enum Mode {
+    Plain,
+    Wide,
+}
+
+impl Mode {
+    /// The first check of every call on a text: 2, or 21.
+    pub fn text(self, text: &[u8]) -> Result<&str, Refusal> {
+        let refusal = match self {
+            Self::Plain => NOT_ASCII,
+            Self::Wide => BAD_UTF8,
+        };
+        hold(self == Self::Wide || text.is_ascii(), refusal)?;
+        std::str::from_utf8(text).map_err(|_| refusal)
+    }
+
+    /// A letter or a digit.
+    fn alphanumeric(self, character: char) -> bool {
+        match self {
+            Self::Plain => character.is_ascii_alphanumeric(),
+            Self::Wide => letters::alphanumeric(character),
+        }
+    }
+
+    /// White space: bytes 9 to 13 and 32, or that of every script.
+    fn white(self, character: char) -> bool {
+        match self {
+            Self::Plain => matches!(character, '\t'..='\r' | ' '),
+            Self::Wide => letters::white(character),
+        }
+    }
 }
 
 fn hold(test: bool, refusal: Refusal) -> Result<(), Refusal> {

@@ -1,8 +1,8 @@
 //! The section 'The nineteen kinds' of document 01: one table, read and rendered by walking it; and
 //! request L3's fault of a text in which a number alone is wrong.
 use crate::identifier::Identifier;
-use crate::{ascii, hold, number, Fault, Refusal};
-use crate::{BAD_KIND, BAD_SEGMENT, NOT_ASCII, NOT_A_PATH, TOO_LONG};
+use crate::{hold, number, Fault, Mode, Refusal};
+use crate::{BAD_KIND, BAD_SEGMENT, NOT_A_PATH, TOO_LONG};
 
 /// The longest text that is read or rendered.
 pub const MOST: usize = 4096;
@@ -102,17 +102,17 @@ impl Reading {
     }
 }
 
-/// Reading, in the order of refusals 1, 2, 3; 17, 18 and 19 stand at the place of 3.
-pub fn read(text: &[u8]) -> Result<Reading, Fault> {
-    read_with_key(text).map(|(reading, _)| reading)
+/// Reading, in the order of refusals 1, 2 or 21, 3; 17, 18 and 19 stand at the place of 3.
+pub fn read(mode: Mode, text: &[u8]) -> Result<Reading, Fault> {
+    read_with_key(mode, text).map(|(reading, _)| reading)
 }
 
 /// Reading, with the rendering of the text. At most one kind has a word on it: a second stops the run.
-pub fn read_with_key(text: &[u8]) -> Result<(Reading, Vec<u8>), Fault> {
+pub fn read_with_key(mode: Mode, text: &[u8]) -> Result<(Reading, Vec<u8>), Fault> {
     hold(text.len() <= MOST, TOO_LONG)?;
-    ascii(text)?;
+    mode.text(text)?;
     let places = cut(text);
-    let mut fits = (1..=19).filter_map(|kind| fit(kind, text, &places));
+    let mut fits = (1..=19).filter_map(|kind| fit(mode, kind, text, &places));
     let fit = fits.next();
     assert_eq!(fits.next(), None, "two kinds: {}", text.escape_ascii());
     let mut reading = fit.ok_or(NOT_A_PATH)??;
@@ -135,7 +135,7 @@ fn cut(text: &[u8]) -> Vec<Place> {
 
 /// What a kind has to say of a text: nothing where another part than its numbers is wrong, else the
 /// reading, its mark not yet set, or the fault of the first number that is none.
-fn fit(kind: u8, text: &[u8], places: &[Place]) -> Option<Result<Reading, Fault>> {
+fn fit(mode: Mode, kind: u8, text: &[u8], places: &[Place]) -> Option<Result<Reading, Fault>> {
     let shape = KINDS[usize::from(kind) - 1];
     if shape.len() != places.len() {
         return None;
@@ -148,11 +148,11 @@ fn fit(kind: u8, text: &[u8], places: &[Place]) -> Option<Result<Reading, Fault>
         match part {
             Word(word) => (bytes == word.as_bytes()).then_some(())?,
             First(identifier) => {
-                identifier.check(bytes).ok()?;
+                identifier.check(mode, bytes).ok()?;
                 reading.first = *place;
             }
             Second(identifier) => {
-                identifier.check(bytes).ok()?;
+                identifier.check(mode, bytes).ok()?;
                 reading.second = *place;
             }
             Upgrade => reading.first = *place,
@@ -182,6 +182,7 @@ fn halves(text: &[u8], place: Place) -> Option<[Place; 2]> {
 
 /// Rendering by kind and parts, in the order of refusals 14, first, second, 1.
 pub fn render(
+    mode: Mode,
     kind: u8,
     first: &[u8],
     second: &[u8],
@@ -190,9 +191,9 @@ pub fn render(
     let shape = shape(kind)?;
     for part in shape {
         match part {
-            First(identifier) => identifier.check(first)?,
-            Second(identifier) => identifier.check(second)?,
-            Upgrade => segment(first)?,
+            First(identifier) => identifier.check(mode, first)?,
+            Second(identifier) => identifier.check(mode, second)?,
+            Upgrade => segment(mode, first)?,
             Word(_) | Number | Heights => {}
         }
     }
@@ -201,9 +202,8 @@ pub fn render(
     Ok(text)
 }
 
-fn segment(upgrade: &[u8]) -> Result<(), Refusal> {
-    hold(upgrade.is_ascii(), NOT_ASCII)?;
-    hold(!upgrade.contains(&b'/'), BAD_SEGMENT)
+fn segment(mode: Mode, upgrade: &[u8]) -> Result<(), Refusal> {
+    hold(!mode.text(upgrade)?.contains('/'), BAD_SEGMENT)
 }
 
 /// The parts of a shape with slashes between them; numbers as they are spelt.
@@ -227,8 +227,8 @@ pub fn iteration_key(number: u64, height: u64) -> Vec<u8> {
 }
 
 /// `clients/C/consensusStates`.
-pub fn consensus_state_parent(client: &[u8]) -> Result<Vec<u8>, Refusal> {
-    Identifier::Client.check(client)?;
+pub fn consensus_state_parent(mode: Mode, client: &[u8]) -> Result<Vec<u8>, Refusal> {
+    Identifier::Client.check(mode, client)?;
     Ok([&b"clients/"[..], client, b"/consensusStates"].concat())
 }
 
@@ -238,8 +238,13 @@ pub fn consensus_state_leaf(number: u64, height: u64, after: &str) -> Vec<u8> {
 }
 
 /// The text above all sequences of a channel, as `commitments/ports/P/channels/H/sequences`.
-pub fn sequences_path(word: &str, port: &[u8], channel: &[u8]) -> Result<Vec<u8>, Refusal> {
-    Identifier::Port.check(port)?;
-    Identifier::Channel.check(channel)?;
+pub fn sequences_path(
+    mode: Mode,
+    word: &str,
+    port: &[u8],
+    channel: &[u8],
+) -> Result<Vec<u8>, Refusal> {
+    Identifier::Port.check(mode, port)?;
+    Identifier::Channel.check(mode, channel)?;
     Ok([word.as_bytes(), b"/ports/", port, b"/channels/", channel, b"/sequences"].concat())
 }

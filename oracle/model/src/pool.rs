@@ -100,6 +100,27 @@ pub fn good(part: &Part) -> &[&'static str] {
     }
 }
 
+/// Texts that fit a part in the wide mode, beyond ASCII where there are such.
+pub fn wide(part: &Part) -> &[&'static str] {
+    match part {
+        Part::First(Identifier::Client) => {
+            &["07-τέντερμιντ-4", "клиент-7", "客戶端+[1]", "٠١٢٣٤", "𐐀𐐁𐐂", "a\u{345}éÿΩ<>"]
+        }
+        Part::First(Identifier::Port) => &["πύλη", "порт", "港口", "é", "１２", "\u{e31}", "𠀀"],
+        Part::Upgrade => &["αναβάθμιση", "×", "e\u{301}", "🦀", "\u{3000}", "\u{feff}a b"],
+        part => good(part),
+    }
+}
+
+/// Texts of many scripts, by bytes of a character: letters and digits, which a wide identifier takes; marks of
+/// which it takes some; white space and other characters, which it refuses.
+pub const SCRIPTS: [&str; 42] = [
+    "πύλη", "Порт", "港口", "ポート", "한글", "\u{5e9}\u{5e2}\u{5e8}", "\u{645}\u{631}", "ไทย",
+    "é", "ß", "ﬁ", "𐐀", "𠀀", "𝔘", "٣", "१", "１２", "²", "Ⅷ", "½", "①", "𝟘", "\u{345}", "\u{e31}",
+    "e\u{301}", "\u{20dd}", "\u{fe0f}", "×", "€", "—", "🦀", "\u{85}", "\u{a0}", "\u{2003}",
+    "\u{3000}", "\u{200b}", "\u{feff}", "\u{80}", "\u{7ff}", "\u{d7ff}", "\u{e000}", "\u{10ffff}",
+];
+
 /// The plain text of a kind's shape.
 pub fn plain(shape: &[Part]) -> String {
     shape.iter().map(|part| good(part)[0]).collect::<Vec<_>>().join("/")
@@ -141,17 +162,31 @@ impl Pools {
         random.text(pool)
     }
 
-    /// A chance text after a kind's shape, half of them damaged.
+    /// A chance text after a kind's shape.
     pub fn path(&self, random: &mut Random) -> Vec<u8> {
-        let shape = random.of(&KINDS);
-        let parts: Vec<&str> = shape.iter().map(|part| self.draw(part, random)).collect();
-        let mut text = parts.join("/").into_bytes();
-        if random.one_in(2) {
-            let times = 1 + random.below(3);
-            random.damage(&mut text, times);
-        }
-        text
+        joined(random, |part, random| self.draw(part, random))
     }
+
+    /// The same with parts beyond ASCII.
+    pub fn wide_path(&self, random: &mut Random) -> Vec<u8> {
+        joined(random, |part, random| match random.below(8) {
+            0 => random.of(&SCRIPTS),
+            1..=4 => random.of(wide(part)),
+            _ => self.draw(part, random),
+        })
+    }
+}
+
+/// A text after a kind's shape, half the time damaged.
+fn joined<'a>(random: &mut Random, draw: impl Fn(&'a Part, &mut Random) -> &'a str) -> Vec<u8> {
+    let shape = random.of(&KINDS);
+    let parts: Vec<&str> = shape.iter().map(|part| draw(part, random)).collect();
+    let mut text = parts.join("/").into_bytes();
+    if random.one_in(2) {
+        let times = 1 + random.below(3);
+        random.damage(&mut text, times);
+    }
+    text
 }
 
 /// Every byte of ASCII, as a piece.

@@ -6,12 +6,12 @@ use ibc_core_host_types::identifiers::{ChannelId, ClientId, ConnectionId, PortId
 use ibc_core_host_types::terms::{self, Answer};
 use ibc_core_host_types::validate::validate_client_type;
 use model::identifier::Identifier;
-use model::{number, path, pool, table, Fault, NO_DIGITS, NUMBER_FAULTS};
+use model::{number, path, pool, table, Fault, Mode, NO_DIGITS, NUMBER_FAULTS};
 
 #[test]
 fn paths() {
     for (text, outcome) in table::paths() {
-        assert_eq!(path::read(text.as_bytes()), outcome, "{text}");
+        assert_eq!(path::read(Mode::Plain, text.as_bytes()), outcome, "{text}");
         match (terms::read(&text), outcome) {
             (Answer::Path(path), Ok(reading)) => {
                 let parts = terms::parts(&path);
@@ -32,7 +32,7 @@ fn identifiers() {
         read.map(|_| ()).map_err(|e| e.number())
     }
     for (identifier, id, outcome) in table::identifiers() {
-        assert_eq!(identifier.check(id.as_bytes()), outcome, "{id}");
+        assert_eq!(identifier.check(Mode::Plain, id.as_bytes()), outcome, "{id}");
         let theirs = match identifier {
             Identifier::Client => said(ClientId::from_str(&id)),
             Identifier::ClientType => said(validate_client_type(&id)),
@@ -53,7 +53,8 @@ fn identifiers() {
 #[test]
 fn length_and_ascii_come_first() {
     let text = |length: usize| pool::filled("", 'u', length) + "/x/upgradedClient";
-    let read = |text: String| path::read(text.as_bytes()).map_err(|fault| fault.to_string());
+    let read =
+        |text: String| path::read(Mode::Plain, text.as_bytes()).map_err(|fault| fault.to_string());
     assert_eq!(read(text(4096 - 17)), Err("18 at 4080".into()));
     assert_eq!(read(text(4096 - 16)), Err("1".into()));
     assert_eq!(read("\u{e9}/x/upgradedClient".into()), Err("2".into()));
@@ -82,7 +83,7 @@ fn longest() {
     let port = [b'p'; 128];
     let channel = [&b"channel-+"[..], &[b'0'; 55]].concat();
     let longest = (1..=17)
-        .filter_map(|kind| path::render(kind, &port, &channel, [u64::MAX; 2]).ok())
+        .filter_map(|kind| path::render(Mode::Plain, kind, &port, &channel, [u64::MAX; 2]).ok())
         .map(|text| text.len())
         .max();
     assert_eq!(longest, Some(251));

@@ -4,6 +4,7 @@ use std::hint::black_box;
 
 use hostpath::{book_size, raw, Book, Refusal, BOOK_VALUE, READING};
 use model::path::{render, KINDS};
+use model::Mode;
 
 use crate::family::{keep, Family};
 
@@ -26,7 +27,7 @@ fn key(i: usize) -> Vec<u8> {
         _ => (format!("transfer.{turn}"), [number, 0]),
     };
     let channel = format!("channel-{turn}");
-    render(kind as u8, first.as_bytes(), channel.as_bytes(), numbers).expect("a path")
+    render(Mode::Plain, kind as u8, first.as_bytes(), channel.as_bytes(), numbers).expect("a path")
 }
 
 #[derive(Clone, Copy, Debug)]

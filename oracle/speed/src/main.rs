@@ -48,10 +48,10 @@ fn families() -> impl Iterator<Item = Family> {
 
 fn figures(picture: &str, programs: Option<Family>) {
     let mut figures = vec![];
-    println!("{:40}  ratio", "family");
+    println!("{:44}  ratio", "family");
     for family in families().chain(programs).chain(books::families()) {
         let ratio = family.ratio();
-        println!("{:40} {ratio:6.2}", family.name);
+        println!("{:44} {ratio:6.2}", family.name);
         figures.push((family.name, ratio));
     }
     std::fs::write(picture, picture::svg(&figures)).expect("the picture can be written");

@@ -1,9 +1,10 @@
-//! The identifier checks, and identifiers that have passed them.
+//! The identifier checks, and identifiers that have passed them, by the calls of the module around this one.
 use core::fmt;
 
-use crate::{ascii, done, raw, written, Fault, Refusal};
+use super::raw;
+use crate::{done, str_of, written, Fault, Refusal};
 
-/// All bytes are identifier bytes: A-Z, a-z, 0-9 and `. _ + - # [ ] < >`. 2, 5.
+/// All is letters, digits and `. _ + - # [ ] < >`. 2, 5.
 pub fn validate_identifier_chars(id: &[u8]) -> Result<(), Refusal> {
     done(raw::validate_identifier_chars(id))
 }
@@ -24,15 +25,16 @@ pub fn validate_named_u64_index(id: &[u8], name: &[u8]) -> Result<(), Fault> {
     Fault::of_index(raw::validate_named_u64_index(id, name))
 }
 
-/// It is a client type: 7 to 43 identifier bytes. 2, 5, 6.
+/// It is a client type: 7 to 43 bytes of such characters. 2, 5, 6.
 pub fn validate_client_type(id: &[u8]) -> Result<(), Refusal> {
     done(raw::validate_client_type(id))
 }
 
-/// It is a client identifier: 9 to 64 identifier bytes. 2, 5, 6.
+/// It is a client identifier: 9 to 64 bytes. 2, 5, 6.
 ///
 /// ```
-/// use hostpath::{validate_client_identifier, Refusal};
+#[doc = concat!("use ", here!(), "::validate_client_identifier;")]
+/// use hostpath::Refusal;
 ///
 /// assert_eq!(validate_client_identifier(b"07-tendermint-4"), Ok(()));
 /// let refusal = validate_client_identifier(b"clientid").unwrap_err();
@@ -48,7 +50,7 @@ pub fn validate_connection_identifier(id: &[u8]) -> Result<(), Fault> {
     Fault::of_index(raw::validate_connection_identifier(id))
 }
 
-/// It is a port identifier: 2 to 128 identifier bytes. 2, 5, 6.
+/// It is a port identifier: 2 to 128 bytes. 2, 5, 6.
 pub fn validate_port_identifier(id: &[u8]) -> Result<(), Refusal> {
     done(raw::validate_port_identifier(id))
 }
@@ -90,7 +92,7 @@ macro_rules! checked {
 
             fn try_from(text: &'a [u8]) -> Result<Self, $error> {
                 $check(text)?;
-                Ok(Self(ascii(text)?))
+                Ok(Self(str_of(text)?))
             }
         }
 
@@ -141,7 +143,8 @@ checked! {
     /// A channel identifier. `channel-+01` and `channel-1` are two. 2, 5, 6, 7, then 17, 18 or 19.
     ///
     /// ```
-    /// use hostpath::{ChannelId, Refusal};
+    #[doc = concat!("use ", here!(), "::ChannelId;")]
+    /// use hostpath::Refusal;
     ///
     /// assert_ne!(ChannelId::try_from("channel-+01")?, ChannelId::try_from("channel-1")?);
     /// assert_eq!(ChannelId::try_from("channel-01").unwrap_err(), Refusal::BadPrefix);
@@ -151,7 +154,7 @@ checked! {
 }
 
 checked! {
-    /// The upgrade path of an upgraded state: ASCII without `/`, and with any height a path of at most
+    /// The upgrade path of an upgraded state: a text without `/`, and with any height a path of at most
     /// 4,096 bytes. 2, 13, 1.
     UpgradePath, validate_upgrade_path, Refusal
 }
@@ -161,7 +164,8 @@ impl<'a> ClientId<'a> {
     /// for each. 2, 5, 6, 4.
     ///
     /// ```
-    /// use hostpath::{ClientId, Refusal};
+    #[doc = concat!("use ", here!(), "::ClientId;")]
+    /// use hostpath::Refusal;
     ///
     /// let mut room = [0; 64];
     /// assert_eq!(ClientId::new(b"07-tendermint", 4, &mut room)?.as_str(), "07-tendermint-4");
@@ -176,28 +180,5 @@ impl<'a> ChannelId<'a> {
     /// Writes `channel-` and the counter; 28 bytes have room for each. 4.
     pub fn new(counter: u64, out: &'a mut [u8]) -> Result<Self, Refusal> {
         written(raw::channel_id_new(counter, out), out).map(Self)
-    }
-}
-
-/// A packet's sequence, which is no height.
-#[derive(Clone, Copy, Debug, PartialEq, Eq, PartialOrd, Ord, Hash)]
-pub struct Sequence(u64);
-
-impl Sequence {
-    /// Its number.
-    pub const fn value(self) -> u64 {
-        self.0
-    }
-}
-
-impl From<u64> for Sequence {
-    fn from(number: u64) -> Self {
-        Self(number)
-    }
-}
-
-impl fmt::Display for Sequence {
-    fn fmt(&self, out: &mut fmt::Formatter<'_>) -> fmt::Result {
-        self.0.fmt(out)
     }
 }

@@ -37,32 +37,51 @@
 //! numbers at the end of a call's description are its refusals, in the order in which they are looked
 //! for. A refusal changes no byte of a lent buffer; a success writes from its byte 0 and leaves the
 //! bytes after what was written. Nothing is allocated, so what is written is lent room.
+//!
+//! Texts are ASCII. The module [`wide`] has the checks, the identifiers and the paths under the same names
+//! for letters of every script, as ibc-rs takes them.
 #![no_std]
 #![deny(missing_docs)]
+#![allow(clippy::duplicate_mod)] // the files that `wide` has too are compiled over its calls
+
+/// Where examples have their items from; a module that has the same items says it anew.
+macro_rules! here {
+    () => {
+        "hostpath"
+    };
+}
 
 mod book;
 mod fault;
 mod identifiers;
 mod iteration;
 mod packet;
+mod parents;
 mod path;
 #[rustfmt::skip]
 pub mod raw;
 #[rustfmt::skip]
 mod refusal;
+mod sequence;
 mod texts;
+pub mod wide;
 
 pub use book::*;
 pub use fault::*;
 pub use identifiers::*;
 pub use iteration::*;
 pub use packet::*;
+pub use parents::*;
 pub use path::*;
 pub use refusal::Refusal;
+pub use sequence::*;
 pub use texts::*;
 
 /// The bytes of the longest text of a path, and of the longest rendering.
 pub const PATH_MOST: usize = 4096;
+
+/// The bytes of a reading by [`raw::read`].
+pub const READING: usize = 26;
 
 /// A call's number as a result.
 fn done(number: u8) -> Result<(), Refusal> {
@@ -82,10 +101,10 @@ fn pair(answer: raw::Pair) -> Result<(u64, u64), Refusal> {
 /// What a call wrote into a buffer.
 fn written(answer: raw::Written, out: &[u8]) -> Result<&str, Refusal> {
     done(answer.refusal)?;
-    ascii(&out[..answer.length as usize])
+    str_of(&out[..answer.length as usize])
 }
 
-/// A text that the library has found to be ASCII.
-fn ascii(text: &[u8]) -> Result<&str, Refusal> {
-    core::str::from_utf8(text).map_err(|_| Refusal::NotAscii)
+/// A text that the library has found to be ASCII, or in the wide mode UTF-8.
+fn str_of(text: &[u8]) -> Result<&str, Refusal> {
+    core::str::from_utf8(text).map_err(|_| Refusal::BadUtf8)
 }

@@ -1,5 +1,5 @@
 //! Packet keys of IBC version 2, which no book takes.
-use crate::{ascii, done, raw, ClientId, Refusal, Sequence};
+use crate::{done, raw, str_of, ClientId, Refusal, Sequence};
 
 /// The bytes of the longest packet key.
 pub const PACKET_KEY_MOST: usize = 73;
@@ -60,7 +60,7 @@ impl<'a> PacketKey<'a> {
     pub fn read(key: &'a [u8]) -> Result<Self, Refusal> {
         let answer = raw::v2_read(key);
         done(answer.refusal)?;
-        let client_id = ClientId(ascii(&key[..answer.length as usize])?);
+        let client_id = ClientId(str_of(&key[..answer.length as usize])?);
         Ok(Self { kind: PacketKind::of(answer.kind)?, client_id, sequence: answer.sequence.into() })
     }
 

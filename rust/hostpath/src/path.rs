@@ -1,11 +1,9 @@
-//! Paths read and rendered.
+//! Paths read and rendered, by the calls of the module around this one.
 use core::fmt;
 
-use crate::{ascii, done, raw, written, Fault, Refusal, PATH_MOST};
-use crate::{ChannelId, ClientId, ConnectionId, PortId, Sequence, UpgradePath};
-
-/// The bytes of a reading by [`raw::read`].
-pub const READING: usize = 26;
+use super::raw;
+use super::{ChannelId, ClientId, ConnectionId, PortId, UpgradePath};
+use crate::{done, str_of, written, Fault, Refusal, Sequence, PATH_MOST, READING};
 
 /// A path: cases and fields have the names that ibc-rs has for them, and stand in the order of their
 /// kinds, from 1 to 19. Its identifiers are borrowed from the text that was read.
@@ -102,7 +100,8 @@ impl<'a> Path<'a> {
     /// Reads a text. 1, 2, 3; in 3's place 17, 18 or 19 where a number alone is wrong.
     ///
     /// ```
-    /// use hostpath::{Path, Refusal};
+    #[doc = concat!("use ", here!(), "::Path;")]
+    /// use hostpath::Refusal;
     ///
     /// let reading = Path::read(b"commitments/ports/transfer/channels/channel-0/sequences/5")?;
     /// assert!(reading.exact);
@@ -117,7 +116,7 @@ impl<'a> Path<'a> {
         Fault::of_path(raw::walk(text, &mut bytes), text)?;
         let part = |at: usize| {
             let start = number(&bytes[at..at + 2]) as usize;
-            ascii(&text[start..start + number(&bytes[at + 2..at + 4]) as usize])
+            str_of(&text[start..start + number(&bytes[at + 2..at + 4]) as usize])
         };
         let numbers = [number(&bytes[10..18]), number(&bytes[18..])];
         let path = typed(bytes[0], [part(2)?, part(6)?], numbers).ok_or(Refusal::BadKind)?;
@@ -128,7 +127,8 @@ impl<'a> Path<'a> {
     /// a shorter height.
     ///
     /// ```
-    /// use hostpath::{ClientId, Path, Refusal};
+    #[doc = concat!("use ", here!(), "::{ClientId, Path};")]
+    /// use hostpath::Refusal;
     ///
     /// let client_id = ClientId::try_from("07-tendermint-4")?;
     /// let path = Path::ClientConsensusState { client_id, revision_number: 7, revision_height: 2 };
@@ -217,7 +217,8 @@ impl fmt::Display for Path<'_> {
 /// Writes the key of a text: the rendering of the path that it is read as. 1, 2, 3 (17, 18, 19), 4.
 ///
 /// ```
-/// use hostpath::{key, Refusal};
+#[doc = concat!("use ", here!(), "::key;")]
+/// use hostpath::Refusal;
 ///
 /// let mut room = [0; 64];
 /// let key = key(b"clients/07-tendermint-4/consensusStates/007-+2", &mut room)?;

@@ -145,6 +145,40 @@ pub mod c {
         pub fn hp_ack_prefix(out: *mut u8, out_len: usize) -> Written;
         /// [`receipt_prefix`] on pointers.
         pub fn hp_receipt_prefix(out: *mut u8, out_len: usize) -> Written;
+        /// [`wide_validate_identifier_chars`] on pointers.
+        pub fn hp_wide_validate_identifier_chars(id: *const u8, id_len: usize) -> u8;
+        /// [`wide_validate_identifier_length`] on pointers.
+        pub fn hp_wide_validate_identifier_length(id: *const u8, id_len: usize, min: u64, max: u64) -> u8;
+        /// [`wide_validate_prefix_length`] on pointers.
+        pub fn hp_wide_validate_prefix_length(prefix: *const u8, prefix_len: usize, min: u64, max: u64) -> u8;
+        /// [`wide_validate_named_u64_index`] on pointers.
+        pub fn hp_wide_validate_named_u64_index(id: *const u8, id_len: usize, name: *const u8, name_len: usize) -> Fault;
+        /// [`wide_validate_client_type`] on pointers.
+        pub fn hp_wide_validate_client_type(id: *const u8, id_len: usize) -> u8;
+        /// [`wide_validate_client_identifier`] on pointers.
+        pub fn hp_wide_validate_client_identifier(id: *const u8, id_len: usize) -> u8;
+        /// [`wide_validate_connection_identifier`] on pointers.
+        pub fn hp_wide_validate_connection_identifier(id: *const u8, id_len: usize) -> Fault;
+        /// [`wide_validate_port_identifier`] on pointers.
+        pub fn hp_wide_validate_port_identifier(id: *const u8, id_len: usize) -> u8;
+        /// [`wide_validate_channel_identifier`] on pointers.
+        pub fn hp_wide_validate_channel_identifier(id: *const u8, id_len: usize) -> Fault;
+        /// [`wide_client_id_new`] on pointers.
+        pub fn hp_wide_client_id_new(client_type: *const u8, client_type_len: usize, counter: u64, out: *mut u8, out_len: usize) -> Written;
+        /// [`wide_read`] on pointers.
+        pub fn hp_wide_read(text: *const u8, text_len: usize, out: *mut u8, out_len: usize) -> Fault;
+        /// [`wide_key`] on pointers.
+        pub fn hp_wide_key(text: *const u8, text_len: usize, out: *mut u8, out_len: usize) -> Written;
+        /// [`wide_render`] on pointers.
+        pub fn hp_wide_render(kind: u8, first: *const u8, first_len: usize, second: *const u8, second_len: usize, a: u64, b: u64, out: *mut u8, out_len: usize) -> Written;
+        /// [`wide_consensus_state_parent`] on pointers.
+        pub fn hp_wide_consensus_state_parent(client: *const u8, client_len: usize, out: *mut u8, out_len: usize) -> Written;
+        /// [`wide_commitments_path`] on pointers.
+        pub fn hp_wide_commitments_path(port: *const u8, port_len: usize, channel: *const u8, channel_len: usize, out: *mut u8, out_len: usize) -> Written;
+        /// [`wide_acks_path`] on pointers.
+        pub fn hp_wide_acks_path(port: *const u8, port_len: usize, channel: *const u8, channel_len: usize, out: *mut u8, out_len: usize) -> Written;
+        /// [`wide_receipts_path`] on pointers.
+        pub fn hp_wide_receipts_path(port: *const u8, port_len: usize, channel: *const u8, channel_len: usize, out: *mut u8, out_len: usize) -> Written;
         /// [`book_new`] on pointers.
         pub fn hp_book_new(book: *mut u8, book_len: usize) -> u8;
         /// [`book_write`] on pointers.
@@ -395,6 +429,111 @@ pub fn ack_prefix(out: &mut [u8]) -> Written {
 pub fn receipt_prefix(out: &mut [u8]) -> Written {
     // SAFETY: each pointer and count are those of one live slice.
     unsafe { c::hp_receipt_prefix(out.as_mut_ptr(), out.len()) }
+}
+
+/// All characters are letters, numbers or one of `. _ + - # [ ] < >`: 21, 5.
+pub fn wide_validate_identifier_chars(id: &[u8]) -> u8 {
+    // SAFETY: each pointer and count are those of one live slice.
+    unsafe { c::hp_wide_validate_identifier_chars(id.as_ptr(), id.len()) }
+}
+
+/// As hp_validate_identifier_length: 21, 6.
+pub fn wide_validate_identifier_length(id: &[u8], min: u64, max: u64) -> u8 {
+    // SAFETY: each pointer and count are those of one live slice.
+    unsafe { c::hp_wide_validate_identifier_length(id.as_ptr(), id.len(), min, max) }
+}
+
+/// As hp_validate_prefix_length: 21, 6.
+pub fn wide_validate_prefix_length(prefix: &[u8], min: u64, max: u64) -> u8 {
+    // SAFETY: each pointer and count are those of one live slice.
+    unsafe { c::hp_wide_validate_prefix_length(prefix.as_ptr(), prefix.len(), min, max) }
+}
+
+/// As hp_validate_named_u64_index; the digits of an index are ASCII: 21, 7, then 17, 18 or 19.
+pub fn wide_validate_named_u64_index(id: &[u8], name: &[u8]) -> Fault {
+    // SAFETY: each pointer and count are those of one live slice.
+    unsafe { c::hp_wide_validate_named_u64_index(id.as_ptr(), id.len(), name.as_ptr(), name.len()) }
+}
+
+/// As hp_validate_client_type: 21, 5, 6.
+pub fn wide_validate_client_type(id: &[u8]) -> u8 {
+    // SAFETY: each pointer and count are those of one live slice.
+    unsafe { c::hp_wide_validate_client_type(id.as_ptr(), id.len()) }
+}
+
+/// As hp_validate_client_identifier: 21, 5, 6.
+pub fn wide_validate_client_identifier(id: &[u8]) -> u8 {
+    // SAFETY: each pointer and count are those of one live slice.
+    unsafe { c::hp_wide_validate_client_identifier(id.as_ptr(), id.len()) }
+}
+
+/// As hp_validate_connection_identifier: 21, 5, 6, 7, then 17, 18 or 19.
+pub fn wide_validate_connection_identifier(id: &[u8]) -> Fault {
+    // SAFETY: each pointer and count are those of one live slice.
+    unsafe { c::hp_wide_validate_connection_identifier(id.as_ptr(), id.len()) }
+}
+
+/// As hp_validate_port_identifier: 21, 5, 6.
+pub fn wide_validate_port_identifier(id: &[u8]) -> u8 {
+    // SAFETY: each pointer and count are those of one live slice.
+    unsafe { c::hp_wide_validate_port_identifier(id.as_ptr(), id.len()) }
+}
+
+/// As hp_validate_channel_identifier: 21, 5, 6, 7, then 17, 18 or 19.
+pub fn wide_validate_channel_identifier(id: &[u8]) -> Fault {
+    // SAFETY: each pointer and count are those of one live slice.
+    unsafe { c::hp_wide_validate_channel_identifier(id.as_ptr(), id.len()) }
+}
+
+/// As hp_client_id_new, without the white space of all scripts at the ends: 21, 5, 6, 4.
+pub fn wide_client_id_new(client_type: &[u8], counter: u64, out: &mut [u8]) -> Written {
+    // SAFETY: each pointer and count are those of one live slice.
+    unsafe { c::hp_wide_client_id_new(client_type.as_ptr(), client_type.len(), counter, out.as_mut_ptr(), out.len()) }
+}
+
+/// As hp_read: 1, 21, 3 (17, 18, 19), 4.
+pub fn wide_read(text: &[u8], out: &mut [u8]) -> Fault {
+    // SAFETY: each pointer and count are those of one live slice.
+    unsafe { c::hp_wide_read(text.as_ptr(), text.len(), out.as_mut_ptr(), out.len()) }
+}
+
+/// As hp_key: 1, 21, 3 (17, 18, 19), 4.
+pub fn wide_key(text: &[u8], out: &mut [u8]) -> Written {
+    // SAFETY: each pointer and count are those of one live slice.
+    unsafe { c::hp_wide_key(text.as_ptr(), text.len(), out.as_mut_ptr(), out.len()) }
+}
+
+/// As hp_render: 14, first, second (an upgrade path: 21, 13), 1, 4.
+pub fn wide_render(kind: u8, first: &[u8], second: &[u8], a: u64, b: u64, out: &mut [u8]) -> Written {
+    // SAFETY: each pointer and count are those of one live slice.
+    unsafe { c::hp_wide_render(kind, first.as_ptr(), first.len(), second.as_ptr(), second.len(), a, b, out.as_mut_ptr(), out.len()) }
+}
+
+/// As hp_consensus_state_parent: the client's 21, 5, 6; then 4.
+pub fn wide_consensus_state_parent(client: &[u8], out: &mut [u8]) -> Written {
+    // SAFETY: each pointer and count are those of one live slice.
+    unsafe { c::hp_wide_consensus_state_parent(client.as_ptr(), client.len(), out.as_mut_ptr(), out.len()) }
+}
+
+/// As hp_commitments_path: the port's 21, 5, 6; the channel's 21, 5, 6, 7, then
+/// 17, 18 or 19; then 4.
+pub fn wide_commitments_path(port: &[u8], channel: &[u8], out: &mut [u8]) -> Written {
+    // SAFETY: each pointer and count are those of one live slice.
+    unsafe { c::hp_wide_commitments_path(port.as_ptr(), port.len(), channel.as_ptr(), channel.len(), out.as_mut_ptr(), out.len()) }
+}
+
+/// As hp_acks_path: the port's 21, 5, 6; the channel's 21, 5, 6, 7, then
+/// 17, 18 or 19; then 4.
+pub fn wide_acks_path(port: &[u8], channel: &[u8], out: &mut [u8]) -> Written {
+    // SAFETY: each pointer and count are those of one live slice.
+    unsafe { c::hp_wide_acks_path(port.as_ptr(), port.len(), channel.as_ptr(), channel.len(), out.as_mut_ptr(), out.len()) }
+}
+
+/// As hp_receipts_path: the port's 21, 5, 6; the channel's 21, 5, 6, 7, then
+/// 17, 18 or 19; then 4.
+pub fn wide_receipts_path(port: &[u8], channel: &[u8], out: &mut [u8]) -> Written {
+    // SAFETY: each pointer and count are those of one live slice.
+    unsafe { c::hp_wide_receipts_path(port.as_ptr(), port.len(), channel.as_ptr(), channel.len(), out.as_mut_ptr(), out.len()) }
 }
 
 /// Makes the buffer, whatever it holds, a book of version 2 without records; its size alone is looked at: 9.

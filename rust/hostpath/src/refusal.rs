@@ -45,6 +45,8 @@ pub enum Refusal {
     TooLarge = 19,
     /// 20: a number of the text has a plus or leading zeros, so it is not its own key: give its key, or make the lenient call.
     Loose = 20,
+    /// 21: the text is no UTF-8: give it as UTF-8 without overlong forms and surrogates.
+    BadUtf8 = 21,
     /// 24: the bytes are not a client, a marker of 1, 2 or 3 and 8 more, or the kind is not one of these: give a whole packet key.
     BadV2Key = 24,
     // Above, made by bin/interface.
@@ -74,6 +76,7 @@ impl Refusal {
             18 => Self::NotADigit,
             19 => Self::TooLarge,
             20 => Self::Loose,
+            21 => Self::BadUtf8,
             24 => Self::BadV2Key,
             // Above, made by bin/interface.
             _ => return None,
@@ -108,6 +111,7 @@ impl Refusal {
             Self::NotADigit => "a byte of the number is no digit: write it in the digits 0 to 9 alone",
             Self::TooLarge => "the number is above 18446744073709551615: write a smaller one",
             Self::Loose => "a number of the text has a plus or leading zeros, so it is not its own key: give its key, or make the lenient call",
+            Self::BadUtf8 => "the text is no UTF-8: give it as UTF-8 without overlong forms and surrogates",
             Self::BadV2Key => "the bytes are not a client, a marker of 1, 2 or 3 and 8 more, or the kind is not one of these: give a whole packet key",
             // Above, made by bin/interface.
         }

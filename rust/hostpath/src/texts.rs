@@ -1,5 +1,5 @@
-//! Texts above and below a path.
-use crate::{raw, written, ChannelId, ClientId, PortId, Refusal};
+//! Words and numbers above and below a path.
+use crate::{raw, written, Refusal};
 
 /// Writes `clients`. 4.
 pub fn client_state_prefix(out: &mut [u8]) -> Result<&str, Refusal> {
@@ -9,14 +9,6 @@ pub fn client_state_prefix(out: &mut [u8]) -> Result<&str, Refusal> {
 /// Writes `clientState`. 4.
 pub fn client_state_leaf(out: &mut [u8]) -> Result<&str, Refusal> {
     written(raw::client_state_leaf(out), out)
-}
-
-/// Writes `clients/C/consensusStates`. 4.
-pub fn consensus_state_parent<'o>(
-    client_id: ClientId<'_>,
-    out: &'o mut [u8],
-) -> Result<&'o str, Refusal> {
-    written(raw::consensus_state_parent(client_id.as_bytes(), out), out)
 }
 
 /// Writes `consensusStates/R-h`. 4.
@@ -54,33 +46,6 @@ pub fn connection_prefix(out: &mut [u8]) -> Result<&str, Refusal> {
 /// Writes `channelEnds`. 4.
 pub fn channel_end_prefix(out: &mut [u8]) -> Result<&str, Refusal> {
     written(raw::channel_end_prefix(out), out)
-}
-
-/// Writes `commitments/ports/P/channels/H/sequences`. 4.
-pub fn commitments_path<'o>(
-    port_id: PortId<'_>,
-    channel_id: ChannelId<'_>,
-    out: &'o mut [u8],
-) -> Result<&'o str, Refusal> {
-    written(raw::commitments_path(port_id.as_bytes(), channel_id.as_bytes(), out), out)
-}
-
-/// Writes `acks/ports/P/channels/H/sequences`. 4.
-pub fn acks_path<'o>(
-    port_id: PortId<'_>,
-    channel_id: ChannelId<'_>,
-    out: &'o mut [u8],
-) -> Result<&'o str, Refusal> {
-    written(raw::acks_path(port_id.as_bytes(), channel_id.as_bytes(), out), out)
-}
-
-/// Writes `receipts/ports/P/channels/H/sequences`. 4.
-pub fn receipts_path<'o>(
-    port_id: PortId<'_>,
-    channel_id: ChannelId<'_>,
-    out: &'o mut [u8],
-) -> Result<&'o str, Refusal> {
-    written(raw::receipts_path(port_id.as_bytes(), channel_id.as_bytes(), out), out)
 }
 
 /// Writes `commitments`. 4.

@@ -46,6 +46,28 @@ fn paths() {
 }
 
 #[test]
+fn wide_calls() {
+    let (port, size) = (PORT.as_ptr(), PORT.len());
+    let mut out = [0; 17];
+    unsafe {
+        assert_eq!(hp_wide_validate_identifier_chars(null(), 0), 0);
+        assert_eq!(hp_wide_validate_port_identifier(null(), 0), 6);
+        assert_eq!(hp_wide_validate_named_u64_index(null(), 0, null(), 0), fault(7));
+        assert_eq!(hp_wide_client_id_new(null(), 0, 4, null_mut(), 0), refused(6));
+        assert_eq!(hp_wide_read(null(), 0, null_mut(), 0), fault(3));
+        assert_eq!(hp_wide_read(port, size, null_mut(), 0), fault(4));
+        assert_eq!(hp_wide_key(null(), 0, null_mut(), 0), refused(3));
+        assert_eq!(hp_wide_key(port, size, null_mut(), 0), refused(4));
+        assert_eq!(hp_wide_render(10, null(), 0, null(), 0, 0, 0, null_mut(), 0), refused(6));
+        let made = hp_wide_render(18, null(), 0, null(), 0, 5, 0, out.as_mut_ptr(), out.len());
+        assert_eq!(made, Written { refusal: 0, length: 17 });
+        assert_eq!(hp_wide_consensus_state_parent(null(), 0, null_mut(), 0), refused(6));
+        assert_eq!(hp_wide_acks_path(null(), 0, null(), 0, null_mut(), 0), refused(6));
+    }
+    assert_eq!(&out, b"/5/upgradedClient");
+}
+
+#[test]
 fn iteration_keys() {
     let pair = |refusal| Pair { refusal, number: 0, height: 0 };
     unsafe {

@@ -14,7 +14,7 @@ write-view-requires c κs = let x = c .before .before .before .before .before .b
     let r = c .before .before .before .before .before .walk-path in
     let v = c .view in
     let e = answer-view (x .why) (x .line .now) (r .result) (r .ensures) _ _ (c .before .before .before .path .given .1) (v .result) (v .ensures) in
-    (view-kind (x .line .now) (r .result) _ _ (c .before .before .before .path .given .1) (r .ensures) (v .result) (v .ensures), omega (arith, ap length e))
+    (view-kind (x .line .now) (r .result) _ _ (c .before .before .before .path .given .1) (v .result) (v .ensures), omega (arith, ap length e))
 
 write-refusal-requires : tie.Need-write-refusal-requires
 write-refusal-requires c κs = let x = c .before .before .before .before .before .before .before .args in

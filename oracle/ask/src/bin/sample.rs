@@ -9,6 +9,7 @@ use std::{env, fs, io};
 use ask::sample::{texts, COUNT};
 use ask::Asker;
 use model::path::{self, Part, KINDS};
+use model::Mode;
 
 fn main() -> io::Result<()> {
     let mut arguments = env::args().skip(1);
@@ -27,7 +28,7 @@ fn answer(asker: &mut Asker, text: &[u8], answers: &mut Vec<u8>) {
     let start = answers.len();
     asker.answer(text, answers);
     if answers[start..] == *b"3\n" {
-        let fault = path::read(text).expect_err("the original refuses it");
+        let fault = path::read(Mode::Plain, text).expect_err("the original refuses it");
         answers.truncate(start);
         writeln!(answers, "{}", fault.refusal).expect("a Vec takes all");
     }

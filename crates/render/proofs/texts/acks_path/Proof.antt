@@ -12,7 +12,7 @@ returns : tie.Need-returns
 returns c =
     let x = c .before .before .before .before .before .before .before .before .args in
     let v = carried (x .port .now) (x .channel .now) 0 0 in
-    gives-same (textOf (packetsPath (bytes "acks")) v) (x .out .now) (packets-wanted v (bytes "acks") (bytes "acks/ports/") refl) (c .before .before .fit-packets .ensures)
+    gives-same (textOf (packetsPath (bytes "acks")) v) (x .out .now) (packets-wanted v (bytes "acks") (bytes "acks/ports/") refl) (c .before .before .checked-packets .ensures)
 
 pub acks-path-spec : {M : Type 1} → statement M
 acks-path-spec =

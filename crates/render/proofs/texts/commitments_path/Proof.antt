@@ -12,7 +12,7 @@ returns : tie.Need-returns
 returns c =
     let x = c .before .before .before .before .before .before .before .before .args in
     let v = carried (x .port .now) (x .channel .now) 0 0 in
-    gives-same (textOf (packetsPath (bytes "commitments")) v) (x .out .now) (packets-wanted v (bytes "commitments") (bytes "commitments/ports/") refl) (c .before .before .fit-packets .ensures)
+    gives-same (textOf (packetsPath (bytes "commitments")) v) (x .out .now) (packets-wanted v (bytes "commitments") (bytes "commitments/ports/") refl) (c .before .before .checked-packets .ensures)
 
 pub commitments-path-spec : {M : Type 1} → statement M
 commitments-path-spec =

@@ -12,7 +12,7 @@ returns : tie.Need-returns
 returns c =
     let x = c .before .before .before .before .before .before .before .before .args in
     let v = carried (x .port .now) (x .channel .now) 0 0 in
-    gives-same (textOf (packetsPath (bytes "receipts")) v) (x .out .now) (packets-wanted v (bytes "receipts") (bytes "receipts/ports/") refl) (c .before .before .fit-packets .ensures)
+    gives-same (textOf (packetsPath (bytes "receipts")) v) (x .out .now) (packets-wanted v (bytes "receipts") (bytes "receipts/ports/") refl) (c .before .before .checked-packets .ensures)
 
 pub receipts-path-spec : {M : Type 1} → statement M
 receipts-path-spec =

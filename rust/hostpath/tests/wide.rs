@@ -1,0 +1,114 @@
+//! The module `wide` through its types: letters of every script, and ASCII as outside it. What every call answers
+//! is the comparison's business, in oracle/compare.
+use hostpath::wide::{
+    acks_path, commitments_path, consensus_state_parent, key, receipts_path,
+    validate_identifier_chars, validate_identifier_length, validate_named_u64_index,
+    validate_prefix_length, ChannelId, ClientId, ConnectionId, Path, PortId, UpgradePath,
+};
+use hostpath::{book_size, Book, Fault, Number, Place, Refusal, PATH_MOST};
+
+/// Identifiers are borrowed from the text as they were written, and the rendering is the key.
+#[test]
+fn paths() {
+    let text = "acks/ports/πύλη/channels/channel-+01/sequences/005";
+    let reading = Path::read(text.as_bytes()).unwrap();
+    let Path::Ack { port_id, channel_id, sequence } = reading.path else {
+        panic!("{:?}", reading.path)
+    };
+    assert_eq!((port_id.as_str(), channel_id.as_str()), ("πύλη", "channel-+01"));
+    assert_eq!((sequence.value(), reading.exact), (5, false));
+    assert_eq!(port_id.as_bytes().as_ptr(), text["acks/ports/".len()..].as_ptr());
+    let made = "acks/ports/πύλη/channels/channel-+01/sequences/5";
+    assert_eq!(reading.path.to_string(), made);
+    let mut room = [0; 64];
+    assert_eq!(key(text.as_bytes(), &mut room), Ok(made));
+    assert_eq!(reading.path.render(&mut room[..made.len() - 1]), Err(Refusal::NoRoom));
+    assert_eq!(reading.path.is_provable(), Ok(true));
+    assert!(Path::read(made.as_bytes()).unwrap().exact);
+}
+
+/// Each of these is refused outside, with 2.
+#[test]
+fn scripts() {
+    for port in ["πύλη", "порт", "港口", "١٢", "é", "𠀀"] {
+        let text = format!("ports/{port}");
+        let port_id = PortId::try_from(port).unwrap();
+        assert_eq!(
+            Path::read(text.as_bytes()).map(|reading| reading.path),
+            Ok(Path::Ports { port_id })
+        );
+        assert_eq!(hostpath::PortId::try_from(port), Err(Refusal::NotAscii));
+        assert_eq!(hostpath::Path::read(text.as_bytes()), Err(Refusal::NotAscii.into()));
+    }
+}
+
+#[test]
+fn refusals() {
+    assert_eq!(validate_identifier_chars(b"\xf0\x9f\xa6"), Err(Refusal::BadUtf8));
+    assert_eq!(validate_identifier_chars("🦀".as_bytes()), Err(Refusal::BadChar));
+    assert_eq!(validate_identifier_length(b"\xed\xa0\x80", 1, 9), Err(Refusal::BadUtf8));
+    assert_eq!(validate_identifier_length("é".as_bytes(), 2, 2), Ok(()));
+    assert_eq!(validate_prefix_length("é".as_bytes(), 5, 30), Err(Refusal::BadLength));
+    assert_eq!(validate_named_u64_index("é-1".as_bytes(), "é".as_bytes()), Ok(()));
+    assert_eq!(validate_named_u64_index("é-1".as_bytes(), b"\xc3"), Err(Refusal::BadUtf8.into()));
+    assert_eq!(Path::read(b"ports/\xc0\xaf"), Err(Refusal::BadUtf8.into()));
+    assert_eq!(Path::read("é".repeat(2049).as_bytes()), Err(Refusal::TooLong.into()));
+    assert_eq!(ConnectionId::try_from("ééééé"), Err(Refusal::BadPrefix.into()));
+}
+
+/// Places are counted in bytes.
+#[test]
+fn faults() {
+    let fault = Path::read("πύλη/٣/upgradedClient".as_bytes()).unwrap_err();
+    let place = Some(Place { number: Number::UpgradeHeight, byte: 9 });
+    assert_eq!(fault, Fault { refusal: Refusal::NotADigit, place });
+    let fault = ChannelId::try_from("channel-1é").unwrap_err();
+    let place = Some(Place { number: Number::Index, byte: 9 });
+    assert_eq!(fault, Fault { refusal: Refusal::NotADigit, place });
+}
+
+#[test]
+fn lengths_are_in_bytes() {
+    assert!(PortId::try_from("é".repeat(64).as_str()).is_ok());
+    assert_eq!(PortId::try_from("é".repeat(65).as_str()), Err(Refusal::BadLength));
+    let most = "é".repeat((PATH_MOST - "/18446744073709551615/upgradedConsState".len()) / 2);
+    let upgrade_path = UpgradePath::try_from(most.as_str()).unwrap();
+    let path = Path::UpgradeConsensusState { upgrade_path, height: u64::MAX };
+    assert_eq!(path.to_string().len(), PATH_MOST - 1);
+    assert_eq!(UpgradePath::try_from((most + "é").as_str()), Err(Refusal::TooLong));
+    assert_eq!(UpgradePath::try_from("é/"), Err(Refusal::BadSegment));
+    assert_eq!(UpgradePath::try_from("🦀").map(UpgradePath::as_str), Ok("🦀"));
+}
+
+#[test]
+fn texts() {
+    let mut room = [0; 96];
+    let client = ClientId::new("\u{3000}клиент\u{85}".as_bytes(), 4, &mut room);
+    assert_eq!(client.map(ClientId::as_str), Ok("клиент-4"));
+    let client = ClientId::try_from("клиент-4").unwrap();
+    let parent = consensus_state_parent(client, &mut room);
+    assert_eq!(parent, Ok("clients/клиент-4/consensusStates"));
+    let port = PortId::try_from("港口").unwrap();
+    let mut other = [0; 28];
+    let channel = ChannelId::new(7, &mut other).unwrap();
+    assert_eq!(
+        commitments_path(port, channel, &mut room),
+        Ok("commitments/ports/港口/channels/channel-7/sequences")
+    );
+    assert_eq!(
+        acks_path(port, channel, &mut room),
+        Ok("acks/ports/港口/channels/channel-7/sequences")
+    );
+    assert_eq!(
+        receipts_path(port, channel, &mut room),
+        Ok("receipts/ports/港口/channels/channel-7/sequences")
+    );
+}
+
+/// A book keeps ASCII keys alone.
+#[test]
+fn books_stay_ascii() {
+    let mut buffer = [0; book_size(1)];
+    let mut book = Book::new(&mut buffer).unwrap();
+    assert_eq!(book.write("ports/πύλη".as_bytes(), b"a digest"), Err(Refusal::NotAscii));
+}
