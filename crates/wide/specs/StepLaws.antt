@@ -29,7 +29,7 @@ use Rattle.path.specs.declared.Reading.the-variants.{Refused}
 use Rattle.path.specs.declared.name.Name.the-variants.{Client as client, Connection as connection, Port as port, Channel as channel, Upgrade as upgrade}
 use Rattle.path.specs.Kinds.{Carried, kinds}
 use Rattle.path.specs.Parents.{consensusParent, packetsPath}
-use Rattle.path.specs.Read.{render, partsOf, namesFault, renderOf, readPath, bytesBy}
+use Rattle.path.specs.Read.{render, partsOf, readPath, bytesBy}
 use Rattle.letters.specs.Character.{utf8}
 use Rattle.letters.specs.Narrow.{narrow}
 use Rattle.letters.specs.NarrowLaws.{length-narrow}
@@ -180,14 +180,22 @@ module _ (t : List ℕ) (x : WideReading) (by : x ≡ readIn wide t) where
 
 -- ---- rendering
 module _ (m : Mode) (k : ℕ) (v : Carried (List ℕ)) where
-  -- a kind without identifiers, or none
-  pub render-low : k < 4 → renderIn m k v ≡ renderOf k v
-  unfolding renderIn renderOf partsOf namesFaultIn namesFault kinds
-  render-low h = agree-at (λ k. renderIn m k v) (λ k. renderOf k v) 0 4 refl k (omega arith) (omega arith)
+  pub render-low : k < 1 → renderIn m k v ≡ refused 14
+  unfolding renderIn
+  render-low h = rw (lt-leb 1 k h)
 
-  pub render-high : 19 < k → renderIn m k v ≡ renderOf k v
-  unfolding renderIn renderOf
+  pub render-high : 19 < k → renderIn m k v ≡ refused 14
+  unfolding renderIn
   render-high h = rw (lt-leb k 19 h, and-false)
+
+  -- a kind without identifiers
+  no-names : 1 ≤ k → k ≤ 3 → namesFaultIn m (partsOf k) v ≡ 0
+  unfolding partsOf namesFaultIn kinds
+  no-names l h = agree-at (λ k. namesFaultIn m (partsOf k) v) (λ k. 0) 1 3 refl k l (omega arith)
+
+  pub render-word : 1 ≤ k → k ≤ 3 → renderIn m k v ≡ short (render (partsOf k) v)
+  unfolding renderIn short
+  render-word l h = rw (le-leb 1 k l, le-leb k 19 (omega arith), no-names l h)
 
   module _ (low : 4 ≤ k) (high : k ≤ 19) where
     pub render-kind : renderIn m k v ≡ limitedIn m (partsOf k) v

@@ -13,9 +13,6 @@ pub fn write_client_id(client_type: &[u8], counter: u64, out: &mut [u8]) -> Writ
     ensures { λ r. ⌜ r ≡ answer (newClientIn wide (now («client_type» .entry)) counter) (length (now (out .entry))) ⌝ }
     ensures { λ _. ⌜ now (out .exit) ≡ left (newClientIn wide (now («client_type» .entry)) counter) (now (out .entry)) ⌝ }
 {
-    if text::part::all_ascii(client_type) {
-        return identifiers::client_id::write_client_id(client_type, counter, out);
-    }
     if !letters::is_utf8(client_type) {
         return Written {
             refusal: BAD_UTF8,

@@ -8,6 +8,7 @@ use render::names_of;
 use render::texts::fit_packets_path;
 use render::texts::fit_parent;
 use text::Written;
+use text::refusal::BAD_KIND;
 use text::refusal::BAD_SEGMENT;
 use text::refusal::BAD_UTF8;
 ghost use mathlib.Core.Path.{_≡_};
@@ -92,16 +93,25 @@ fn checked_kind(out: &mut [u8], kind: u8, first: &[u8], second: &[u8], a: u64, b
     fit_kind(out, kind, first, second, a, b)
 }
 
-// Renders by kind and parts. What has no identifiers, and what is no kind, is plain.
+// Renders by kind and parts. Kinds 1 to 3 have no identifiers.
 pub fn render(kind: u8, first: &[u8], second: &[u8], a: u64, b: u64, out: &mut [u8]) -> Written
     ensures { λ r. ⌜ r ≡ answer (renderIn wide kind (carried (now (first .entry)) (now (second .entry)) a b)) (length (now (out .entry))) ⌝ }
     ensures { λ _. ⌜ now (out .exit) ≡ left (renderIn wide kind (carried (now (first .entry)) (now (second .entry)) a b)) (now (out .entry)) ⌝ }
 {
-    if kind < 4 {
-        return render::render(kind, first, second, a, b, out);
+    if kind < 1 {
+        return Written {
+            refusal: BAD_KIND,
+            length: 0,
+        };
     }
     if 19 < kind {
-        return render::render(kind, first, second, a, b, out);
+        return Written {
+            refusal: BAD_KIND,
+            length: 0,
+        };
+    }
+    if kind < 4 {
+        return fit_kind(out, kind, first, second, a, b);
     }
     checked_kind(out, kind, first, second, a, b)
 }
