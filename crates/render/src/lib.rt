@@ -51,23 +51,14 @@ pub(crate) fn ends_fault(port: &[u8], channel: &[u8]) -> u8
     name_fault(Name::Channel, channel)
 }
 
-// The first refusal of the identifiers that a kind from 4 on has. The choice stands here again, so that each check is called by its name.
+// The first refusal of the identifiers that a kind from 4 on has.
 fn kind_fault(kind: u8, first: &[u8], second: &[u8]) -> u8
     ensures { λ r. ⌜ r ≡ faultBy nameFault (namesOf kind) (now (first .entry)) (now (second .entry)) ⌝ }
 {
-    if kind < 9 {
-        return name_fault(Name::Client, first);
+    match names_of(kind) {
+        Names::One(name) => name_fault(name, first),
+        Names::PortAndChannel => ends_fault(first, second),
     }
-    if kind < 10 {
-        return name_fault(Name::Connection, first);
-    }
-    if 17 < kind {
-        return name_fault(Name::Upgrade, first);
-    }
-    if kind < 11 {
-        return name_fault(Name::Port, first);
-    }
-    ends_fault(first, second)
 }
 
 // Checks the identifiers of a kind, then writes it.
