@@ -16,6 +16,7 @@ use Rattle.path.specs.declared.name.Name.the-variants.{Port, Channel}
 use Rattle.path.specs.Text.{nowhere}
 use Rattle.path.specs.Kinds.{name, count, word, carried, setName}
 use Rattle.scan.specs.declared.number.Counted.{Counted}
+use Rattle.scan.specs.CountLaws.{count-within}
 use Rattle.scan.specs.Number.{countedOf}
 use Rattle.scan.specs.Run.{ruleRun}
 use Rattle.scan.specs.Tail.{none, some, tailOf, afterOf}
@@ -24,7 +25,7 @@ use Rattle.families.specs.declared.name.Ends.{Ends}
 use Rattle.families.specs.declared.Walked.{Walked}
 use Rattle.families.specs.Walked.{nothing, read, walked, endsParts, packetParts}
 use Rattle.families.specs.Ends.{withName, EndsAt}
-use Rattle.families.specs.PieceLaws.{rule-none, rule-some, count-none, count-some, count-within}
+use Rattle.families.specs.PieceLaws.{rule-none, rule-some, count-none, count-some}
 
 -- ---- an identifier, and the text's end
 module _ (k : ℕ) (i : Name) (r : check.Rule) (scans : Scans (name i) (λ s. ltb 0 (ruleRun r s)) (ruleRun r)) (t : List ℕ) (at n : ℕ) (e : n ≡ ruleRun r (drop at t)) where

@@ -1,12 +1,12 @@
 -- What the scanners find, as the parts of a tail.
 -- Assumes nothing.
 use Prim.Native.Nat.{ℕ, zero, suc, _+_, _-_, _≤_, _<_}
-use mathlib.Core.Path.{_≡_, refl, sym, ap, _∙_}
+use mathlib.Core.Path.{_≡_, refl, sym, _∙_}
 use mathlib.Core.List.{List, [], _∷_, _++_}
 use mathlib.Core.Bool.{Bool, true, false, cond, _&&_, and-true}
 use native.Mathlib.Omega.{arith}
 use lib.Dec.{eqb, ltb}
-use lib.ListN.{length, take, drop, getD, length-append, length-drop, length-take}
+use lib.ListN.{length, take, drop, getD, length-append, length-take}
 use lib.Seq.{drop-drop}
 use borrow.Author.Tests.{eq-eqb, ne-eqb, eqb-true, eqb-false, lt-ltb, le-ltb}
 use Rattle.text.specs.Bytes.{bytes}
@@ -26,7 +26,8 @@ use Rattle.text.specs.NumberLaws.{decimal-no-longer}
 use Rattle.scan.specs.declared.number.Counted.{Counted}
 use Rattle.scan.specs.Run.{run, ruleRun}
 use Rattle.scan.specs.Number.{numLen, numText, countedOf, pairOk, pairLen, noSlash, upgradeOk}
-use Rattle.scan.specs.NumberLaws.{scans-count, scans-pair, scans-upgrade, num-within, pair-text, cut-pair}
+use Rattle.scan.specs.CountLaws.{count-fields, count-is}
+use Rattle.scan.specs.NumberLaws.{scans-count, scans-pair, scans-upgrade, pair-text, cut-pair}
 use Rattle.scan.specs.NameLaws.{scans-client, scans-connection, scans-port, scans-channel}
 use Rattle.scan.specs.Tail.{Tail, none, some, tailOf, afterOf, added}
 use Rattle.scan.specs.TailLaws.{Scans, step-none, step-some, after-word}
@@ -78,27 +79,9 @@ added-count : (c : List ℕ) (q : Place) (x : Tail) → added count c q x ≡ wi
 added-count c q none = refl
 added-count c q (some v e) = refl
 
-count-fields : (at : ℕ) (s : List ℕ) (r : Counted) → r ≡ countedOf at s → r .ok ≡ isNumber (numText s)
-unfolding countedOf
-count-fields at s r e = ap (λ (x : Counted). x .ok) e ∙ go (isNumber (numText s))
-  where
-    go : (v : Bool) → cond {A = Counted} v (record { ok = true; value = numberIn (numText s); end = at + numLen s; plain = spelled count (numText s) }) (record { ok = false; value = 0; end = 0; plain = false }) .ok ≡ v
-    go true = refl
-    go false = refl
-
-count-is : (at : ℕ) (s : List ℕ) (r : Counted) → r ≡ countedOf at s → r .ok ≡ true → (r .value ≡ numberIn (numText s)) × (r .end ≡ at + numLen s) × (r .plain ≡ spelled count (numText s))
-unfolding countedOf
-count-is at s r e h =
-    let k : isNumber (numText s) ≡ true = sym (count-fields at s r e) ∙ h in
-    let f : r ≡ record { ok = true; value = numberIn (numText s); end = at + numLen s; plain = spelled count (numText s) } = e ∙ rw k in
-    (ap (λ (x : Counted). x .value) f, ap (λ (x : Counted). x .end) f, ap (λ (x : Counted). x .plain) f)
-
 module _ (t : List ℕ) (at : ℕ) (r : Counted) (e : r ≡ countedOf at (drop at t)) where
   pub count-none : r .ok ≡ false → (ps : List Part) → tailOf (count ∷ ps) at (drop at t) ≡ none
   count-none h ps = step-none count (λ s. isNumber (numText s)) numLen scans-count ps at (drop at t) (sym (count-fields at (drop at t) r e) ∙ h)
-
-  pub count-within : at ≤ length t → r .ok ≡ true → (at ≤ r .end) × (r .end ≤ length t)
-  count-within l h = let k = count-is at (drop at t) r e h .1 in (omega (arith, k), omega (arith, k, num-within (drop at t), length-drop at t))
 
   pub count-some : r .ok ≡ true → (ps : List Part) → tailOf (count ∷ ps) at (drop at t) ≡ withCount (r .value) (r .plain) (afterOf ps (r .end) (drop (r .end) t))
   count-some h ps =

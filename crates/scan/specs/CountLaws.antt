@@ -28,7 +28,7 @@ use Rattle.scan.specs.Run.{run}
 use Rattle.scan.specs.RunLaws.{run-within, run-every}
 use Rattle.scan.specs.Number.{figures, sign, numLen, numText, countedOf, plainOf}
 use Rattle.scan.specs.WordLaws.{starts-split}
-use Rattle.scan.specs.NumberLaws.{value-cond, no-value}
+use Rattle.scan.specs.NumberLaws.{value-cond, no-value, num-within}
 
 abbrev pub noFigures : Figures
 noFigures = record { ok = false; value = 0; end = 0 }
@@ -274,3 +274,22 @@ count-end s at h = let l : length s ≤ at = omega arith in rw (drop-of-length-l
 
 pub count-byte : (s : List ℕ) (at : ℕ) → at < length s → startsWith (43 ∷ []) (drop at s) ≡ eqb (getD s at 0) 43
 count-byte s at h = starts-byte 43 (drop at s) (rw length-drop (omega arith)) ∙ rw (first-at s at)
+
+-- ---- what an answer tells
+pub count-fields : (at : ℕ) (s : List ℕ) (r : Counted) → r ≡ countedOf at s → r .ok ≡ isNumber (numText s)
+unfolding countedOf
+count-fields at s r e = ap (λ (x : Counted). x .ok) e ∙ go (isNumber (numText s))
+  where
+    go : (v : Bool) → cond {A = Counted} v (record { ok = true; value = numberIn (numText s); end = at + numLen s; plain = spelled count (numText s) }) noCount .ok ≡ v
+    go true = refl
+    go false = refl
+
+pub count-is : (at : ℕ) (s : List ℕ) (r : Counted) → r ≡ countedOf at s → r .ok ≡ true → (r .value ≡ numberIn (numText s)) × (r .end ≡ at + numLen s) × (r .plain ≡ spelled count (numText s))
+unfolding countedOf
+count-is at s r e h =
+    let k : isNumber (numText s) ≡ true = sym (count-fields at s r e) ∙ h in
+    let f : r ≡ record { ok = true; value = numberIn (numText s); end = at + numLen s; plain = spelled count (numText s) } = e ∙ rw k in
+    (ap (λ (x : Counted). x .value) f, ap (λ (x : Counted). x .end) f, ap (λ (x : Counted). x .plain) f)
+
+pub count-within : (t : List ℕ) (at : ℕ) (r : Counted) → r ≡ countedOf at (drop at t) → at ≤ length t → r .ok ≡ true → (at ≤ r .end) × (r .end ≤ length t)
+count-within t at r e l h = let k = count-is at (drop at t) r e h .1 in (omega (arith, k), omega (arith, k, num-within (drop at t), length-drop at t))

@@ -71,7 +71,7 @@ some-every i [] h = no-value h
 some-every i (b ∷ s) h = (digits-every 0 i (b ∷ s) h, omega arith)
 
 -- a test of digits and of the sign is a test of number texts
-number-every : (f : ℕ → Bool) → ((b : ℕ) → isDigit b ≡ true → f b ≡ true) → f 43 ≡ true → (c : List ℕ) → isNumber c ≡ true → every f c ≡ true
+pub number-every : (f : ℕ → Bool) → ((b : ℕ) → isDigit b ≡ true → f b ≡ true) → f 43 ≡ true → (c : List ℕ) → isNumber c ≡ true → every f c ≡ true
 unfolding numeralOf every
 number-every f d p [] h = refl
 number-every f d p (b ∷ c) h = go (eqb b 43) refl h
@@ -114,7 +114,7 @@ num-within (b ∷ s) = go (eqb b 43)
     go true = omega (arith, run-within isDigit s)
     go false = omega (arith, run-within isDigit (b ∷ s))
 
-num-length : (s : List ℕ) → length (numText s) ≡ numLen s
+pub num-length : (s : List ℕ) → length (numText s) ≡ numLen s
 num-length s = simp length-take (omega (arith, num-within s))
 
 -- ---- the scanner of S or n

@@ -1,5 +1,5 @@
 // The identifier at a place of a text.
-use crate::number::digit_end;
+use crate::number::number;
 use crate::word::word8;
 use crate::word::word16;
 use identifiers::validate::validate_channel_identifier;
@@ -116,17 +116,18 @@ fn zero_first(s: &[u8], d: usize, n: usize) -> bool
     false
 }
 
-// Where the index at d ends that needs no reading, nineteen digits or less up to the end of its component: 0 where that
-// does not tell.
+// Where the index at d ends, read at its own place up to the end of its component: 0 where that does not tell. One of more
+// than 53 bytes is left to the check, since with `connection-` before it an identifier passes its 64.
 fn index_end(s: &[u8], d: usize) -> usize
     requires { ⌜ d ≤ length (now s) ⌝ }
     ensures { λ r. ⌜ (r ≤ length (now (s .entry))) × (0 < r → Index (now (s .entry)) d r) ⌝ }
 {
-    let e = digit_end(s, d);
-    if e == d {
+    let n = number(s, d);
+    if !n.ok {
         return 0;
     }
-    if 19 < e - d {
+    let e = n.end;
+    if 53 < e - d {
         return 0;
     }
     if zero_first(s, d, e - d) {

@@ -8,7 +8,6 @@ ghost use lib.ListN.{length, drop, getD};
 ghost use Rattle.text.specs.Number.{isDigit};
 ghost use Rattle.text.specs.Part.{startsWith};
 ghost use Rattle.scan.specs.Number.{figures, countedOf, plainOf};
-ghost use Rattle.scan.specs.Run.{run};
 
 // Digits as a number, and where they end; not ok where the value passes a u64.
 pub struct Figures {
@@ -35,18 +34,6 @@ fn is_digit(b: u8) -> bool
         return false;
     }
     true
-}
-
-// Where the digits from `at` on end.
-pub(crate) fn digit_end(s: &[u8], at: usize) -> usize
-    requires { ⌜ at ≤ length (now s) ⌝ }
-    ensures { λ r. ⌜ (at ≤ r) × (r ≤ length (now (s .entry))) × (r ≡ at + run isDigit (drop at (now (s .entry)))) ⌝ }
-{
-    let mut i = at;
-    while i < s.len() && is_digit(s[i]) {
-        i += 1;
-    }
-    i
 }
 
 // Whether v with the digit d after it is more than a u64 has. Most numbers are told by the first test.

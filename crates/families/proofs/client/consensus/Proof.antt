@@ -6,7 +6,7 @@ use mathlib.Core.Bool.{true, false}
 use lib.ListN.{length, drop}
 use borrow.Author.Tests.{not-true, not-false, eq-eqb, ne-eqb}
 use Rattle.scan.specs.Number.{countedOf}
-use Rattle.families.specs.PieceLaws.{count-within}
+use Rattle.scan.specs.CountLaws.{count-within}
 use Rattle.families.specs.ClientLaws.{no-first, no-second, read-update, no-update, dash-end, dash-at}
 use native.Mathlib.Omega.{arith}
 use borrow.Author.Needs.{needs}

@@ -4,7 +4,7 @@ use Prim.Native.Nat.{_+_, _<_}
 use mathlib.Core.Path.{sym, _∙_}
 use lib.ListN.{length}
 use borrow.Author.Tests.{not-true, not-false}
-use Rattle.families.specs.PieceLaws.{count-within}
+use Rattle.scan.specs.CountLaws.{count-within}
 use Rattle.families.specs.UpgradeLaws.{upgrade-end, upgrade-no-number, upgrade-no-kind, upgrade-high, upgrade-read}
 use native.Mathlib.Omega.{arith}
 use borrow.Author.Needs.{needs}
