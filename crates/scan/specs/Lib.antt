@@ -1,5 +1,4 @@
 -- What the contracts of `scan` cite. Files that end in `Laws` hold consequences, which a reader may skip.
-pub mod Byte
 pub mod CountLaws
 pub mod Index
 pub mod IndexLaws

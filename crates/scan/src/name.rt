@@ -7,11 +7,10 @@ use identifiers::validate::validate_connection_identifier;
 ghost use mathlib.Core.Path.{_≡_};
 ghost use mathlib.Core.Bool.{_&&_};
 ghost use Prim.Native.Nat.{_+_, _≤_, _<_};
-ghost use lib.Dec.{eqb, ltb};
+ghost use lib.Dec.{eqb, ltb, leb};
 ghost use lib.ListN.{length, drop, getD};
 ghost use Rattle.text.specs.Part.{ascii};
 ghost use Rattle.identifiers.specs.Check.{identifierByte, plain, channel, connection};
-ghost use Rattle.scan.specs.Byte.{upper, figure, mark};
 ghost use Rattle.scan.specs.Index.{Index};
 ghost use Rattle.scan.specs.Number.{noSlash};
 ghost use Rattle.scan.specs.Run.{run, ruleRun};
@@ -23,59 +22,33 @@ const CONNECTI: u64 = 7598807758576447331;
 
 const NECTION_: u64 = 3273676477859849582;
 
-fn is_upper(b: u8) -> bool
-    ensures { λ r. ⌜ r ≡ upper b ⌝ }
+// Which bytes may stand in an identifier, a bit each: of those from 0 to 63 (`#`, `+`, `-`, `.`, digits, `<`, `>`), and of
+// those from 64 to 127 (letters, `[`, `]`, `_`).
+const LOW: u64 = 0x53ff680800000000;
+
+const HIGH: u64 = 0x07fffffeaffffffe;
+
+// Whether the byte is one from 64 to 127, where the letters are; both tests compile to one comparison.
+fn is_high(b: u8) -> bool
+    ensures { λ r. ⌜ r ≡ (leb 64 b && ltb b 128) ⌝ }
 {
-    if b < 92 {
-        return true;
+    if b < 64 {
+        return false;
     }
-    if b == 93 {
-        return true;
-    }
-    b == 95
+    b < 128
 }
 
-fn is_figure(b: u8) -> bool
-    ensures { λ r. ⌜ r ≡ figure b ⌝ }
-{
-    if b < 58 {
-        return true;
-    }
-    if b == 60 {
-        return true;
-    }
-    b == 62
-}
-
-fn is_mark(b: u8) -> bool
-    ensures { λ r. ⌜ r ≡ mark b ⌝ }
-{
-    if b == 45 {
-        return true;
-    }
-    if b == 46 {
-        return true;
-    }
-    if b == 43 {
-        return true;
-    }
-    b == 35
-}
-
-// Whether a byte may stand in an identifier: lower case, then upper case, then digits, since most are of these.
+// Whether a byte may stand in an identifier; letters are told first, being the most.
 fn is_identifier(b: u8) -> bool
     ensures { λ r. ⌜ r ≡ identifierByte b ⌝ }
 {
-    if 96 < b {
-        return b < 123;
+    if is_high(b) {
+        return (HIGH >> (b % 64)) % 2 == 1;
     }
-    if 64 < b {
-        return is_upper(b);
+    if b < 64 {
+        return (LOW >> b) % 2 == 1;
     }
-    if 47 < b {
-        return is_figure(b);
-    }
-    is_mark(b)
+    false
 }
 
 // Where the identifier bytes from `at` on end.
