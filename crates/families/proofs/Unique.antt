@@ -7,8 +7,7 @@ use Rattle.families.proofs.bare.Reads as bare
 use Rattle.families.proofs.client.client.Reads as client
 use Rattle.families.proofs.name.connection.Reads as connection
 use Rattle.families.proofs.name.port.Reads as port
-use Rattle.families.proofs.name.channel.Reads as channel
-use Rattle.families.proofs.packet.packet.Reads as packet
+use Rattle.families.proofs.ends.after_ports.Reads as after-ports
 use Rattle.families.proofs.upgrade.upgrade.Reads as upgrade
 
 pub one-no-path : One no-path.Post
@@ -26,11 +25,8 @@ one-connection κs a r₁ r₂ s₁ s₂ p q = p ∙ sym q
 pub one-port : One port.Post
 one-port κs a r₁ r₂ s₁ s₂ p q = p ∙ sym q
 
-pub one-channel : One channel.Post
-one-channel κs a r₁ r₂ s₁ s₂ p q = p ∙ sym q
-
-pub one-packet : One packet.Post
-one-packet κs a r₁ r₂ s₁ s₂ p q = p ∙ sym q
+pub one-after-ports : One after-ports.Post
+one-after-ports κs a r₁ r₂ s₁ s₂ p q = p ∙ sym q
 
 pub one-upgrade : One upgrade.Post
 one-upgrade κs a r₁ r₂ s₁ s₂ p q = p ∙ sym q

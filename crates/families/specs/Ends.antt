@@ -10,7 +10,7 @@ use Rattle.path.specs.declared.name.Name.{Name}
 use Rattle.path.specs.declared.name.Name.the-variants.{Port, Channel}
 use Rattle.path.specs.Kinds.{Part, word, name, setName}
 use Rattle.scan.specs.Tail.{Tail, none, some, tailOf, afterOf}
-use Rattle.families.specs.declared.name.Ends.{Ends}
+use Rattle.families.specs.declared.ends.Ends.{Ends}
 
 -- a tail with an identifier in front
 abbrev pub withName : Name → Place → Tail → Tail

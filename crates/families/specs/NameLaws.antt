@@ -21,9 +21,9 @@ use Rattle.scan.specs.Number.{countedOf}
 use Rattle.scan.specs.Run.{ruleRun}
 use Rattle.scan.specs.Tail.{none, some, tailOf, afterOf}
 use Rattle.scan.specs.TailLaws.{Scans, after-end, after-more, after-word}
-use Rattle.families.specs.declared.name.Ends.{Ends}
+use Rattle.families.specs.declared.ends.Ends.{Ends}
 use Rattle.families.specs.declared.Walked.{Walked}
-use Rattle.families.specs.Walked.{nothing, read, walked, endsParts, packetParts}
+use Rattle.families.specs.Walked.{nothing, read, walked, endsParts, packetParts, endsOf}
 use Rattle.families.specs.Ends.{withName, EndsAt}
 use Rattle.families.specs.PieceLaws.{rule-none, rule-some, count-none, count-some}
 
@@ -43,11 +43,12 @@ module _ (k : ℕ) (t : List ℕ) (at : ℕ) (r : Ends) (x : EndsAt t at r) wher
   abbrev end : ℕ
   end = at + r .port + 10 + r .channel
 
-  pub ends-nothing : r .channel ≡ 0 → nothing ≡ walked k (tailOf endsParts at (drop at t))
-  ends-nothing h = rw (x .nothing h [])
-
-  pub packet-nothing : r .channel ≡ 0 → nothing ≡ walked k (tailOf packetParts at (drop at t))
-  packet-nothing h = rw (x .nothing h (word (bytes "sequences") ∷ count ∷ []))
+  pub after-nothing : r .channel ≡ 0 → nothing ≡ walked k (tailOf (endsOf k) at (drop at t))
+  after-nothing h = go (ltb k 15)
+    where
+      go : (v : Bool) → nothing ≡ walked k (tailOf (cond v endsParts packetParts) at (drop at t))
+      go true = rw (x .nothing h [])
+      go false = rw (x .nothing h (word (bytes "sequences") ∷ count ∷ []))
 
   module _ (some-end : r .channel ≡ 0 → ⊥) where
     pub ends-within : end ≤ length t

@@ -31,7 +31,7 @@ use Rattle.scan.specs.NumberLaws.{scans-count, scans-pair, scans-upgrade, pair-
 use Rattle.scan.specs.NameLaws.{scans-client, scans-connection, scans-port, scans-channel}
 use Rattle.scan.specs.Tail.{Tail, none, some, tailOf, afterOf, added}
 use Rattle.scan.specs.TailLaws.{Scans, step-none, step-some, after-word}
-use Rattle.families.specs.declared.name.Ends.{Ends}
+use Rattle.families.specs.declared.ends.Ends.{Ends}
 use Rattle.families.specs.Ends.{withName, EndsAt}
 
 -- ---- a tail with something in front

@@ -3,7 +3,7 @@
 use Prim.Native.Nat.{ℕ, _+_}
 use mathlib.Core.List.{List, [], _∷_}
 use mathlib.Core.Bool.{Bool, true, false, cond}
-use lib.Dec.{eqb}
+use lib.Dec.{ltb}
 use Rattle.text.specs.Bytes.{bytes}
 use Rattle.text.specs.Part.{same}
 use Rattle.path.specs.declared.Place.{Place}
@@ -40,6 +40,9 @@ endsParts = name Port ∷ word (bytes "channels") ∷ name Channel ∷ []
 
 abbrev pub packetParts : List Part
 packetParts = name Port ∷ word (bytes "channels") ∷ name Channel ∷ word (bytes "sequences") ∷ count ∷ []
+
+abbrev pub endsOf : ℕ → List Part
+endsOf k = cond (ltb k 15) endsParts packetParts
 
 -- kinds 1 to 17, and the other two
 unfoldable pub listed : List Kind

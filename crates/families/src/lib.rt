@@ -1,7 +1,8 @@
 // The families of kinds, each read by one walk.
 pub mod client;
+pub mod ends;
 pub mod name;
-pub mod packet;
+mod packet;
 pub mod upgrade;
 
 use path::Place;

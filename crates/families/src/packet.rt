@@ -1,27 +1,24 @@
 // Kinds 15 to 17.
 use crate::Walked;
-use crate::name::ends_at;
+use crate::ends::Ends;
 use crate::no_path;
 use path::Place;
 use scan::number::number;
 use words::is_sequences;
 ghost use mathlib.Core.Path.{_≡_};
-ghost use Prim.Native.Nat.{_≤_};
-ghost use lib.ListN.{length, drop};
+ghost use lib.ListN.{drop};
 ghost use Rattle.scan.specs.Tail.{tailOf};
 ghost use Rattle.families.specs.Walked.{walked, packetParts};
+ghost use Rattle.families.specs.Ends.{EndsAt};
 
-// `P/channels/H/sequences/S` from `at` on.
-pub fn packet(text: &[u8], at: usize, kind: u8) -> Walked
-    requires { ⌜ at ≤ length (now text) ⌝ }
+// `P/channels/H/sequences/S` from `at` on, of which the first three are found.
+pub(crate) fn packet(text: &[u8], at: usize, kind: u8, e: Ends) -> Walked
+    requires { ⌜ EndsAt (now text) at e ⌝ }
+    requires { ⌜ (e .channel ≡ 0 → ⊥) ⌝ }
     ensures { λ r. ⌜ r ≡ walked kind (tailOf packetParts at (drop at (now (text .entry)))) ⌝ }
 {
-    let e = ends_at(text, at);
     let port = e.port;
     let channel = e.channel;
-    if channel == 0 {
-        return no_path();
-    }
     let start = at + port + 10;
     let end = start + channel;
     if !is_sequences(text, end) {

@@ -18,16 +18,13 @@ use Rattle.scan.specs.TailLaws.{word-more, word-last, word-longer}
 use Rattle.families.specs.declared.Walked.{Walked}
 use Rattle.families.specs.Walked.{nothing, read, walked, flat, listed, clientKinds, endsParts, packetParts}
 use Rattle.families.specs.FlatLaws.{skip, none-left}
-use Rattle.walk.specs.OpenLaws.{NoneOf, single, only-listed, rest-listed, shut, after-ports}
+use Rattle.walk.specs.Opening.{NoneOf, openings}
+use Rattle.walk.specs.OpenLaws.{single, only-listed, rest-listed, shut, after-ports}
 
 module _ (t : List ℕ) (r : Walked) where
   pub is-11 : startsWith (bytes "channelEnds/ports/") t ≡ true → r ≡ walked 11 (tailOf endsParts 18 (drop 18 t)) → r ≡ flat t (readFirst listed t)
   unfolding kinds listed every
   is-11 h e = e ∙ ap (walked 11) (sym (after-ports t (bytes "channelEnds") refl (name Port) (word (bytes "channels") ∷ name Channel ∷ []) h)) ∙ single kind11 t 11 (kind-has 11 (omega arith) (omega arith)) (λ v. refl) ∙ ap (flat t) (sym (only-listed t (bytes "channelEnds/ports/") h))
-
-  pub not-11 : startsWith (bytes "channelE") t ≡ true → startsWith (bytes "channelEnds/ports/") t ≡ false → r ≡ nothing → r ≡ flat t (readFirst listed t)
-  unfolding listed every
-  not-11 o h e = e ∙ sym (ap (flat t) (only-listed t (bytes "channelE") o ∙ shut t kind11 refl h []) ∙ none-left t)
 
   pub is-12 : startsWith (bytes "nextSequenceSend/ports/") t ≡ true → r ≡ walked 12 (tailOf endsParts 23 (drop 23 t)) → r ≡ flat t (readFirst listed t)
   unfolding kinds listed every
@@ -45,29 +42,13 @@ module _ (t : List ℕ) (r : Walked) where
   unfolding kinds listed every
   is-15 h e = e ∙ ap (walked 15) (sym (after-ports t (bytes "commitments") refl (name Port) (word (bytes "channels") ∷ name Channel ∷ word (bytes "sequences") ∷ count ∷ []) h)) ∙ single kind15 t 15 (kind-has 15 (omega arith) (omega arith)) (λ v. refl) ∙ ap (flat t) (sym (only-listed t (bytes "commitments/ports/") h))
 
-  pub not-15 : startsWith (bytes "commitme") t ≡ true → startsWith (bytes "commitments/ports/") t ≡ false → r ≡ nothing → r ≡ flat t (readFirst listed t)
-  unfolding listed every
-  not-15 o h e = e ∙ sym (ap (flat t) (only-listed t (bytes "commitme") o ∙ shut t kind15 refl h []) ∙ none-left t)
-
   pub is-16 : startsWith (bytes "acks/ports/") t ≡ true → r ≡ walked 16 (tailOf packetParts 11 (drop 11 t)) → r ≡ flat t (readFirst listed t)
   unfolding kinds listed every
   is-16 h e = e ∙ ap (walked 16) (sym (after-ports t (bytes "acks") refl (name Port) (word (bytes "channels") ∷ name Channel ∷ word (bytes "sequences") ∷ count ∷ []) h)) ∙ single kind16 t 16 (kind-has 16 (omega arith) (omega arith)) (λ v. refl) ∙ ap (flat t) (sym (only-listed t (bytes "acks/ports/") h))
 
-  pub not-16 : startsWith (bytes "acks/por") t ≡ true → startsWith (bytes "acks/ports/") t ≡ false → r ≡ nothing → r ≡ flat t (readFirst listed t)
-  unfolding listed every
-  not-16 o h e = e ∙ sym (ap (flat t) (only-listed t (bytes "acks/por") o ∙ shut t kind16 refl h []) ∙ none-left t)
-
   pub is-17 : startsWith (bytes "receipts/ports/") t ≡ true → r ≡ walked 17 (tailOf packetParts 15 (drop 15 t)) → r ≡ flat t (readFirst listed t)
   unfolding kinds listed every
   is-17 h e = e ∙ ap (walked 17) (sym (after-ports t (bytes "receipts") refl (name Port) (word (bytes "channels") ∷ name Channel ∷ word (bytes "sequences") ∷ count ∷ []) h)) ∙ single kind17 t 17 (kind-has 17 (omega arith) (omega arith)) (λ v. refl) ∙ ap (flat t) (sym (only-listed t (bytes "receipts/ports/") h))
-
-  pub not-17 : startsWith (bytes "receipts") t ≡ true → startsWith (bytes "receipts/ports/") t ≡ false → r ≡ nothing → r ≡ flat t (readFirst listed t)
-  unfolding listed every
-  not-17 o h e = e ∙ sym (ap (flat t) (only-listed t (bytes "receipts") o ∙ shut t kind17 refl h []) ∙ none-left t)
-
-  pub not-sequences : startsWith (bytes "nextSequ") t ≡ true → startsWith (bytes "nextSequenceSend/ports/") t ≡ false → startsWith (bytes "nextSequenceRecv/ports/") t ≡ false → startsWith (bytes "nextSequenceAck/ports/") t ≡ false → r ≡ nothing → r ≡ flat t (readFirst listed t)
-  unfolding listed every
-  not-sequences o h i j e = e ∙ sym (ap (flat t) (only-listed t (bytes "nextSequ") o ∙ shut t kind12 refl h _ ∙ shut t kind13 refl i _ ∙ shut t kind14 refl j []) ∙ none-left t)
 
   pub is-9 : startsWith (bytes "connections/") t ≡ true → r ≡ walked 9 (tailOf (name Connection ∷ []) 12 (drop 12 t)) → r ≡ flat t (readFirst listed t)
   unfolding kinds listed every
@@ -132,9 +113,9 @@ module _ (t : List ℕ) (r : Walked) where
       let w : tailOf (kind10 .parts) 0 t ≡ none = word-more (bytes "ports") refl (name Port) [] 0 t ∙ rw h in
       e ∙ ap (walked 10) (sym w)
 
-  -- where none of the others' first bytes stand there
+  -- where no other kind's first bytes stand there
   abbrev pub others : List (List ℕ)
-  others = bytes "clients/" ∷ bytes "channelE" ∷ bytes "commitme" ∷ bytes "acks/por" ∷ bytes "receipts" ∷ bytes "nextSequ" ∷ bytes "connecti" ∷ bytes "nextClie" ∷ bytes "nextConn" ∷ bytes "nextChan" ∷ []
+  others = bytes "clients/" ∷ bytes "connecti" ∷ bytes "nextClie" ∷ bytes "nextConn" ∷ bytes "nextChan" ∷ openings
 
   pub is-other : NoneOf others t → r ≡ walked 10 (tailOf (kind10 .parts) 0 t) → r ≡ flat t (readFirst listed t)
   unfolding kinds listed startsWith

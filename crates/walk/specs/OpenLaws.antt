@@ -23,8 +23,9 @@ use Rattle.scan.specs.TailLaws.{word-more, word-other}
 use Rattle.families.specs.declared.Walked.{Walked}
 use Rattle.families.specs.Walked.{nothing, walked, flat, listed, clientKinds, endsParts, packetParts}
 use Rattle.families.specs.FlatLaws.{skip, found, none-left}
+use Rattle.walk.specs.Opening.{NoneOf}
 
-false-true : {P : Type 0} → false ≡ true → P
+pub false-true : {P : Type 0} → false ≡ true → P
 false-true h = let z : _≡_ {A = ℕ} 0 1 = cc in absurd (omega arith)
 
 -- ---- the words that a text of these parts starts with, each with its slash
@@ -67,12 +68,12 @@ unopened (count ∷ ps) at t c h = false-true (sym h)
 unopened (pair ∷ ps) at t c h = false-true (sym h)
 
 -- ---- a text that starts with u, and kinds that start otherwise
-abbrev differ : List ℕ → List ℕ → Bool
+abbrev pub differ : List ℕ → List ℕ → Bool
 differ [] v = false
 differ (x ∷ u) [] = false
 differ (x ∷ u) (y ∷ v) = cond (eqb x y) (differ u v) true
 
-differ-starts : (u v t : List ℕ) → differ u v ≡ true → startsWith v t ≡ true → startsWith u t ≡ false
+pub differ-starts : (u v t : List ℕ) → differ u v ≡ true → startsWith v t ≡ true → startsWith u t ≡ false
 unfolding startsWith
 differ-starts [] v t d b = false-true d
 differ-starts (x ∷ u) [] t d b = false-true d
@@ -105,11 +106,7 @@ only u t h (e ∷ es) c = go (differ (opening (e .parts)) u) refl (only u t h es
     go false d ih = next e es (keep u es) t ih
 
 -- ---- a text that starts with none of hs, and kinds that start with one
-abbrev pub NoneOf : List (List ℕ) → List ℕ → Type 0
-NoneOf [] t = Unit {0}
-NoneOf (h ∷ hs) t = (startsWith h t ≡ false) × NoneOf hs t
-
-abbrev begins : List (List ℕ) → List ℕ → Bool
+abbrev pub begins : List (List ℕ) → List ℕ → Bool
 begins [] s = false
 begins (h ∷ hs) s = startsWith h s || begins hs s
 
@@ -123,7 +120,7 @@ starts-through (x ∷ h) (y ∷ s) (z ∷ t) a b =
     let q : eqb z x ≡ true = rw (← p) (and-left (eqb z y) (startsWith s t) b) in
     rw (q, starts-through h s t (and-right (eqb y x) (startsWith h s) a) (and-right (eqb z y) (startsWith s t) b))
 
-begins-not : (hs : List (List ℕ)) (s t : List ℕ) → begins hs s ≡ true → NoneOf hs t → startsWith s t ≡ false
+pub begins-not : (hs : List (List ℕ)) (s t : List ℕ) → begins hs s ≡ true → NoneOf hs t → startsWith s t ≡ false
 begins-not [] s t b n = false-true b
 begins-not (h ∷ hs) s t b n = go (startsWith h s) refl b (startsWith s t) refl (λ k. begins-not hs s t k (n .1))
   where

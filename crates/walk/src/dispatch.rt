@@ -1,12 +1,12 @@
 // The family of a text, chosen by its first eight bytes.
+use crate::opening::find_opening;
 use families::Walked;
 use families::bare;
 use families::client::client;
-use families::name::channel;
+use families::ends::after_ports;
 use families::name::connection;
 use families::name::port;
 use families::no_path;
-use families::packet::packet;
 ghost use mathlib.Core.Path.{_≡_};
 ghost use mathlib.Core.Bool.{true};
 ghost use Rattle.text.specs.Bytes.{bytes};
@@ -16,50 +16,6 @@ ghost use Rattle.path.specs.Read.{readFirst};
 ghost use Rattle.scan.specs.Tail.{tailOf};
 ghost use Rattle.families.specs.Walked.{walked, flat, listed};
 
-// Kind 11.
-fn channel_ends(text: &[u8]) -> Walked
-    requires { ⌜ startsWith (bytes "channelE") (now text) ≡ true ⌝ }
-    ensures { λ r. ⌜ r ≡ flat (now (text .entry)) (readFirst listed (now (text .entry))) ⌝ }
-{
-    if words::is_channel_ends(text, 0) {
-        return channel(text, 18, 11);
-    }
-    no_path()
-}
-
-// Kind 15.
-fn commitments(text: &[u8]) -> Walked
-    requires { ⌜ startsWith (bytes "commitme") (now text) ≡ true ⌝ }
-    ensures { λ r. ⌜ r ≡ flat (now (text .entry)) (readFirst listed (now (text .entry))) ⌝ }
-{
-    if words::is_commitments(text, 0) {
-        return packet(text, 18, 15);
-    }
-    no_path()
-}
-
-// Kind 16.
-fn acks(text: &[u8]) -> Walked
-    requires { ⌜ startsWith (bytes "acks/por") (now text) ≡ true ⌝ }
-    ensures { λ r. ⌜ r ≡ flat (now (text .entry)) (readFirst listed (now (text .entry))) ⌝ }
-{
-    if words::is_acks(text, 0) {
-        return packet(text, 11, 16);
-    }
-    no_path()
-}
-
-// Kind 17.
-fn receipts(text: &[u8]) -> Walked
-    requires { ⌜ startsWith (bytes "receipts") (now text) ≡ true ⌝ }
-    ensures { λ r. ⌜ r ≡ flat (now (text .entry)) (readFirst listed (now (text .entry))) ⌝ }
-{
-    if words::is_receipts(text, 0) {
-        return packet(text, 15, 17);
-    }
-    no_path()
-}
-
 // Kind 9.
 fn connections(text: &[u8]) -> Walked
     requires { ⌜ startsWith (bytes "connecti") (now text) ≡ true ⌝ }
@@ -67,23 +23,6 @@ fn connections(text: &[u8]) -> Walked
 {
     if words::is_connections(text, 0) {
         return connection(text, 12);
-    }
-    no_path()
-}
-
-// Kinds 12 to 14.
-fn next_sequences(text: &[u8]) -> Walked
-    requires { ⌜ startsWith (bytes "nextSequ") (now text) ≡ true ⌝ }
-    ensures { λ r. ⌜ r ≡ flat (now (text .entry)) (readFirst listed (now (text .entry))) ⌝ }
-{
-    if words::is_next_sequence_send(text, 0) {
-        return channel(text, 23, 12);
-    }
-    if words::is_next_sequence_recv(text, 0) {
-        return channel(text, 23, 13);
-    }
-    if words::is_next_sequence_ack(text, 0) {
-        return channel(text, 22, 14);
     }
     no_path()
 }
@@ -147,20 +86,9 @@ pub(crate) fn by_word(text: &[u8]) -> Walked
     if words::is_clients_open(text, 0) {
         return client(text);
     }
-    if words::is_head_channel_ends(text, 0) {
-        return channel_ends(text);
-    }
-    if words::is_head_commitments(text, 0) {
-        return commitments(text);
-    }
-    if words::is_head_acks(text, 0) {
-        return acks(text);
-    }
-    if words::is_head_receipts(text, 0) {
-        return receipts(text);
-    }
-    if words::is_head_next_sequence(text, 0) {
-        return next_sequences(text);
+    let o = find_opening(text);
+    if o.kind != 0 {
+        return after_ports(text, o.at, o.kind);
     }
     if words::is_head_connections(text, 0) {
         return connections(text);

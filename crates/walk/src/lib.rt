@@ -1,5 +1,6 @@
 // A second reader of path texts: one walk over the bytes. The first eight choose the family.
 mod dispatch;
+mod opening;
 mod typed;
 
 use families::Walked;

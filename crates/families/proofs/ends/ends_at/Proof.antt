@@ -8,8 +8,8 @@ use Rattle.scan.specs.WordLaws.{word-room}
 use Rattle.families.specs.PieceLaws.{ends-none, ends-no-word, ends-both}
 use native.Mathlib.Omega.{arith}
 use borrow.Author.Needs.{needs}
-use Rattle.families.proofs.name.ends_at.Statement.{statement}
-use Rattle.families.proofs.name.ends_at.Tie as tie
+use Rattle.families.proofs.ends.ends_at.Statement.{statement}
+use Rattle.families.proofs.ends.ends_at.Tie as tie
 
 returns : tie.Need-returns
 returns c = let a = c .before .before .before .args in let p = c .before .plain-length in ends-none (a .text .now) (a .at) (p .result) (p .ensures .1) (c .if1 .taken)
