@@ -44,9 +44,12 @@ packetParts = name Port ∷ word (bytes "channels") ∷ name Channel ∷ word (b
 abbrev pub endsOf : ℕ → List Part
 endsOf k = cond (ltb k 15) endsParts packetParts
 
--- kinds 1 to 17, and the other two
+-- kinds 1 to 3, 4 to 17, and the other two
+abbrev pub counters : List Kind
+counters = kind1 ∷ kind2 ∷ kind3 ∷ []
+
 unfoldable pub listed : List Kind
-listed = kind1 ∷ kind2 ∷ kind3 ∷ kind4 ∷ kind5 ∷ kind6 ∷ kind7 ∷ kind8 ∷ kind9 ∷ kind10 ∷ kind11 ∷ kind12 ∷ kind13 ∷ kind14 ∷ kind15 ∷ kind16 ∷ kind17 ∷ []
+listed = kind4 ∷ kind5 ∷ kind6 ∷ kind7 ∷ kind8 ∷ kind9 ∷ kind10 ∷ kind11 ∷ kind12 ∷ kind13 ∷ kind14 ∷ kind15 ∷ kind16 ∷ kind17 ∷ []
 
 abbrev pub clientKinds : List Kind
 clientKinds = kind4 ∷ kind5 ∷ kind6 ∷ kind7 ∷ kind8 ∷ []

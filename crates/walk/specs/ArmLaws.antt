@@ -16,10 +16,10 @@ use Rattle.path.specs.ReadLaws.{kind-has}
 use Rattle.scan.specs.Tail.{none, some, tailOf}
 use Rattle.scan.specs.TailLaws.{word-more, word-last, word-longer}
 use Rattle.families.specs.declared.Walked.{Walked}
-use Rattle.families.specs.Walked.{nothing, read, walked, flat, listed, clientKinds, endsParts, packetParts}
+use Rattle.families.specs.Walked.{nothing, read, walked, flat, counters, listed, clientKinds, endsParts, packetParts}
 use Rattle.families.specs.FlatLaws.{skip, none-left}
 use Rattle.walk.specs.Opening.{NoneOf, openings}
-use Rattle.walk.specs.OpenLaws.{single, only-listed, rest-listed, shut, after-ports}
+use Rattle.walk.specs.OpenLaws.{single, only, only-listed, rest-listed, shut, after-ports}
 
 module _ (t : List ℕ) (r : Walked) where
   pub is-11 : startsWith (bytes "channelEnds/ports/") t ≡ true → r ≡ walked 11 (tailOf endsParts 18 (drop 18 t)) → r ≡ flat t (readFirst listed t)
@@ -60,41 +60,34 @@ module _ (t : List ℕ) (r : Walked) where
   unfolding listed every
   not-9 o h e = e ∙ sym (ap (flat t) (only-listed t (bytes "connecti") o ∙ shut t kind9 refl h []) ∙ none-left t)
 
-  pub is-1 : startsWith (bytes "nextClientSequence") t ≡ true → length t ≡ 18 → r ≡ read 1 (carried nowhere nowhere 0 0) true → r ≡ flat t (readFirst listed t)
-  unfolding kinds listed every
-  is-1 h l e = e ∙ ap (walked 1) (sym (word-last (bytes "nextClientSequence") refl 0 t h l)) ∙ single kind1 t 1 (kind-has 1 (omega arith) (omega arith)) (λ v. refl) ∙ ap (flat t) (sym (only-listed t (bytes "nextClientSequence") h))
+  -- kinds 1 to 3
+  pub is-1 : startsWith (bytes "nextClientSequence") t ≡ true → length t ≡ 18 → r ≡ read 1 (carried nowhere nowhere 0 0) true → r ≡ flat t (readFirst counters t)
+  unfolding kinds every
+  is-1 h l e = e ∙ ap (walked 1) (sym (word-last (bytes "nextClientSequence") refl 0 t h l)) ∙ single kind1 t 1 (kind-has 1 (omega arith) (omega arith)) (λ v. refl) ∙ ap (flat t) (sym (only (bytes "nextClientSequence") t h counters refl))
 
-  pub not-1 : startsWith (bytes "nextClie") t ≡ true → startsWith (bytes "nextClientSequence") t ≡ false → r ≡ nothing → r ≡ flat t (readFirst listed t)
-  unfolding listed every
-  not-1 o h e = e ∙ sym (ap (flat t) (only-listed t (bytes "nextClie") o ∙ shut t kind1 refl h []) ∙ none-left t)
+  pub is-2 : startsWith (bytes "nextConnectionSequence") t ≡ true → length t ≡ 22 → r ≡ read 2 (carried nowhere nowhere 0 0) true → r ≡ flat t (readFirst counters t)
+  unfolding kinds every
+  is-2 h l e = e ∙ ap (walked 2) (sym (word-last (bytes "nextConnectionSequence") refl 0 t h l)) ∙ single kind2 t 2 (kind-has 2 (omega arith) (omega arith)) (λ v. refl) ∙ ap (flat t) (sym (only (bytes "nextConnectionSequence") t h counters refl))
 
-  pub long-1 : startsWith (bytes "nextClie") t ≡ true → (length t ≡ 18 → ⊥) → r ≡ nothing → r ≡ flat t (readFirst listed t)
-  unfolding listed every
-  long-1 o l e = e ∙ sym (ap (flat t) (only-listed t (bytes "nextClie") o ∙ skip kind1 t (word-longer (bytes "nextClientSequence") refl 0 t l) []) ∙ none-left t)
+  pub is-3 : startsWith (bytes "nextChannelSequence") t ≡ true → length t ≡ 19 → r ≡ read 3 (carried nowhere nowhere 0 0) true → r ≡ flat t (readFirst counters t)
+  unfolding kinds every
+  is-3 h l e = e ∙ ap (walked 3) (sym (word-last (bytes "nextChannelSequence") refl 0 t h l)) ∙ single kind3 t 3 (kind-has 3 (omega arith) (omega arith)) (λ v. refl) ∙ ap (flat t) (sym (only (bytes "nextChannelSequence") t h counters refl))
 
-  pub is-2 : startsWith (bytes "nextConnectionSequence") t ≡ true → length t ≡ 22 → r ≡ read 2 (carried nowhere nowhere 0 0) true → r ≡ flat t (readFirst listed t)
-  unfolding kinds listed every
-  is-2 h l e = e ∙ ap (walked 2) (sym (word-last (bytes "nextConnectionSequence") refl 0 t h l)) ∙ single kind2 t 2 (kind-has 2 (omega arith) (omega arith)) (λ v. refl) ∙ ap (flat t) (sym (only-listed t (bytes "nextConnectionSequence") h))
+  pub not-1 : length t ≡ 18 → startsWith (bytes "nextClientSequence") t ≡ false → r ≡ nothing → r ≡ flat t (readFirst counters t)
+  unfolding every
+  not-1 l h e = e ∙ sym (ap (flat t) (shut t kind1 refl h (kind2 ∷ (kind3 ∷ [])) ∙ skip kind2 t (word-longer (bytes "nextConnectionSequence") refl 0 t (λ x. omega arith)) (kind3 ∷ []) ∙ skip kind3 t (word-longer (bytes "nextChannelSequence") refl 0 t (λ x. omega arith)) []) ∙ none-left t)
 
-  pub not-2 : startsWith (bytes "nextConn") t ≡ true → startsWith (bytes "nextConnectionSequence") t ≡ false → r ≡ nothing → r ≡ flat t (readFirst listed t)
-  unfolding listed every
-  not-2 o h e = e ∙ sym (ap (flat t) (only-listed t (bytes "nextConn") o ∙ shut t kind2 refl h []) ∙ none-left t)
+  pub not-2 : length t ≡ 22 → startsWith (bytes "nextConnectionSequence") t ≡ false → r ≡ nothing → r ≡ flat t (readFirst counters t)
+  unfolding every
+  not-2 l h e = e ∙ sym (ap (flat t) (skip kind1 t (word-longer (bytes "nextClientSequence") refl 0 t (λ x. omega arith)) (kind2 ∷ (kind3 ∷ [])) ∙ shut t kind2 refl h (kind3 ∷ []) ∙ skip kind3 t (word-longer (bytes "nextChannelSequence") refl 0 t (λ x. omega arith)) []) ∙ none-left t)
 
-  pub long-2 : startsWith (bytes "nextConn") t ≡ true → (length t ≡ 22 → ⊥) → r ≡ nothing → r ≡ flat t (readFirst listed t)
-  unfolding listed every
-  long-2 o l e = e ∙ sym (ap (flat t) (only-listed t (bytes "nextConn") o ∙ skip kind2 t (word-longer (bytes "nextConnectionSequence") refl 0 t l) []) ∙ none-left t)
+  pub not-3 : length t ≡ 19 → startsWith (bytes "nextChannelSequence") t ≡ false → r ≡ nothing → r ≡ flat t (readFirst counters t)
+  unfolding every
+  not-3 l h e = e ∙ sym (ap (flat t) (skip kind1 t (word-longer (bytes "nextClientSequence") refl 0 t (λ x. omega arith)) (kind2 ∷ (kind3 ∷ [])) ∙ skip kind2 t (word-longer (bytes "nextConnectionSequence") refl 0 t (λ x. omega arith)) (kind3 ∷ []) ∙ shut t kind3 refl h []) ∙ none-left t)
 
-  pub is-3 : startsWith (bytes "nextChannelSequence") t ≡ true → length t ≡ 19 → r ≡ read 3 (carried nowhere nowhere 0 0) true → r ≡ flat t (readFirst listed t)
-  unfolding kinds listed every
-  is-3 h l e = e ∙ ap (walked 3) (sym (word-last (bytes "nextChannelSequence") refl 0 t h l)) ∙ single kind3 t 3 (kind-has 3 (omega arith) (omega arith)) (λ v. refl) ∙ ap (flat t) (sym (only-listed t (bytes "nextChannelSequence") h))
-
-  pub not-3 : startsWith (bytes "nextChan") t ≡ true → startsWith (bytes "nextChannelSequence") t ≡ false → r ≡ nothing → r ≡ flat t (readFirst listed t)
-  unfolding listed every
-  not-3 o h e = e ∙ sym (ap (flat t) (only-listed t (bytes "nextChan") o ∙ shut t kind3 refl h []) ∙ none-left t)
-
-  pub long-3 : startsWith (bytes "nextChan") t ≡ true → (length t ≡ 19 → ⊥) → r ≡ nothing → r ≡ flat t (readFirst listed t)
-  unfolding listed every
-  long-3 o l e = e ∙ sym (ap (flat t) (only-listed t (bytes "nextChan") o ∙ skip kind3 t (word-longer (bytes "nextChannelSequence") refl 0 t l) []) ∙ none-left t)
+  pub no-counter : (length t ≡ 18 → ⊥) → (length t ≡ 22 → ⊥) → (length t ≡ 19 → ⊥) → r ≡ nothing → r ≡ flat t (readFirst counters t)
+  unfolding every
+  no-counter h i j e = e ∙ sym (ap (flat t) (skip kind1 t (word-longer (bytes "nextClientSequence") refl 0 t h) (kind2 ∷ (kind3 ∷ [])) ∙ skip kind2 t (word-longer (bytes "nextConnectionSequence") refl 0 t i) (kind3 ∷ []) ∙ skip kind3 t (word-longer (bytes "nextChannelSequence") refl 0 t j) []) ∙ none-left t)
 
   -- kinds 4 to 8, and 10
   pub is-client : startsWith (bytes "clients/") t ≡ true → r ≡ flat t (readFirst clientKinds t) → r ≡ flat t (readFirst listed t)
@@ -115,7 +108,7 @@ module _ (t : List ℕ) (r : Walked) where
 
   -- where no other kind's first bytes stand there
   abbrev pub others : List (List ℕ)
-  others = bytes "clients/" ∷ bytes "connecti" ∷ bytes "nextClie" ∷ bytes "nextConn" ∷ bytes "nextChan" ∷ openings
+  others = bytes "clients/" ∷ bytes "connecti" ∷ openings
 
   pub is-other : NoneOf others t → r ≡ walked 10 (tailOf (kind10 .parts) 0 t) → r ≡ flat t (readFirst listed t)
   unfolding kinds listed startsWith

@@ -97,7 +97,7 @@ next : (e : Kind) (es fs : List Kind) (t : List ℕ) → readFirst es t ≡ read
 unfolding readFirst
 next e es fs t h = rw h
 
-only : (u t : List ℕ) → startsWith u t ≡ true → (es : List Kind) → allClear es ≡ true → readFirst es t ≡ readFirst (keep u es) t
+pub only : (u t : List ℕ) → startsWith u t ≡ true → (es : List Kind) → allClear es ≡ true → readFirst es t ≡ readFirst (keep u es) t
 only u t h [] c = refl
 only u t h (e ∷ es) c = go (differ (opening (e .parts)) u) refl (only u t h es (and-right (clear (e .parts)) (allClear es) c))
   where

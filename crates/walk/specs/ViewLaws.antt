@@ -2,7 +2,7 @@
 -- Assumes nothing.
 use Prim.Native.Nat.{ℕ, _≤_, _<_}
 use mathlib.Core.Path.{_≡_, refl, sym, ap, _∙_}
-use mathlib.Core.List.{List}
+use mathlib.Core.List.{List, _++_}
 use mathlib.Core.Bool.{Bool, true, false, cond}
 use native.Mathlib.Omega.{arith}
 use lib.ListN.{length}
@@ -16,7 +16,7 @@ use Rattle.path.specs.declared.Reading.the-variants.{Read, Refused}
 use Rattle.path.specs.declared.Refusal.{Refusal}
 use Rattle.path.specs.declared.Refusal.the-variants.{TooLong, NotAscii}
 use Rattle.path.specs.declared.Place.{Place}
-use Rattle.path.specs.Kinds.{Carried, carried, kinds}
+use Rattle.path.specs.Kinds.{Carried, carried, Kind, kinds}
 use Rattle.path.specs.Read.{carriedFrom, renderPath, orElse, readFirst, whyNot, readPath}
 use Rattle.path.specs.Reads.{kindAt}
 use Rattle.path.specs.ReadLaws.{is-reads, made-range, path-made}
@@ -25,12 +25,43 @@ use Rattle.path.specs.View.{kindOf, carriedOf, seen, viewOf}
 use Rattle.pieces.specs.CountLaws.{read-append}
 use Rattle.reader.specs.ReadingLaws.{no-path}
 use Rattle.families.specs.declared.Walked.{Walked}
-use Rattle.families.specs.Walked.{nothing, flat, listed, upgrades}
+use Rattle.families.specs.Walked.{nothing, flat, counters, listed, upgrades}
 
--- ---- the two parts of the table
-halves : (t : List ℕ) → readFirst kinds t ≡ orElse (readFirst listed t) (readFirst upgrades t)
+-- ---- a table in two parts
+path-kind : (p : Path) → kindOf p ≡ 0 → ⊥
+unfolding kinds
+path-kind p z =
+    let e : kindOf p ≡ kindOf (kindAt 0 .make (carriedOf p)) = ap kindOf (path-made p ∙ ap (λ (k : ℕ). kindAt k .make (carriedOf p)) z) in
+    let one : kindOf (kindAt 0 .make (carriedOf p)) ≡ 1 = refl in
+    omega (arith, e, one, z)
+
+module _ (es fs : List Kind) (t : List ℕ) (w : Walked) (e : w ≡ flat t (readFirst es t)) where
+  pub first-part : (w .kind ≡ 0 → ⊥) → w ≡ flat t (readFirst (es ++ fs) t)
+  unfolding nothing
+  first-part h = e ∙ rw (read-append es fs t) (go (readFirst es t) (λ k. h (ap (λ (x : Walked). x .kind) e ∙ k)))
+    where
+      go : (a : PathAnswer) → (flat t a .kind ≡ 0 → ⊥) → flat t a ≡ flat t (orElse a (readFirst fs t))
+      go (Found p) k = refl
+      go Nothing k = absurd (k refl)
+
+  pub second-part : w .kind ≡ 0 → (u : Walked) → u ≡ flat t (readFirst fs t) → u ≡ flat t (readFirst (es ++ fs) t)
+  second-part h u f = f ∙ go (readFirst es t) refl (ap (λ (x : Walked). x .kind) (sym e) ∙ h)
+    where
+      go : (a : PathAnswer) → readFirst es t ≡ a → flat t a .kind ≡ 0 → flat t (readFirst fs t) ≡ flat t (readFirst (es ++ fs) t)
+      go (Found p) k z = absurd (path-kind p z)
+      go Nothing k z = rw (read-append es fs t, k)
+
+-- the whole table
+all-kinds : counters ++ (listed ++ upgrades) ≡ kinds
 unfolding kinds listed
-halves t = read-append listed upgrades t
+all-kinds = refl
+
+module _ (t : List ℕ) (w : Walked) (e : w ≡ flat t (readFirst counters t)) where
+  pub all-first : (w .kind ≡ 0 → ⊥) → w ≡ flat t (readFirst kinds t)
+  all-first h = first-part counters (listed ++ upgrades) t w e h ∙ rw all-kinds
+
+  pub all-second : w .kind ≡ 0 → (u : Walked) → u ≡ flat t (readFirst (listed ++ upgrades) t) → u ≡ flat t (readFirst kinds t)
+  all-second h u f = second-part counters (listed ++ upgrades) t w e h u f ∙ rw all-kinds
 
 -- what is read has a kind
 some-kind : (t : List ℕ) (p : Path) → readFirst kinds t ≡ Found p → (1 ≤ kindOf p) × (kindOf p ≤ 19)
@@ -42,21 +73,6 @@ unfolding readPath
 found-is t p short h = rw (le-ltb 4096 (length t) short, first-low kinds t p kinds-low h, h)
 
 module _ (t : List ℕ) (w : Walked) where
-  pub first-half : w ≡ flat t (readFirst listed t) → (w .kind ≡ 0 → ⊥) → w ≡ flat t (readFirst kinds t)
-  unfolding nothing
-  first-half e h = e ∙ rw (halves t) (go (readFirst listed t) (λ k. h (ap (λ (x : Walked). x .kind) e ∙ k)))
-    where
-      go : (a : PathAnswer) → (flat t a .kind ≡ 0 → ⊥) → flat t a ≡ flat t (orElse a (readFirst upgrades t))
-      go (Found p) k = refl
-      go Nothing k = absurd (k refl)
-
-  pub second-half : w ≡ flat t (readFirst listed t) → w .kind ≡ 0 → (u : Walked) → u ≡ flat t (readFirst upgrades t) → u ≡ flat t (readFirst kinds t)
-  second-half e h u f = f ∙ go (readFirst listed t) refl (ap (λ (x : Walked). x .kind) (sym e) ∙ h)
-    where
-      go : (a : PathAnswer) → readFirst listed t ≡ a → flat t a .kind ≡ 0 → flat t (readFirst upgrades t) ≡ flat t (readFirst kinds t)
-      go (Found p) k z = absurd (let q = some-kind t p (halves t ∙ rw k) in omega (arith, q .0))
-      go Nothing k z = rw (halves t, k)
-
   module _ (e : w ≡ flat t (readFirst kinds t)) where
     -- nothing was read
     pub unread : w .kind ≡ 0 → Nothing ≡ readFirst kinds t

@@ -1,7 +1,6 @@
 // The family of a text, chosen by its first eight bytes.
 use crate::opening::find_opening;
 use families::Walked;
-use families::bare;
 use families::client::client;
 use families::ends::after_ports;
 use families::name::connection;
@@ -27,48 +26,6 @@ fn connections(text: &[u8]) -> Walked
     no_path()
 }
 
-// Kind 1.
-fn next_client(text: &[u8]) -> Walked
-    requires { ⌜ startsWith (bytes "nextClie") (now text) ≡ true ⌝ }
-    ensures { λ r. ⌜ r ≡ flat (now (text .entry)) (readFirst listed (now (text .entry))) ⌝ }
-{
-    if text.len() != 18 {
-        return no_path();
-    }
-    if words::is_next_client_sequence(text, 0) {
-        return bare(1, 0, 0);
-    }
-    no_path()
-}
-
-// Kind 2.
-fn next_connection(text: &[u8]) -> Walked
-    requires { ⌜ startsWith (bytes "nextConn") (now text) ≡ true ⌝ }
-    ensures { λ r. ⌜ r ≡ flat (now (text .entry)) (readFirst listed (now (text .entry))) ⌝ }
-{
-    if text.len() != 22 {
-        return no_path();
-    }
-    if words::is_next_connection_sequence(text, 0) {
-        return bare(2, 0, 0);
-    }
-    no_path()
-}
-
-// Kind 3.
-fn next_channel(text: &[u8]) -> Walked
-    requires { ⌜ startsWith (bytes "nextChan") (now text) ≡ true ⌝ }
-    ensures { λ r. ⌜ r ≡ flat (now (text .entry)) (readFirst listed (now (text .entry))) ⌝ }
-{
-    if text.len() != 19 {
-        return no_path();
-    }
-    if words::is_next_channel_sequence(text, 0) {
-        return bare(3, 0, 0);
-    }
-    no_path()
-}
-
 // Kind 10.
 fn ports(text: &[u8]) -> Walked
     ensures { λ r. ⌜ r ≡ walked 10 (tailOf (kind10 .parts) 0 (now (text .entry))) ⌝ }
@@ -79,7 +36,7 @@ fn ports(text: &[u8]) -> Walked
     no_path()
 }
 
-// Kinds 1 to 17.
+// Kinds 4 to 17.
 pub(crate) fn by_word(text: &[u8]) -> Walked
     ensures { λ r. ⌜ r ≡ flat (now (text .entry)) (readFirst listed (now (text .entry))) ⌝ }
 {
@@ -92,15 +49,6 @@ pub(crate) fn by_word(text: &[u8]) -> Walked
     }
     if words::is_head_connections(text, 0) {
         return connections(text);
-    }
-    if words::is_head_next_client(text, 0) {
-        return next_client(text);
-    }
-    if words::is_head_next_connection(text, 0) {
-        return next_connection(text);
-    }
-    if words::is_head_next_channel(text, 0) {
-        return next_channel(text);
     }
     ports(text)
 }

@@ -1,8 +1,10 @@
 // A second reader of path texts: one walk over the bytes. The first eight choose the family.
+mod counter;
 mod dispatch;
 mod opening;
 mod typed;
 
+use crate::counter::counter;
 use families::Walked;
 use families::upgrade::upgrade;
 use path::PathView;
@@ -12,21 +14,34 @@ use reader::encode::write_view;
 use reader::fault;
 use text::Fault;
 ghost use mathlib.Core.Path.{_≡_};
+ghost use mathlib.Core.List.{_++_};
 ghost use lib.ListN.{length};
-ghost use Rattle.text.specs.Put.{left};
+ghost use Rattle.text.specs.Put.{text, left};
 ghost use Rattle.path.specs.Kinds.{kinds};
 ghost use Rattle.path.specs.Read.{readFirst, readPath, readingBytes, readFault};
-ghost use Rattle.families.specs.Walked.{flat};
+ghost use Rattle.families.specs.Walked.{flat, listed, upgrades};
+ghost use Rattle.walk.specs.Bytes.{walkBytes, putFault};
 
-// Walks a text: kinds 18 and 19 get their turn wherever no other kind is read.
-fn walk_view(text: &[u8]) -> Walked
-    ensures { λ r. ⌜ r ≡ flat (now (text .entry)) (readFirst kinds (now (text .entry))) ⌝ }
+// Kinds 4 to 19: 18 and 19 get their turn wherever no other kind is read.
+fn walk_rest(text: &[u8]) -> Walked
+    ensures { λ r. ⌜ r ≡ flat (now (text .entry)) (readFirst (listed ++ upgrades) (now (text .entry))) ⌝ }
 {
     let w = dispatch::by_word(text);
     if w.kind != 0 {
         return w;
     }
     upgrade(text)
+}
+
+// Walks a text.
+fn walk_view(text: &[u8]) -> Walked
+    ensures { λ r. ⌜ r ≡ flat (now (text .entry)) (readFirst kinds (now (text .entry))) ⌝ }
+{
+    let c = counter(text);
+    if c.kind != 0 {
+        return c;
+    }
+    walk_rest(text)
 }
 
 // Reads a text as a path. Only a text that is none is looked at again, for the reason.
@@ -46,18 +61,11 @@ pub fn walk_path(text: &[u8]) -> Reading
     }
 }
 
-// The reading of a text as 26 bytes, for the node, straight from the walk.
-pub fn write_walk(text: &[u8], out: &mut [u8]) -> Fault
-    ensures { λ r. ⌜ r ≡ readFault (now (text .entry)) (length (now (out .entry))) ⌝ }
-    ensures { λ _. ⌜ now (out .exit) ≡ left (readingBytes (now (text .entry))) (now (out .entry)) ⌝ }
+// The 26 bytes of what was walked.
+fn put_walk(w: Walked, out: &mut [u8]) -> Fault
+    ensures { λ r. ⌜ r ≡ putFault w (length (now (out .entry))) ⌝ }
+    ensures { λ _. ⌜ now (out .exit) ≡ left (text (walkBytes w)) (now (out .entry)) ⌝ }
 {
-    if 4096 < text.len() {
-        return path::fault_of(Refusal::TooLong);
-    }
-    let w = walk_view(text);
-    if w.kind == 0 {
-        return path::fault_of(fault(text));
-    }
     let first = w.first;
     let second = w.second;
     let view = PathView {
@@ -72,4 +80,24 @@ pub fn write_walk(text: &[u8], out: &mut [u8]) -> Fault
         refusal: written.refusal,
         place: 0,
     }
+}
+
+// The reading of a text as 26 bytes, for the node, straight from the walk. Kinds 1 to 3 are answered without a call of the
+// one large function that the compiler makes of the rest.
+pub fn write_walk(text: &[u8], out: &mut [u8]) -> Fault
+    ensures { λ r. ⌜ r ≡ readFault (now (text .entry)) (length (now (out .entry))) ⌝ }
+    ensures { λ _. ⌜ now (out .exit) ≡ left (readingBytes (now (text .entry))) (now (out .entry)) ⌝ }
+{
+    if 4096 < text.len() {
+        return path::fault_of(Refusal::TooLong);
+    }
+    let c = counter(text);
+    if c.kind != 0 {
+        return put_walk(c, out);
+    }
+    let w = walk_rest(text);
+    if w.kind == 0 {
+        return path::fault_of(fault(text));
+    }
+    put_walk(w, out)
 }

@@ -29,9 +29,6 @@ use Rattle.words.proofs.is_head_acks.Reads as is-head-acks
 use Rattle.words.proofs.is_head_receipts.Reads as is-head-receipts
 use Rattle.words.proofs.is_head_next_sequence.Reads as is-head-next-sequence
 use Rattle.words.proofs.is_head_connections.Reads as is-head-connections
-use Rattle.words.proofs.is_head_next_client.Reads as is-head-next-client
-use Rattle.words.proofs.is_head_next_connection.Reads as is-head-next-connection
-use Rattle.words.proofs.is_head_next_channel.Reads as is-head-next-channel
 use Rattle.words.proofs.is_ports.Reads as is-ports
 
 pub one-is-clients-open : One is-clients-open.Post
@@ -114,15 +111,6 @@ one-is-head-next-sequence κs a r₁ r₂ s₁ s₂ p q = p ∙ sym q
 
 pub one-is-head-connections : One is-head-connections.Post
 one-is-head-connections κs a r₁ r₂ s₁ s₂ p q = p ∙ sym q
-
-pub one-is-head-next-client : One is-head-next-client.Post
-one-is-head-next-client κs a r₁ r₂ s₁ s₂ p q = p ∙ sym q
-
-pub one-is-head-next-connection : One is-head-next-connection.Post
-one-is-head-next-connection κs a r₁ r₂ s₁ s₂ p q = p ∙ sym q
-
-pub one-is-head-next-channel : One is-head-next-channel.Post
-one-is-head-next-channel κs a r₁ r₂ s₁ s₂ p q = p ∙ sym q
 
 pub one-is-ports : One is-ports.Post
 one-is-ports κs a r₁ r₂ s₁ s₂ p q = p ∙ sym q

@@ -285,27 +285,6 @@ pub fn is_head_connections(s: &[u8], at: usize) -> bool
     word8(s, at, CONNECTI)
 }
 
-pub fn is_head_next_client(s: &[u8], at: usize) -> bool
-    requires { ⌜ at ≤ length (now s) ⌝ }
-    ensures { λ r. ⌜ r ≡ startsWith (bytes "nextClie") (drop at (now (s .entry))) ⌝ }
-{
-    word8(s, at, NEXTCLIE)
-}
-
-pub fn is_head_next_connection(s: &[u8], at: usize) -> bool
-    requires { ⌜ at ≤ length (now s) ⌝ }
-    ensures { λ r. ⌜ r ≡ startsWith (bytes "nextConn") (drop at (now (s .entry))) ⌝ }
-{
-    word8(s, at, NEXTCONN)
-}
-
-pub fn is_head_next_channel(s: &[u8], at: usize) -> bool
-    requires { ⌜ at ≤ length (now s) ⌝ }
-    ensures { λ r. ⌜ r ≡ startsWith (bytes "nextChan") (drop at (now (s .entry))) ⌝ }
-{
-    word8(s, at, NEXTCHAN)
-}
-
 // `ports/` has six bytes: those of the eight that are there, or one by one where there are fewer.
 pub fn is_ports(s: &[u8], at: usize) -> bool
     requires { ⌜ at ≤ length (now s) ⌝ }

@@ -1,12 +1,13 @@
 -- `write_walk` meets its contract.
 -- Assumes nothing.
-use mathlib.Core.Path.{refl, sym, ap, _∙_}
+use mathlib.Core.Path.{refl, _∙_}
 use lib.ListN.{length}
-use Rattle.text.specs.Put.{Wanted, left}
+use Rattle.text.specs.Put.{left}
 use Rattle.path.specs.declared.Reading.the-variants.{Refused}
 use Rattle.path.specs.declared.Refusal.the-variants.{TooLong}
-use Rattle.reader.specs.EncodeLaws.{bytes-read, bytes-refused, fault-read, fault-refused, answer-reading, bytes-reading}
-use Rattle.walk.specs.ViewLaws.{long-read, refused-read, view-read}
+use Rattle.reader.specs.EncodeLaws.{bytes-refused, fault-refused, answer-reading, bytes-reading}
+use Rattle.walk.specs.BytesLaws.{put-fault, put-bytes}
+use Rattle.walk.specs.ViewLaws.{long-read, refused-read, all-first, all-second}
 use borrow.Author.Needs.{needs}
 use Rattle.walk.proofs.write_walk.Statement.{statement}
 use Rattle.walk.proofs.write_walk.Tie as tie
@@ -19,20 +20,33 @@ returns c =
     (fault-refused (Refused TooLong) _ TooLong _ refl (c .fault-of .ensures) ∙ answer-reading _ _ h _, rw (← e))
 
 returns-2 : tie.Need-returns-2
-unfolding left
 returns-2 c =
-    let h = refused-read (c .before .before .before .before .before .before .before .before .args .text .now) (c .before .before .before .before .walk-view .result) (c .before .before .before .before .walk-view .ensures) (c .before .before .before .before .before .if1 .left) (c .before .before .if2 .taken) (c .before .fault .result) (c .before .fault .ensures) in
-    let w = c .before .fault .result in
-    let e = bytes-refused (Refused w) w refl ∙ bytes-reading _ _ h in
-    (fault-refused (Refused w) _ w _ refl (c .fault-of2 .ensures) ∙ answer-reading _ _ h _, rw (← e))
+    let a = c .before .before .before .before .before .before .before .before .before .before .args in
+    let n = c .before .before .before .before .before .before .counter in
+    let p = c .before .before .put-walk in
+    let e = all-first (a .text .now) (n .result) (n .ensures) (c .before .before .before .before .if2 .taken) in
+    (put-fault (a .text .now) (n .result) e (c .before .before .before .before .if2 .taken) (c .before .before .before .before .before .before .before .if1 .left) (length (a .out .now)) (p .result) (p .ensures .0), put-bytes (a .text .now) (n .result) e (c .before .before .before .before .if2 .taken) (c .before .before .before .before .before .before .before .if1 .left) (a .out .now) _ (p .ensures .1))
 
 returns-3 : tie.Need-returns-3
+unfolding left
 returns-3 c =
-    let out = c .before .before .before .before .before .before .before .before .before .before .before .before .args .out .now in
-    let w = c .before .before .write-view .ensures in
-    let q = view-read (c .before .before .before .before .before .before .before .before .before .before .before .before .args .text .now) (c .before .before .before .before .before .before .before .before .walk-view .result) (c .before .before .before .before .before .before .before .before .walk-view .ensures) (c .before .before .before .before .before .before .if2 .left) (c .before .before .before .before .before .before .before .before .before .if1 .left) in
-    let e = bytes-read _ _ _ _ refl (q .2) in
-    (fault-read _ (length out) _ _ refl _ e _ (w .0) ∙ answer-reading _ _ (q .1) _, w .1 ∙ ap (λ (x : Wanted). left x out) (e ∙ bytes-reading _ _ (q .1)))
+    let t = c .before .before .before .before .before .before .before .before .before .before .before .args .text .now in
+    let n = c .before .before .before .before .before .before .before .counter in
+    let r = c .before .before .before .before .walk-rest in
+    let w = c .before .fault in
+    let whole = all-second t (n .result) (n .ensures) (c .before .before .before .before .before .if2 .left) (r .result) (r .ensures) in
+    let h = refused-read t (r .result) whole (c .before .before .before .before .before .before .before .before .if1 .left) (c .before .before .if3 .taken) (w .result) (w .ensures) in
+    let e = bytes-refused (Refused (w .result)) (w .result) refl ∙ bytes-reading _ _ h in
+    (fault-refused (Refused (w .result)) _ (w .result) _ refl (c .fault-of2 .ensures) ∙ answer-reading _ _ h _, rw (← e))
+
+returns-4 : tie.Need-returns-4
+returns-4 c =
+    let a = c .before .before .before .before .before .before .before .before .before .before .before .before .before .args in
+    let n = c .before .before .before .before .before .before .before .before .before .counter in
+    let r = c .before .before .before .before .before .before .walk-rest in
+    let p = c .before .before .put-walk2 in
+    let e = all-second (a .text .now) (n .result) (n .ensures) (c .before .before .before .before .before .before .before .if2 .left) (r .result) (r .ensures) in
+    (put-fault (a .text .now) (r .result) e (c .before .before .before .before .if3 .left) (c .before .before .before .before .before .before .before .before .before .before .if1 .left) (length (a .out .now)) (p .result) (p .ensures .0), put-bytes (a .text .now) (r .result) e (c .before .before .before .before .if3 .left) (c .before .before .before .before .before .before .before .before .before .before .if1 .left) (a .out .now) _ (p .ensures .1))
 
 pub write-walk-spec : {M : Type 1} → statement M
 write-walk-spec =
@@ -42,8 +56,12 @@ write-walk-spec =
     returns
     (λ c κs. search needs)
     (λ c κs. search needs)
-    (λ c κs. search needs)
+    (λ c. search needs)
     returns-2
     (λ c κs. search needs)
+    (λ c κs. search needs)
+    (λ c κs. search needs)
+    returns-3
+    (λ c κs. search needs)
     (λ c. search needs)
-    returns-3)
+    returns-4)

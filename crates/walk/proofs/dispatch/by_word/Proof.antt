@@ -24,32 +24,11 @@ connections-requires c κs = sym (c .before .is-head-connections .ensures) ∙ c
 returns-3 : tie.Need-returns-3
 returns-3 c = c .connections .ensures
 
-next-client-requires : tie.Need-next-client-requires
-next-client-requires c κs = sym (c .before .is-head-next-client .ensures) ∙ c .if4 .taken
-
 returns-4 : tie.Need-returns-4
-returns-4 c = c .next-client .ensures
-
-next-connection-requires : tie.Need-next-connection-requires
-next-connection-requires c κs = sym (c .before .is-head-next-connection .ensures) ∙ c .if5 .taken
-
-returns-5 : tie.Need-returns-5
-returns-5 c = c .next-connection .ensures
-
-next-channel-requires : tie.Need-next-channel-requires
-next-channel-requires c κs = sym (c .before .is-head-next-channel .ensures) ∙ c .if6 .taken
-
-returns-6 : tie.Need-returns-6
-returns-6 c = c .next-channel .ensures
-
-returns-7 : tie.Need-returns-7
-returns-7 c =
-    let clients = sym (c .before .before .before .before .before .before .before .before .before .before .before .before .before .is-clients-open .ensures) ∙ c .before .before .before .before .before .before .before .before .before .before .before .before .if1 .left in
-    let connections = sym (c .before .before .before .before .before .before .before .before .is-head-connections .ensures) ∙ c .before .before .before .before .before .before .before .if3 .left in
-    let client = sym (c .before .before .before .before .before .before .is-head-next-client .ensures) ∙ c .before .before .before .before .before .if4 .left in
-    let connection = sym (c .before .before .before .before .is-head-next-connection .ensures) ∙ c .before .before .before .if5 .left in
-    let channel = sym (c .before .before .is-head-next-channel .ensures) ∙ c .before .if6 .left in
-    is-other (c .before .before .before .before .before .before .before .before .before .before .before .before .before .before .before .args .text .now) (c .ports .result) (clients, (connections, (client, (connection, (channel, c .before .before .before .before .before .before .before .before .before .before .before .find-opening .ensures .shut (c .before .before .before .before .before .before .before .before .before .if2 .left)))))) (c .ports .ensures)
+returns-4 c =
+    let clients = sym (c .before .before .before .before .before .before .before .is-clients-open .ensures) ∙ c .before .before .before .before .before .before .if1 .left in
+    let connections = sym (c .before .before .is-head-connections .ensures) ∙ c .before .if3 .left in
+    is-other (c .before .before .before .before .before .before .before .before .before .args .text .now) (c .ports .result) (clients, (connections, c .before .before .before .before .before .find-opening .ensures .shut (c .before .before .before .if2 .left))) (c .ports .ensures)
 
 pub by-word-spec : {M : Type 1} → statement M
 by-word-spec =
@@ -65,13 +44,4 @@ by-word-spec =
     connections-requires
     returns-3
     (λ c κs. search needs)
-    next-client-requires
-    returns-4
-    (λ c κs. search needs)
-    next-connection-requires
-    returns-5
-    (λ c κs. search needs)
-    next-channel-requires
-    returns-6
-    (λ c κs. search needs)
-    returns-7)
+    returns-4)
