@@ -1,6 +1,7 @@
 #!/bin/sh
 # Holds the wrong answers of docs/CONTRACTS.md and their edits together: each wrong answer has one edit, in
-# trials/CRATE.edits or in must-fail/, each edit is of a row, the two of a row differ, and the place of each edit is found.
+# trials/CRATE.edits or in must-fail/, each edit is of a row, the two of a row differ, and the place of each edit is found;
+# and the page's table of the edits that must fail lists those of must-fail/.
 # That the prover refuses them is for trials/run. Last line: 'N passed, M failed'.
 . "$(dirname "$0")/lib/start.sh"
 . trials/edits.sh
@@ -42,6 +43,14 @@ while read -r title; do
     *) fail "more than one edit: $title" ;;
     esac
 done <"$work/rows"
+
+sed -n '/^## Edits that must fail/,$s,^| \([a-z]*\) | `\([a-z0-9_]*\)` |.*,crates/\1/must-fail/\2.edit,p' docs/CONTRACTS.md | sort >"$work/listed"
+ls crates/*/must-fail/*.edit | sort >"$work/there"
+while read -r edit; do
+    if grep -qxF "$edit" "$work/listed"; then passed=$((passed + 1)); else fail "not in the table of edits that must fail: $edit"; fi
+done <"$work/there"
+comm -23 "$work/listed" "$work/there" >"$work/unknown"
+while read -r edit; do fail "in the table of edits that must fail, and not there: $edit"; done <"$work/unknown"
 
 echo "$passed passed, $failed failed"
 [ "$failed" -eq 0 ]
