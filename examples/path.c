@@ -1,6 +1,6 @@
 /* A customer asked for clients/07-tendermint-4/consensusStates/007-2. The store has no such key: the text is a loose
- * spelling of another one. This program reads the text, asks for its key, and keeps a record under it; and it is told
- * what is wrong with another text. */
+ * spelling of another one. This program reads the text, asks for its key, and keeps a record under it; it is told what
+ * is wrong with another text; and it reads a port in Greek and a packet key of IBC version 2. */
 #include <inttypes.h>
 #include <stdio.h>
 #include <string.h>
@@ -30,7 +30,7 @@ static int refused(const char *call, uint8_t refusal) {
 static int read_it(void) {
     uint8_t reading[HP_READING];
     uint8_t key[HP_PATH_MOST];
-    struct hp_fault fault = hp_read(TEXT(text), reading, sizeof reading);
+    struct hp_fault fault = hp_walk(TEXT(text), reading, sizeof reading);
     if (fault.refusal != HP_DONE || reading[0] != HP_CLIENT_CONSENSUS_STATE) {
         return refused("read", fault.refusal);
     }
@@ -61,7 +61,7 @@ static int read_it(void) {
 static int mend_it(void) {
     static const char wrong[] = "clients/07-tendermint-4/consensusStates/7-x";
     uint8_t reading[HP_READING];
-    struct hp_fault fault = hp_read(TEXT(wrong), reading, sizeof reading);
+    struct hp_fault fault = hp_walk(TEXT(wrong), reading, sizeof reading);
     if (fault.refusal != HP_NOT_A_DIGIT) {
         return refused("read", fault.refusal);
     }
@@ -104,6 +104,35 @@ static int keep_it(void) {
     return 0;
 }
 
+/* A network that names its ports in Greek: the wide calls take what the plain ones refuse. */
+static int read_greek(void) {
+    static const char greek[] = "ports/\316\264\317\215\316\277"; /* the letters delta, upsilon and omicron */
+    uint8_t reading[HP_READING];
+    printf("plain     %s: refused with %d\n", greek, hp_walk(TEXT(greek), reading, sizeof reading).refusal);
+    struct hp_fault fault = hp_wide_read(TEXT(greek), reading, sizeof reading);
+    if (fault.refusal != HP_DONE) {
+        return refused("wide", fault.refusal);
+    }
+    printf("wide      %s: kind %d, a port of %d bytes\n", greek, reading[0], (int)number(reading + 4, 2));
+    return 0;
+}
+
+/* The key of a packet's commitment in IBC version 2: a client, a marker byte and a sequence. */
+static int key_packet(void) {
+    uint8_t key[HP_PACKET_KEY_MOST];
+    struct hp_written written = hp_v2_write(HP_PACKET_COMMITMENT, TEXT("07-tendermint-4"), 9, key, sizeof key);
+    if (written.refusal != HP_DONE) {
+        return refused("packet", written.refusal);
+    }
+    struct hp_packet packet = hp_v2_read(key, written.length);
+    if (packet.refusal != HP_DONE) {
+        return refused("packet", packet.refusal);
+    }
+    printf("packet    %d bytes: kind %d, client %.*s, sequence %" PRIu64 "\n", (int)written.length, packet.kind,
+           (int)packet.length, (const char *)key, packet.sequence);
+    return 0;
+}
+
 int main(void) {
-    return read_it() || mend_it() || keep_it();
+    return read_it() || mend_it() || keep_it() || read_greek() || key_packet();
 }

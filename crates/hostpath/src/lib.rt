@@ -171,7 +171,7 @@ pub extern "C" fn hp_read(text: &[u8], out: &mut [u8]) -> Fault
     reader::write_reading(text, out)
 }
 
-// The same by the second reader, which walks the text once: equal to hp_read on every input.
+// The same by the second reader, which walks the text once: equal to hp_read on every input, and faster.
 #[no_mangle]
 pub extern "C" fn hp_walk(text: &[u8], out: &mut [u8]) -> Fault
     ensures { λ r. ⌜ r ≡ readFault (now (text .entry)) (length (now (out .entry))) ⌝ }

@@ -280,7 +280,7 @@ pub fn read(text: &[u8], out: &mut [u8]) -> Fault {
     unsafe { c::hp_read(text.as_ptr(), text.len(), out.as_mut_ptr(), out.len()) }
 }
 
-/// The same by the second reader, which walks the text once: equal to hp_read on every input.
+/// The same by the second reader, which walks the text once: equal to hp_read on every input, and faster.
 pub fn walk(text: &[u8], out: &mut [u8]) -> Fault {
     // SAFETY: each pointer and count are those of one live slice.
     unsafe { c::hp_walk(text.as_ptr(), text.len(), out.as_mut_ptr(), out.len()) }
