@@ -11,7 +11,7 @@ use lib.ListN.{length, take, drop, getD, length-drop}
 use lib.Seq.{drop-cons, getD-drop}
 use borrow.Author.Tests.{ltb-true, lt-ltb, leb-true, lt-leb, le-leb}
 use Rattle.text.specs.PartLaws.{and-left, and-right}
-use Rattle.letters.specs.Class.{inside, scalars, rises}
+use Rattle.letters.specs.Class.{between, inside, scalars, rises}
 
 -- ---- ranges that rise
 record Rise (low a z : ℕ) (more : List ℕ) : Type 0 where
@@ -97,6 +97,26 @@ last-below v low (a ∷ (z ∷ more)) (suc m) (suc (suc j)) e h l k =
     let r = rise low a z more h in
     let f = entry-above (suc z) more j (r .others) (omega arith) in
     rw (lt-leb v z (omega arith), last-below v (suc z) more m j (omega arith) (r .others) (omega arith) k) (and-none (leb a v))
+
+-- ---- a range of a table
+-- one of the ranges has all numbers from b to y
+abbrev pub covers : ℕ → ℕ → List ℕ → Bool
+covers b y [] = false
+covers b y (a ∷ []) = false
+covers b y (a ∷ (z ∷ more)) = (leb a b && leb y z) || covers b y more
+
+pub inside-covered : (b y v : ℕ) (t : List ℕ) → covers b y t ≡ true → b ≤ v → v ≤ y → inside v t ≡ true
+unfolding inside
+inside-covered b y v [] h l k = h
+inside-covered b y v (a ∷ []) h l k = h
+inside-covered b y v (a ∷ (z ∷ more)) h l k = go (leb a b && leb y z) refl h (λ h′. inside-covered b y v more h′ l k)
+  where
+    go : (p : Bool) → (leb a b && leb y z) ≡ p → (p || covers b y more) ≡ true → (covers b y more ≡ true → inside v more ≡ true) → (between a z v || inside v more) ≡ true
+    go true e h′ next =
+        let f = leb-true a b (and-left (leb a b) (leb y z) e) in
+        let g = leb-true y z (and-right (leb a b) (leb y z) e) in
+        rw (le-leb a v (omega arith), le-leb v z (omega arith))
+    go false e h′ next = rw (next h′) (or-true (between a z v))
 
 -- ---- tables that are joined
 pub inside-append : (v low : ℕ) (a b : List ℕ) → rises low a ≡ true → inside v (a ++ b) ≡ (inside v a || inside v b)

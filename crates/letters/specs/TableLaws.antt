@@ -1,13 +1,16 @@
 -- The rule of the tables: antt computes it once over all of their ranges, and each lookup in a part of them has it from there.
 -- Assumes nothing.
 use Prim.Native.Nat.{ℕ, _≤_, _<_}
-use mathlib.Core.Path.{_≡_, refl, _∙_}
-use mathlib.Core.Bool.{true}
+use mathlib.Core.Path.{_≡_, refl, sym, _∙_}
+use mathlib.Core.Bool.{Bool, true}
 use mathlib.Core.List.{List, _++_}
 use native.Mathlib.Omega.{arith}
+use lib.Dec.{leb}
+use borrow.Author.Tests.{leb-true}
+use Rattle.text.specs.PartLaws.{and-left, and-right}
 use Rattle.letters.specs.Table.{part1, part2, part3, part4, letters, blanks}
-use Rattle.letters.specs.Class.{inside, rises, isLetter}
-use Rattle.letters.specs.ClassLaws.{even, rises-parts, seam, look-first, look-second}
+use Rattle.letters.specs.Class.{between, inside, rises, isLetter, LetterIf}
+use Rattle.letters.specs.ClassLaws.{even, rises-parts, seam, look-first, look-second, covers, inside-covered}
 
 -- ---- the rule
 pub letters-rise : rises 127 letters ≡ true
@@ -95,3 +98,38 @@ module _ (v : ℕ) where
 
   pub in4 : 65536 ≤ v → isLetter v ≡ inside v part4
   in4 l = past2 (omega arith) ∙ look-second 127 65536 part3 part4 even3 all3 seam3 v l
+
+-- ---- long ranges of the letters
+pub letter-covered : (b y v : ℕ) (r : Bool) → covers b y letters ≡ true → r ≡ between b y v → LetterIf r v
+unfolding isLetter
+letter-covered b y v r h e t =
+    let k = sym e ∙ t in
+    inside-covered b y v letters h (leb-true b v (and-left (leb b v) _ k)) (leb-true v y (and-right (leb b v) _ k))
+
+pub latin-first : covers 216 246 letters ≡ true
+unfolding letters part1 part2 part3 part4
+latin-first = refl
+
+pub latin-second : covers 248 705 letters ≡ true
+unfolding letters part1 part2 part3 part4
+latin-second = refl
+
+pub greek-first : covers 910 929 letters ≡ true
+unfolding letters part1 part2 part3 part4
+greek-first = refl
+
+pub greek-second : covers 931 1013 letters ≡ true
+unfolding letters part1 part2 part3 part4
+greek-second = refl
+
+pub cyrillic : covers 1015 1153 letters ≡ true
+unfolding letters part1 part2 part3 part4
+cyrillic = refl
+
+pub han : covers 19968 42124 letters ≡ true
+unfolding letters part1 part2 part3 part4
+han = refl
+
+pub hangul : covers 44032 55203 letters ≡ true
+unfolding letters part1 part2 part3 part4
+hangul = refl

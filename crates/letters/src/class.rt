@@ -6,7 +6,7 @@ use crate::table::PART_3;
 use crate::table::PART_4;
 ghost use mathlib.Core.Path.{_≡_};
 ghost use mathlib.Core.Bool.{true};
-ghost use Rattle.letters.specs.Class.{inside, rises, isLetter, isBlank};
+ghost use Rattle.letters.specs.Class.{between, inside, rises, isLetter, isBlank, LetterIf};
 ghost use Rattle.letters.specs.Table.{part1, part2, part3, part4};
 
 // Whether v lies in one of the ranges, which rise: each turn halves what is left of them.
@@ -57,10 +57,48 @@ fn in_part_4(v: u32) -> bool
     in_ranges(&PART_4, v)
 }
 
+// Whether v is one of a range's numbers.
+fn is_between(v: u32, first: u32, last: u32) -> bool
+    ensures { λ r. ⌜ r ≡ between first last v ⌝ }
+{
+    if v < first {
+        return false;
+    }
+    v <= last
+}
+
+// Whether v is of a long range of Latin, Greek, Cyrillic, Han or Hangul letters: most letters are, and are told without a table.
+fn is_common(v: u32) -> bool
+    ensures { λ r. ⌜ LetterIf r v ⌝ }
+{
+    if is_between(v, 216, 246) {
+        return true;
+    }
+    if is_between(v, 248, 705) {
+        return true;
+    }
+    if is_between(v, 910, 929) {
+        return true;
+    }
+    if is_between(v, 931, 1013) {
+        return true;
+    }
+    if is_between(v, 1015, 1153) {
+        return true;
+    }
+    if is_between(v, 19968, 42124) {
+        return true;
+    }
+    is_between(v, 44032, 55203)
+}
+
 // Whether the character beyond ASCII is a letter or a number.
 pub fn is_letter(v: u32) -> bool
     ensures { λ r. ⌜ r ≡ isLetter v ⌝ }
 {
+    if is_common(v) {
+        return true;
+    }
     if v < 2048 {
         return in_part_1(v);
     }
