@@ -19,14 +19,41 @@ pub enum WideReading {
     NotTaken,
 }
 
+// Reads the picture of a text, which is written into the lent room.
+fn read_through(text: &[u8], picture: &mut [u8]) -> Reading
+    requires { ⌜ length (now text) ≤ length (now picture) ⌝ }
+    ensures { λ r. ⌜ r ≡ readPath (narrow (now (text .entry))) ⌝ }
+{
+    let end = letters::picture::narrow(text, picture);
+    walk::walk_path(&picture[0..end])
+}
+
+// The room of a short text, as most paths are, takes less time to clear.
+fn read_short(text: &[u8]) -> Reading
+    requires { ⌜ length (now text) ≤ 256 ⌝ }
+    ensures { λ r. ⌜ r ≡ readPath (narrow (now (text .entry))) ⌝ }
+{
+    let mut picture = [0u8; 256];
+    read_through(text, &mut picture)
+}
+
+fn read_longer(text: &[u8]) -> Reading
+    requires { ⌜ length (now text) ≤ 4096 ⌝ }
+    ensures { λ r. ⌜ r ≡ readPath (narrow (now (text .entry))) ⌝ }
+{
+    let mut picture = [0u8; 4096];
+    read_through(text, &mut picture)
+}
+
 // Reads the picture of a text.
 fn read_picture(text: &[u8]) -> Reading
     requires { ⌜ length (now text) ≤ 4096 ⌝ }
     ensures { λ r. ⌜ r ≡ readPath (narrow (now (text .entry))) ⌝ }
 {
-    let mut picture = [0u8; 4096];
-    let end = letters::picture::narrow(text, &mut picture);
-    walk::walk_path(&picture[0..end])
+    if text.len() <= 256 {
+        return read_short(text);
+    }
+    read_longer(text)
 }
 
 // Reads a text as a path.
