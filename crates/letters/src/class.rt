@@ -57,7 +57,7 @@ fn in_part_4(v: u32) -> bool
     in_ranges(&PART_4, v)
 }
 
-// Whether v is one of a range's numbers.
+// Whether v is one of the numbers from first to last.
 fn is_between(v: u32, first: u32, last: u32) -> bool
     ensures { λ r. ⌜ r ≡ between first last v ⌝ }
 {

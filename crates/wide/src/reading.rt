@@ -28,7 +28,7 @@ fn read_through(text: &[u8], picture: &mut [u8]) -> Reading
     walk::walk_path(&picture[0..end])
 }
 
-// The room of a short text, as most paths are, takes less time to clear.
+// Reads the picture of a short text, as most paths are: less room takes less time to clear.
 fn read_short(text: &[u8]) -> Reading
     requires { ⌜ length (now text) ≤ 256 ⌝ }
     ensures { λ r. ⌜ r ≡ readPath (narrow (now (text .entry))) ⌝ }
@@ -37,6 +37,7 @@ fn read_short(text: &[u8]) -> Reading
     read_through(text, &mut picture)
 }
 
+// Reads the picture of a text of any length that is read.
 fn read_longer(text: &[u8]) -> Reading
     requires { ⌜ length (now text) ≤ 4096 ⌝ }
     ensures { λ r. ⌜ r ≡ readPath (narrow (now (text .entry))) ⌝ }
@@ -45,7 +46,7 @@ fn read_longer(text: &[u8]) -> Reading
     read_through(text, &mut picture)
 }
 
-// Reads the picture of a text.
+// Reads the picture of a text, in room that fits it.
 fn read_picture(text: &[u8]) -> Reading
     requires { ⌜ length (now text) ≤ 4096 ⌝ }
     ensures { λ r. ⌜ r ≡ readPath (narrow (now (text .entry))) ⌝ }
