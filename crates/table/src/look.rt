@@ -1,0 +1,62 @@
+// Lookups in a book by the table that filling gives. Each answers what the plain lookup answers.
+use crate::Slot;
+use crate::probe;
+use field::key_into;
+use form::HEAD;
+use form::KEY;
+use form::SLOT;
+use form::text_at;
+use keys::Manner;
+use text::Written;
+use text::put::write_text;
+use text::refusal::ABSENT;
+ghost use mathlib.Core.Path.{_≡_};
+ghost use Prim.Native.Nat.{_≤_};
+ghost use lib.ListN.{length};
+ghost use Rattle.keys.specs.Act.{looks};
+ghost use Rattle.form.specs.Form.{keyAt};
+ghost use Rattle.book.specs.Book.{Current, Counts};
+ghost use Rattle.book.specs.Outcome.{Found, Looked};
+ghost use Rattle.table.specs.Table.{filled};
+
+// Copies the value of `key` to the start of `out`, and answers its length.
+fn look_key(book: &[u8], n: usize, table: &[u8], key: &[u8], out: &mut [u8]) -> Written
+    requires { ⌜ Counts Current (now book) n × (now table ≡ filled (keyAt Current (now book)) n) ⌝ }
+    requires { ⌜ 64 ≤ length (now out) ⌝ }
+    ensures { λ r. ⌜ Found Current (now (book .entry)) (looks (now (key .entry))) (now (out .entry)) r (now (out .exit)) ⌝ }
+{
+    let Slot::At(p) = probe(book, n, table, key) else {
+        return Written {
+            refusal: ABSENT,
+            length: 0,
+        };
+    };
+    let n = write_text(out, 0, text_at(book, HEAD + SLOT * p + KEY));
+    Written {
+        refusal: 0,
+        length: n as u64,
+    }
+}
+
+// Copies what the path of a text holds to the start of `out`, and answers its length.
+pub fn look_text(
+    manner: Manner,
+    book: &[u8],
+    n: usize,
+    table: &[u8],
+    text: &[u8],
+    out: &mut [u8],
+) -> Written
+    requires { ⌜ Counts Current (now book) n × (now table ≡ filled (keyAt Current (now book)) n) ⌝ }
+    requires { ⌜ 64 ≤ length (now out) ⌝ }
+    ensures { λ r. ⌜ Looked Current manner (now (book .entry)) (now (text .entry)) (now (out .entry)) r (now (out .exit)) ⌝ }
+{
+    let mut field = [0u8; 255];
+    let w = key_into(manner, text, &mut field);
+    let refusal = w.refusal;
+    if refusal != 0 {
+        return Written { refusal, length: 0 };
+    }
+    let len = w.length as usize;
+    look_key(book, n, table, &field[0..len], out)
+}
