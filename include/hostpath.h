@@ -131,6 +131,8 @@ enum hp_refusal {
     HP_LOOSE = 20,
     /* the text is no UTF-8: give it as UTF-8 without overlong forms and surrogates */
     HP_BAD_UTF8 = 21,
+    /* the table is not the 512 numbers that filling it from this book gives: fill it again */
+    HP_BAD_TABLE = 22,
     /* the bytes are not a client, a marker of 1, 2 or 3 and 8 more, or the kind is not one of these: give a whole packet key */
     HP_BAD_V2_KEY = 24
     /* Above, made by bin/interface. */
@@ -313,6 +315,12 @@ struct hp_pair hp_book_oldest(const uint8_t *book, size_t book_len, const uint8_
 /* Makes the second buffer, whatever it holds, the book of version 2 that has the slots and the records of `old`, a book
  * of version 1: 9 where that is none, then 4 where the second buffer is not of that book's size. */
 uint8_t hp_book_convert(const uint8_t *old, size_t old_len, uint8_t *book, size_t book_len);
+/* Fills the first 512 bytes of the table with the buckets by which the book's records are found: 9, 4. */
+uint8_t hp_book_fill(const uint8_t *book, size_t book_len, uint8_t *table, size_t table_len);
+/* What hp_book_lookup gives for each text of `texts`, which byte 10 ends, by a table of 512 bytes that was filled from this book
+ * as it is now: 66 bytes a text, its refusal number, the length of its value, and the value filled with zeros to 64. Bytes after
+ * the last 10 are a text if there are any: 9, 22, 4. */
+struct hp_written hp_book_lookup_many(const uint8_t *book, size_t book_len, const uint8_t *table, size_t table_len, const uint8_t *texts, size_t texts_len, uint8_t *out, size_t out_len);
 /* Above, made by bin/interface. */
 
 #ifdef __cplusplus

@@ -71,6 +71,8 @@ use Rattle.hostpath.proofs.hp_book_lookup.Reads as hp-book-lookup
 use Rattle.hostpath.proofs.hp_book_lookup_lenient.Reads as hp-book-lookup-lenient
 use Rattle.hostpath.proofs.hp_book_oldest.Reads as hp-book-oldest
 use Rattle.hostpath.proofs.hp_book_convert.Reads as hp-book-convert
+use Rattle.hostpath.proofs.hp_book_fill.Reads as hp-book-fill
+use Rattle.hostpath.proofs.hp_book_lookup_many.Reads as hp-book-lookup-many
 
 pub one-hp-validate-identifier-chars : One hp-validate-identifier-chars.Post
 one-hp-validate-identifier-chars κs a r₁ r₂ s₁ s₂ p q = p ∙ sym q
@@ -258,3 +260,9 @@ one-hp-book-oldest κs a r₁ r₂ s₁ s₂ p q = one-oldest Current lawful _ _
 -- the second buffer
 pub one-hp-book-convert : OneWith hp-book-convert.Post (λ κs s. now (s .1 .0))
 one-hp-book-convert κs a r₁ r₂ s₁ s₂ p q = one-converted p q
+
+pub one-hp-book-fill : OneWith hp-book-fill.Post (λ κs s. now (s .1 .0))
+one-hp-book-fill κs a r₁ r₂ s₁ s₂ p q = one-fills Current lawful p q
+
+pub one-hp-book-lookup-many : OneWith hp-book-lookup-many.Post (λ κs s. now (s .1 .1 .1 .0))
+one-hp-book-lookup-many κs a r₁ r₂ s₁ s₂ p q = one-many Current lawful p q

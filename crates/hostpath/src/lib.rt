@@ -22,6 +22,7 @@
 // TOO_LARGE: the number is above 18446744073709551615: write a smaller one
 // LOOSE: a number of the text has a plus or leading zeros, so it is not its own key: give its key, or make the lenient call
 // BAD_UTF8: the text is no UTF-8: give it as UTF-8 without overlong forms and surrogates
+// BAD_TABLE: the table is not the 512 numbers that filling it from this book gives: fill it again
 // BAD_V2_KEY: the bytes are not a client, a marker of 1, 2 or 3 and 8 more, or the kind is not one of these: give a whole packet key
 use identifiers::channel_id::write_channel_id;
 use identifiers::client_id::write_client_id;
@@ -60,6 +61,7 @@ ghost use Rattle.book.specs.Book.{Current};
 ghost use Rattle.book.specs.Outcome.{Wrote, Removed, Looked, Made};
 ghost use Rattle.convert.specs.Convert.{Converted};
 ghost use Rattle.oldest.specs.Oldest.{Oldest};
+ghost use Rattle.table.specs.Many.{Fills, LooksMany};
 
 // Identifier checks.
 
@@ -641,4 +643,27 @@ pub extern "C" fn hp_book_convert(old: &[u8], book: &mut [u8]) -> u8
     ensures { λ r. ⌜ Converted (now (old .entry)) (now (book .entry)) r (now (book .exit)) ⌝ }
 {
     convert::convert(old, book)
+}
+
+// Fills the first 512 bytes of the table with the buckets by which the book's records are found: 9, 4.
+#[no_mangle]
+pub extern "C" fn hp_book_fill(book: &[u8], table: &mut [u8]) -> u8
+    ensures { λ r. ⌜ Fills Current (now (book .entry)) (now (table .entry)) r (now (table .exit)) ⌝ }
+{
+    table::many::fill(book, table)
+}
+
+// What hp_book_lookup gives for each text of `texts`, which byte 10 ends, by a table of 512 bytes that was filled from this book
+// as it is now: 66 bytes a text, its refusal number, the length of its value, and the value filled with zeros to 64. Bytes after
+// the last 10 are a text if there are any: 9, 22, 4.
+#[no_mangle]
+pub extern "C" fn hp_book_lookup_many(
+    book: &[u8],
+    table: &[u8],
+    texts: &[u8],
+    out: &mut [u8],
+) -> Written
+    ensures { λ r. ⌜ LooksMany Current (now (book .entry)) (now (table .entry)) (now (texts .entry)) (now (out .entry)) r (now (out .exit)) ⌝ }
+{
+    table::many::look_many(book, table, texts, out)
 }

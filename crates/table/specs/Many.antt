@@ -1,60 +1,61 @@
 -- What the calls on a table come to: filling, and many lookups at once.
 -- Assumes nothing.
-use mathlib.Core.Path.{_≡_}
+use mathlib.Core.Path.{_≡_, refl}
 use mathlib.Core.List.{List, [], _∷_, _++_, map}
-use Prim.Native.Nat.{ℕ, _*_, _<_, _≤_}
+use Prim.Native.Nat.{ℕ}
 use lib.ListN.{length}
-use Rattle.text.specs.Refusal.{badBook, noRoom}
+use Rattle.text.specs.Refusal.{badBook, badTable}
 use Rattle.text.specs.declared.Written.{Written}
-use Rattle.text.specs.Put.{put}
-use Rattle.keys.specs.Act.{Rec}
-use Rattle.keys.specs.declared.Manner.{Manner}
+use Rattle.text.specs.Put.{put, text, answer, left, refusal}
+use Rattle.keys.specs.Act.{Rec, Answer, says, gives}
+use Rattle.keys.specs.declared.Manner.the-variants.{Plain}
+use Rattle.keys.specs.Calls.{look, meaning}
 use Rattle.form.specs.Form.{Form, zeros}
-use Rattle.book.specs.Book.{Book}
-use Rattle.book.specs.Outcome.{Looked}
+use Rattle.book.specs.Book.{Book, acts}
+use Rattle.book.specs.Outcome.{writtenBy, shown}
 use Rattle.table.specs.Table.{fill}
 use Rattle.table.specs.Lines.{lines}
 
--- a table that is not the one that filling gives
-abbrev pub badTable : ℕ
-badTable = 22
+-- the 66 bytes of an answer: its number, the length of its value, and the value in 64 bytes that were zeros
+unfoldable pub entryOf : Answer → List ℕ
+entryOf a = writtenBy a .refusal ∷ writtenBy a .length ∷ shown a (zeros 64)
+
+-- the bytes of some texts, one after the other
+unfoldable pub entries : (List ℕ → Answer) → List (List ℕ) → List ℕ
+entries f [] = []
+entries f (t ∷ ts) = entryOf (f t) ++ entries f ts
 
 module _ {F : Form} {b : List ℕ} where
-  abbrev pub keysOf : Book F b → List (List ℕ)
-  keysOf x = map (λ (r : Rec). r .0) (x .records)
-
   -- the table that filling gives
   abbrev pub tableOf : Book F b → List ℕ
-  tableOf x = fill (keysOf x)
+  tableOf x = fill (map (λ (r : Rec). r .0) (x .records))
+
+  -- what the plain lookup of a text alone answers, with 64 bytes of room
+  abbrev pub lookedUp : Book F b → List ℕ → Answer
+  lookedUp x t = acts x (meaning (look Plain t 64)) .0
 
 -- filling: the refusal number r, and the bytes of `out` after
 pub data Fills (F : Form) (b out : List ℕ) (r : ℕ) (out₁ : List ℕ) : Type 0 where
   no-book : (Book F b → ⊥) → r ≡ badBook → out₁ ≡ out → Fills F b out r out₁
-  no-room : Book F b → length out < 512 → r ≡ noRoom → out₁ ≡ out → Fills F b out r out₁
-  fills : (x : Book F b) → 512 ≤ length out → r ≡ 0 → out₁ ≡ put out 0 (tableOf x) → Fills F b out r out₁
+  this-book : (x : Book F b) → r ≡ (answer (text (tableOf x)) (length out)) .refusal → out₁ ≡ left (text (tableOf x)) out → Fills F b out r out₁
 
--- the 66 bytes of one text: what the plain lookup of it alone answers, and what that leaves in 64 bytes of zeros
-pub record Entry (F : Form) (m : Manner) (b t e : List ℕ) : Type 0 where
-  pub answer : Written
-  pub value : List ℕ
-  pub looked : Looked F m b t (zeros 64) answer value
-  pub bytes : e ≡ answer .refusal ∷ answer .length ∷ value
-  pub size : length e ≡ 66
+-- many lookups: the answer r, and the bytes of `out` after
+pub data LooksMany (F : Form) (b table texts out : List ℕ) (r : Written) (out₁ : List ℕ) : Type 0 where
+  no-book : (Book F b → ⊥) → r ≡ refusal badBook → out₁ ≡ out → LooksMany F b table texts out r out₁
+  bad-table : (x : Book F b) → (table ≡ tableOf x → ⊥) → r ≡ refusal badTable → out₁ ≡ out → LooksMany F b table texts out r out₁
+  this-table : (x : Book F b) → table ≡ tableOf x → r ≡ answer (text (entries (lookedUp x) (lines texts))) (length out) → out₁ ≡ left (text (entries (lookedUp x) (lines texts))) out → LooksMany F b table texts out r out₁
 
 -- the bytes of one text, written from a place on
-pub record Entered (F : Form) (m : Manner) (b t out : List ℕ) (at : ℕ) (out₁ : List ℕ) : Type 0 where
+pub record Entered (F : Form) (b t out : List ℕ) (at : ℕ) (out₁ : List ℕ) : Type 0 where
   pub entry : List ℕ
-  pub is : Entry F m b t entry
+  pub is : (x : Book F b) → entry ≡ entryOf (lookedUp x t)
+  pub size : length entry ≡ 66
   pub written : out₁ ≡ put out at entry
 
--- the bytes of some texts
-pub data Entries (F : Form) (m : Manner) (b : List ℕ) : List (List ℕ) → List ℕ → Type 0 where
-  none : Entries F m b [] []
-  more : {t e : List ℕ} {ts : List (List ℕ)} {o : List ℕ} → Entry F m b t e → Entries F m b ts o → Entries F m b (t ∷ ts) (e ++ o)
+nothing-held : entryOf (says 12) ≡ 12 ∷ 0 ∷ zeros 64
+unfolding entryOf
+nothing-held = refl
 
--- many lookups: the refusal number r, and the bytes of `out` after
-pub data LooksMany (F : Form) (m : Manner) (b table texts out : List ℕ) (r : ℕ) (out₁ : List ℕ) : Type 0 where
-  no-book : (Book F b → ⊥) → r ≡ badBook → out₁ ≡ out → LooksMany F m b table texts out r out₁
-  bad-table : (x : Book F b) → (table ≡ tableOf x → ⊥) → r ≡ badTable → out₁ ≡ out → LooksMany F m b table texts out r out₁
-  no-room : (x : Book F b) → table ≡ tableOf x → length out < 66 * length (lines texts) → r ≡ noRoom → out₁ ≡ out → LooksMany F m b table texts out r out₁
-  looks : (x : Book F b) → table ≡ tableOf x → 66 * length (lines texts) ≤ length out → r ≡ 0 → (e : List ℕ) → Entries F m b (lines texts) e → out₁ ≡ put out 0 e → LooksMany F m b table texts out r out₁
+two-bytes : entryOf (gives (7 ∷ 8 ∷ [])) ≡ 0 ∷ 2 ∷ 7 ∷ 8 ∷ zeros 62
+unfolding entryOf put
+two-bytes = refl

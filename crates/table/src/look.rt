@@ -13,6 +13,7 @@ use text::refusal::ABSENT;
 ghost use mathlib.Core.Path.{_≡_};
 ghost use Prim.Native.Nat.{_≤_};
 ghost use lib.ListN.{length};
+ghost use Rattle.keys.specs.declared.Manner.the-variants.{Plain};
 ghost use Rattle.keys.specs.Act.{looks};
 ghost use Rattle.form.specs.Form.{keyAt};
 ghost use Rattle.book.specs.Book.{Current, Counts};
@@ -38,21 +39,14 @@ fn look_key(book: &[u8], n: usize, table: &[u8], key: &[u8], out: &mut [u8]) -> 
     }
 }
 
-// Copies what the path of a text holds to the start of `out`, and answers its length.
-pub fn look_text(
-    manner: Manner,
-    book: &[u8],
-    n: usize,
-    table: &[u8],
-    text: &[u8],
-    out: &mut [u8],
-) -> Written
+// Copies what a text that is its own rendering holds to the start of `out`, and answers its length.
+pub fn look_text(book: &[u8], n: usize, table: &[u8], text: &[u8], out: &mut [u8]) -> Written
     requires { ⌜ Counts Current (now book) n × (now table ≡ filled (keyAt Current (now book)) n) ⌝ }
     requires { ⌜ 64 ≤ length (now out) ⌝ }
-    ensures { λ r. ⌜ Looked Current manner (now (book .entry)) (now (text .entry)) (now (out .entry)) r (now (out .exit)) ⌝ }
+    ensures { λ r. ⌜ Looked Current Plain (now (book .entry)) (now (text .entry)) (now (out .entry)) r (now (out .exit)) ⌝ }
 {
     let mut field = [0u8; 255];
-    let w = key_into(manner, text, &mut field);
+    let w = key_into(Manner::Plain, text, &mut field);
     let refusal = w.refusal;
     if refusal != 0 {
         return Written { refusal, length: 0 };

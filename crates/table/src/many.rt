@@ -4,11 +4,12 @@ use crate::look::look_text;
 use book::check::BookAnswer;
 use book::check::check_book;
 use form::Version;
-use keys::Manner;
+use text::Written;
 use text::part::equal;
 use text::put::write_byte;
 use text::put::write_text;
 use text::refusal::BAD_BOOK;
+use text::refusal::BAD_TABLE;
 use text::refusal::NO_ROOM;
 ghost use mathlib.Core.Path.{_≡_};
 ghost use Prim.Native.Nat.{_+_, _≤_};
@@ -19,9 +20,6 @@ ghost use Rattle.book.specs.Book.{Current, Counts};
 ghost use Rattle.table.specs.Table.{filled};
 ghost use Rattle.table.specs.Lines.{lines, Line, Next};
 ghost use Rattle.table.specs.Many.{Fills, Entered, LooksMany};
-
-// A table that is not the one that filling gives.
-pub const BAD_TABLE: u8 = 22;
 
 // Fills the first 512 bytes of `out`: 9, 4.
 pub fn fill(book: &[u8], out: &mut [u8]) -> u8
@@ -88,21 +86,13 @@ fn count_lines(s: &[u8]) -> usize
 }
 
 // Writes the 66 bytes of a text, from `at` on.
-fn put_entry(
-    manner: Manner,
-    book: &[u8],
-    n: usize,
-    table: &[u8],
-    text: &[u8],
-    out: &mut [u8],
-    at: usize,
-)
+fn put_entry(book: &[u8], n: usize, table: &[u8], text: &[u8], out: &mut [u8], at: usize)
     requires { ⌜ Counts Current (now book) n × (now table ≡ filled (keyAt Current (now book)) n) ⌝ }
     requires { ⌜ at + 66 ≤ length (now out) ⌝ }
-    ensures { λ _. ⌜ Entered Current manner (now (book .entry)) (now (text .entry)) (now (out .entry)) at (now (out .exit)) ⌝ }
+    ensures { λ _. ⌜ Entered Current (now (book .entry)) (now (text .entry)) (now (out .entry)) at (now (out .exit)) ⌝ }
 {
     let mut value = [0u8; 64];
-    let w = look_text(manner, book, n, table, text, &mut value);
+    let w = look_text(book, n, table, text, &mut value);
     let refusal = w.refusal;
     let len = w.length as u8;
     write_byte(out, at, refusal);
@@ -111,25 +101,37 @@ fn put_entry(
 }
 
 // Writes 66 bytes for each text of `texts`, each of which byte 10 ends: 9, 22, 4.
-pub fn look_many(manner: Manner, book: &[u8], table: &[u8], texts: &[u8], out: &mut [u8]) -> u8
-    ensures { λ r. ⌜ LooksMany Current manner (now (book .entry)) (now (table .entry)) (now (texts .entry)) (now (out .entry)) r (now (out .exit)) ⌝ }
+pub fn look_many(book: &[u8], table: &[u8], texts: &[u8], out: &mut [u8]) -> Written
+    ensures { λ r. ⌜ LooksMany Current (now (book .entry)) (now (table .entry)) (now (texts .entry)) (now (out .entry)) r (now (out .exit)) ⌝ }
 {
     let BookAnswer::Count(n) = check_book(book, Version::Two) else {
-        return BAD_BOOK;
+        return Written {
+            refusal: BAD_BOOK,
+            length: 0,
+        };
     };
     if !table_ok(book, n, table) {
-        return BAD_TABLE;
+        return Written {
+            refusal: BAD_TABLE,
+            length: 0,
+        };
     }
     if out.len() / 66 < count_lines(texts) {
-        return NO_ROOM;
+        return Written {
+            refusal: NO_ROOM,
+            length: 0,
+        };
     }
     let mut at = 0;
     let mut i = 0;
     while i < texts.len() {
         let end = line_end(texts, i);
-        put_entry(manner, book, n, table, &texts[i..end], out, at);
+        put_entry(book, n, table, &texts[i..end], out, at);
         at += 66;
         i = line_next(texts, end);
     }
-    0
+    Written {
+        refusal: 0,
+        length: at as u64,
+    }
 }

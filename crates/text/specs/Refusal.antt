@@ -83,6 +83,10 @@ loose = 20
 abbrev pub badUtf8 : ℕ
 badUtf8 = 21
 
+-- a table of buckets that filling it from the book would not give
+abbrev pub badTable : ℕ
+badTable = 22
+
 -- a text that is no packet key of IBC version 2, or a kind of which there is none
 abbrev pub badV2Key : ℕ
 badV2Key = 24

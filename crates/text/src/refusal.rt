@@ -41,4 +41,6 @@ pub const LOOSE: u8 = 20;
 
 pub const BAD_UTF8: u8 = 21;
 
+pub const BAD_TABLE: u8 = 22;
+
 pub const BAD_V2_KEY: u8 = 24;

@@ -71,6 +71,8 @@ pub enum Function {
     BookLookupLenient,
     BookOldest,
     BookConvert,
+    BookFill,
+    BookLookupMany,
     // Above, made by bin/interface.
     /// No call: the text is what calls on a book are lent from now on.
     BookLend,
@@ -143,6 +145,8 @@ impl Function {
             "hp_book_lookup_lenient" => Self::BookLookupLenient,
             "hp_book_oldest" => Self::BookOldest,
             "hp_book_convert" => Self::BookConvert,
+            "hp_book_fill" => Self::BookFill,
+            "hp_book_lookup_many" => Self::BookLookupMany,
             // Above, made by bin/interface.
             _ => return None,
         })
@@ -266,6 +270,8 @@ impl Function {
             Self::BookLookupLenient => [false, true, true],
             Self::BookOldest => [false, true, false],
             Self::BookConvert => [false, true, false],
+            Self::BookFill => [false, true, false],
+            Self::BookLookupMany => [false, true, true],
             // Above, made by bin/interface.
             Self::BookLend => [false, true, false],
         }
@@ -339,6 +345,8 @@ pub fn make(call: &Call, book: &mut [u8], out: &mut [u8]) -> Returned {
         Function::BookLookupLenient => raw::book_lookup_lenient(book, texts[0], out).into(),
         Function::BookOldest => raw::book_oldest(book, texts[0]).into(),
         Function::BookConvert => raw::book_convert(texts[0], book).into(),
+        Function::BookFill => raw::book_fill(book, table).into(),
+        Function::BookLookupMany => raw::book_lookup_many(book, texts[0], texts[1], out).into(),
         // Above, made by bin/interface.
         Function::BookLend => Returned::default(),
     }

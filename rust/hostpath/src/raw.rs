@@ -197,6 +197,10 @@ pub mod c {
         pub fn hp_book_oldest(book: *const u8, book_len: usize, client: *const u8, client_len: usize) -> Pair;
         /// [`book_convert`] on pointers.
         pub fn hp_book_convert(old: *const u8, old_len: usize, book: *mut u8, book_len: usize) -> u8;
+        /// [`book_fill`] on pointers.
+        pub fn hp_book_fill(book: *const u8, book_len: usize, table: *mut u8, table_len: usize) -> u8;
+        /// [`book_lookup_many`] on pointers.
+        pub fn hp_book_lookup_many(book: *const u8, book_len: usize, table: *const u8, table_len: usize, texts: *const u8, texts_len: usize, out: *mut u8, out_len: usize) -> Written;
         // Above, made by bin/interface.
     }
 }
@@ -592,5 +596,19 @@ pub fn book_oldest(book: &[u8], client: &[u8]) -> Pair {
 pub fn book_convert(old: &[u8], book: &mut [u8]) -> u8 {
     // SAFETY: each pointer and count are those of one live slice.
     unsafe { c::hp_book_convert(old.as_ptr(), old.len(), book.as_mut_ptr(), book.len()) }
+}
+
+/// Fills the first 512 bytes of the table with the buckets by which the book's records are found: 9, 4.
+pub fn book_fill(book: &[u8], table: &mut [u8]) -> u8 {
+    // SAFETY: each pointer and count are those of one live slice.
+    unsafe { c::hp_book_fill(book.as_ptr(), book.len(), table.as_mut_ptr(), table.len()) }
+}
+
+/// What hp_book_lookup gives for each text of `texts`, which byte 10 ends, by a table of 512 bytes that was filled from this book
+/// as it is now: 66 bytes a text, its refusal number, the length of its value, and the value filled with zeros to 64. Bytes after
+/// the last 10 are a text if there are any: 9, 22, 4.
+pub fn book_lookup_many(book: &[u8], table: &[u8], texts: &[u8], out: &mut [u8]) -> Written {
+    // SAFETY: each pointer and count are those of one live slice.
+    unsafe { c::hp_book_lookup_many(book.as_ptr(), book.len(), table.as_ptr(), table.len(), texts.as_ptr(), texts.len(), out.as_mut_ptr(), out.len()) }
 }
 // Above, made by bin/interface.

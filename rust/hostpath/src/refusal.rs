@@ -47,6 +47,8 @@ pub enum Refusal {
     Loose = 20,
     /// 21: the text is no UTF-8: give it as UTF-8 without overlong forms and surrogates.
     BadUtf8 = 21,
+    /// 22: the table is not the 512 numbers that filling it from this book gives: fill it again.
+    BadTable = 22,
     /// 24: the bytes are not a client, a marker of 1, 2 or 3 and 8 more, or the kind is not one of these: give a whole packet key.
     BadV2Key = 24,
     // Above, made by bin/interface.
@@ -77,6 +79,7 @@ impl Refusal {
             19 => Self::TooLarge,
             20 => Self::Loose,
             21 => Self::BadUtf8,
+            22 => Self::BadTable,
             24 => Self::BadV2Key,
             // Above, made by bin/interface.
             _ => return None,
@@ -112,6 +115,7 @@ impl Refusal {
             Self::TooLarge => "the number is above 18446744073709551615: write a smaller one",
             Self::Loose => "a number of the text has a plus or leading zeros, so it is not its own key: give its key, or make the lenient call",
             Self::BadUtf8 => "the text is no UTF-8: give it as UTF-8 without overlong forms and surrogates",
+            Self::BadTable => "the table is not the 512 numbers that filling it from this book gives: fill it again",
             Self::BadV2Key => "the bytes are not a client, a marker of 1, 2 or 3 and 8 more, or the kind is not one of these: give a whole packet key",
             // Above, made by bin/interface.
         }
