@@ -23,7 +23,7 @@ found-none n = record { answer = says 9; outcome = no-book n refl refl; written 
 
 module _ {F : Form} (L : Lawful F) where
   -- the bytes tell what the calls do
-  pub same-acts : {b : List ℕ} (x y : Book F b) (m : Meaning) → acts x m ≡ acts y m
+  same-acts : {b : List ℕ} (x y : Book F b) (m : Meaning) → acts x m ≡ acts y m
   same-acts {b} x y m =
       let o = one-book F L b x y in
       ap (λ (C : ℕ). actIn C m (x .records)) (o .0) ∙ ap (λ (s : List Rec). actIn (y .slots) m s) (o .2)
@@ -50,16 +50,6 @@ module _ {F : Form} (L : Lawful F) where
   one-found {out = out} x y =
       let o = one-outcome (x .outcome) (y .outcome) .0 in
       (x .written ∙ ap writtenBy o ∙ sym (y .written), x .value ∙ ap (λ (a : Answer). shown a out) o ∙ sym (y .value))
-
-  -- a lookup on this book answers what the book's records do
-  pub answer-is : {b : List ℕ} {m : Meaning} {out : List ℕ} {r : Written} {out₁ : List ℕ} (x : Book F b) → Found F b m out r out₁ → (r ≡ writtenBy (acts x m .0)) × (out₁ ≡ shown (acts x m .0) out)
-  answer-is {m = m} {out = out} x f = go (f .outcome)
-    where
-      go : Outcome F m _ (f .answer) _ → _
-      go (no-book n e h) = absurd (n x)
-      go (this-book y e h) =
-          let a : f .answer ≡ acts x m .0 = e ∙ ap (λ (q : Answer × List Rec). q .0) (same-acts y x m) in
-          (f .written ∙ ap writtenBy a, f .value ∙ ap (λ (q : Answer). shown q out) a)
 
   pub one-made : (e : F .Extra) (b : List ℕ) (r q : ℕ) (b₁ b₂ : List ℕ) → Made F e b r b₁ → Made F e b q b₂ → (r ≡ q) × (b₁ ≡ b₂)
   one-made x b r q b₁ b₂ (o.Made.no-size n e f) (o.Made.no-size k g h) = (e ∙ sym g, f ∙ sym h)

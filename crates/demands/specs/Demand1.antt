@@ -30,6 +30,7 @@ use Rattle.demands.specs.WideShapeLaws as wides
 use Rattle.demands.specs.IterationLaws.{pairs, key-refuses, scan-refuses}
 use Rattle.demands.specs.PacketLaws.{packetReads, packetWrites, packet-wants, packets}
 use Rattle.demands.specs.BookNumberLaws.{writeNumbers, removeNumbers, lookNumbers, write-listed, remove-listed, provable-demand, made-demand, changed-demand, found-demand, converted-demand, oldest-demand}
+use Rattle.demands.specs.TableNumberLaws.{filled-demand, looked-many-demand}
 use Rattle.hostpath.proofs.hp_client_id_new.Reads as hp-client-id-new
 use Rattle.hostpath.proofs.hp_channel_id_new.Reads as hp-channel-id-new
 use Rattle.hostpath.proofs.hp_key.Reads as hp-key
@@ -92,6 +93,8 @@ use Rattle.hostpath.proofs.hp_book_lookup.Reads as hp-book-lookup
 use Rattle.hostpath.proofs.hp_book_lookup_lenient.Reads as hp-book-lookup-lenient
 use Rattle.hostpath.proofs.hp_book_oldest.Reads as hp-book-oldest
 use Rattle.hostpath.proofs.hp_book_convert.Reads as hp-book-convert
+use Rattle.hostpath.proofs.hp_book_fill.Reads as hp-book-fill
+use Rattle.hostpath.proofs.hp_book_lookup_many.Reads as hp-book-lookup-many
 use Rattle.render.proofs.render.Reads as render
 use Rattle.key.proofs.write_key.Reads as write-key
 use Rattle.reader.proofs.write_reading.Reads as write-reading
@@ -271,6 +274,12 @@ hp-book-convert-holds = converted-demand (λ κs a. tt) (λ κs r. r) (λ κs a.
 
 pub hp-book-oldest-holds : Demand1 hp-book-oldest.Pre hp-book-oldest.Post (9 ∷ 2 ∷ 5 ∷ 6 ∷ 12 ∷ []) (λ κs r. r .refusal) (λ κs r. r .number ∷ r .height ∷ []) (λ κs a. []) (λ κs s. [])
 hp-book-oldest-holds = oldest-demand (λ κs a. tt) (λ κs r. r) (λ κs a. now (a .0)) (λ κs a. now (a .1 .0)) (λ κs a r s p. p)
+
+pub hp-book-fill-holds : Demand1 hp-book-fill.Pre hp-book-fill.Post (9 ∷ 4 ∷ []) (λ κs r. r) (λ κs r. []) (λ κs a. now (a .1 .0)) (λ κs s. now (s .1 .0))
+hp-book-fill-holds = filled-demand (λ κs a. tt) (λ κs r. r) (λ κs a. now (a .0)) (λ κs a. now (a .1 .0)) (λ κs s. now (s .1 .0)) (λ κs a r s p. p)
+
+pub hp-book-lookup-many-holds : Demand1 hp-book-lookup-many.Pre hp-book-lookup-many.Post (9 ∷ 22 ∷ 4 ∷ []) (λ κs r. r .refusal) (λ κs r. r .length ∷ []) (λ κs a. now (a .1 .1 .1 .0)) (λ κs s. now (s .1 .1 .1 .0))
+hp-book-lookup-many-holds = looked-many-demand (λ κs a. tt) (λ κs r. r) (λ κs a. now (a .0)) (λ κs a. now (a .1 .0)) (λ κs a. now (a .1 .1 .0)) (λ κs a. now (a .1 .1 .1 .0)) (λ κs s. now (s .1 .1 .1 .0)) (λ κs a r s p. p)
 
 -- ---- the wide calls: 21 stands in the place of 2
 pub hp-wide-validate-identifier-chars-holds : Demand1 hp-wide-validate-identifier-chars.Pre hp-wide-validate-identifier-chars.Post (21 ∷ 5 ∷ []) (λ κs r. r) (λ κs r. []) (λ κs a. []) (λ κs s. [])

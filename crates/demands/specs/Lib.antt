@@ -4,11 +4,13 @@
 -- in the words of `KeyCalls` and `Scanned`; demand 3 is `Demand3`, in the words of `Held`, `Refusals` and `BookCalls`; what plain and lenient calls
 -- share, request L6, is in `Manners`; the wide calls of request L8 are in `Wide`, in the words of `WideCalls` and `WideWritten`; the packet keys of
 -- request L11 are in `Packets`, in the words of `PacketCalls` and `Packeted`; what lies below a path, request L12, is `Below`, in the words of
--- `Above`; `Useless` shows which line each useless book breaks. Files that end in `Laws` may be skipped.
+-- `Above`; filling a table and many lookups, request L9, are in `ManyCall`; `Useless` shows which line each useless book breaks. Files that end in `Laws` may be skipped.
 pub mod Shape
 pub mod ShapeLaws
 pub mod KeepsLaws
 pub mod BookNumberLaws
+pub mod RoomLaws
+pub mod TableNumberLaws
 pub mod PathCalls
 pub mod Told
 pub mod ToldLaws
@@ -57,3 +59,5 @@ pub mod OldestCall
 pub mod OldestCallLaws
 pub mod ConvertCall
 pub mod ConvertCallLaws
+pub mod ManyCall
+pub mod ManyCallLaws

@@ -22,10 +22,10 @@ use Rattle.keys.specs.declared.Manner.the-variants.{Plain}
 use Rattle.keys.specs.Calls.{look, meaning}
 use Rattle.form.specs.Form.{AllFit, zeros, keyAt}
 use Rattle.form.specs.FormLaws.{length-zeros}
-use Rattle.book.specs.Book.{Book, Current, Counts, Judged, fullIn}
+use Rattle.book.specs.Book.{Book, Current, Counts, Judged, fullIn, acts}
 use Rattle.book.specs.BookLaws.{lawful, sizes, key-is}
-use Rattle.book.specs.Outcome.{Looked, writtenBy, shown}
-use Rattle.book.specs.OutcomeLaws.{answer-is}
+use Rattle.book.specs.Outcome.{Looked, Found, this-book, writtenBy, shown}
+use Rattle.book.specs.OutcomeLaws.{one-outcome}
 use Rattle.book.specs.RecordLaws.{judged-none}
 use Rattle.book.specs.declared.check.BookAnswer.{BookAnswer}
 use Rattle.book.specs.declared.check.BookAnswer.the-variants.{Nothing}
@@ -57,23 +57,23 @@ table-is b n h =
     filled-same (keyAt Current b) (λ i. getD (map (λ (r : Rec). r .0) (x .records)) i []) n (λ i k. let r = at-some (x .records) i (omega (arith, h .1)) in key-is Current lawful b x i (r .0) (r .1) ∙ sym (key-there (x .records) i (r .0) (r .1)))
     ∙ ap (filled (λ i. getD (map (λ (r : Rec). r .0) (x .records)) i [])) (sym l)
 
+pub table-size : (b : List ℕ) (n : ℕ) (h : Counts Current b n) → length (tableOf (h .0)) ≡ 512
+table-size b n h = ap length (sym (table-is b n h)) ∙ sound-filled (keyAt Current b) n (omega (arith, sizes Current lawful b n h .most)) .size
+
 -- ---- filling
 pub fills-no-book : (b : List ℕ) (a : BookAnswer) → Judged Current b a → a ≡ Nothing → (out : List ℕ) → Fills Current b out 9 out
 fills-no-book b a j e out = many.Fills.no-book (judged-none b a j e) refl refl
 
 module _ (b out : List ℕ) (n : ℕ) (h : Counts Current b n) where
-  size : length (tableOf (h .0)) ≡ 512
-  size = ap length (sym (table-is b n h)) ∙ sound-filled (keyAt Current b) n (omega (arith, sizes Current lawful b n h .most)) .size
-
   pub fills-no-room : length out < 512 → Fills Current b out 4 out
   fills-no-room l =
-      let g = gives-short (tableOf (h .0)) out (omega (arith, size)) in
+      let g = gives-short (tableOf (h .0)) out (omega (arith, table-size b n h)) in
       many.Fills.this-book (h .0) (ap (λ (w : Written). w .refusal) (g .0)) (g .1)
 
   pub fills-done : 512 ≤ length out → (t out₁ : List ℕ) → t ≡ filled (keyAt Current b) n → out₁ ≡ put out 0 t → Fills Current b out 0 out₁
   fills-done l t out₁ e w =
       let T = tableOf (h .0) in
-      let fits : length T ≤ length out = omega (arith, size) in
+      let fits : length T ≤ length out = omega (arith, table-size b n h) in
       many.Fills.this-book (h .0) (ap (λ (w : Written). w .refusal) (sym (answer-fits T (length out) fits))) (w ∙ ap (put out 0) (e ∙ table-is b n h) ∙ sym (left-fits T out fits))
 
 -- ---- the bytes of an answer
@@ -114,7 +114,15 @@ act-short full (looks k) s f = go (get s k) refl
     go none e = says-short 12
     go (some u) e = length-put (zeros 64) 0 u (omega (arith, value-short s f k u e, length-zeros 64)) ∙ length-zeros 64
 
+short-most : (a : Answer) → Short a → writtenBy a .length ≤ 64
+short-most (says n) s = omega arith
+short-most done s = omega arith
+short-most (gives u) s = omega (arith, s, ap length (put-zero (zeros 64) u), length-append u (drop (length u) (zeros 64)))
+
 module _ (b : List ℕ) (x : Book Current b) where
+  pub value-most : (t : List ℕ) → writtenBy (lookedUp x t) .length ≤ 64
+  value-most t = short-most (lookedUp x t) (act-short (fullIn x) (meaning (look Plain t 64)) (x .records) (x .fit))
+
   pub entry-size : (t : List ℕ) → length (entryOf (lookedUp x t)) ≡ 66
   unfolding entryOf
   entry-size t = omega (arith, act-short (fullIn x) (meaning (look Plain t 64)) (x .records) (x .fit))
@@ -125,17 +133,18 @@ module _ (b : List ℕ) (x : Book Current b) where
   entries-size (t ∷ ts) = omega (arith, length-append (entryOf (lookedUp x t)) (entries (lookedUp x) ts), entry-size t, entries-size ts)
 
 -- ---- one text
+-- a lookup on this book answers what its records do
+pub answer-is : {b : List ℕ} {m : Meaning} {out : List ℕ} {r : Written} {out₁ : List ℕ} (x : Book Current b) → Found Current b m out r out₁ → (r ≡ writtenBy (acts x m .0)) × (out₁ ≡ shown (acts x m .0) out)
+answer-is {out = out} x f =
+    let a = one-outcome lawful (f .outcome) (this-book x refl refl) .0 in
+    (f .written ∙ ap writtenBy a, f .value ∙ ap (λ (q : Answer). shown q out) a)
+
 module _ (b t out : List ℕ) (at : ℕ) (r : Written) (v : List ℕ) (y : Looked Current Plain b t (zeros 64) r v) (size : length v ≡ 64) where
   looked-is : (x : Book Current b) → (r ≡ writtenBy (lookedUp x t)) × (v ≡ shown (lookedUp x t) (zeros 64))
-  looked-is x = rw (length-zeros 64) at (answer-is lawful x y)
+  looked-is x = rw (length-zeros 64) at (answer-is x y)
 
   pub entry-length : (x : Book Current b) → r .length ≤ 64
-  entry-length x = rw (looked-is x .0) (go (lookedUp x t) (act-short (fullIn x) (meaning (look Plain t 64)) (x .records) (x .fit)))
-    where
-      go : (a : Answer) → Short a → writtenBy a .length ≤ 64
-      go (says n) s = omega arith
-      go done s = omega arith
-      go (gives u) s = omega (arith, s, ap length (put-zero (zeros 64) u), length-append u (drop (length u) (zeros 64)))
+  entry-length x = rw (looked-is x .0) (value-most b x t)
 
   pub entered : at + 66 ≤ length out → (o o₁ o₂ : List ℕ) → o ≡ put out at (r .refusal ∷ []) → o₁ ≡ put o (at + 1) (r .length ∷ []) → o₂ ≡ put o₁ (at + 2) v → Entered Current b t out at o₂
   unfolding entryOf
@@ -201,6 +210,9 @@ module _ (b texts out₀ : List ℕ) where
       let all : entries (lookedUp x) (lines texts) ≡ d .done = d .rest x ∙ ap (λ (ts : List (List ℕ)). d .done ++ entries (lookedUp x) ts) (lines-none texts i l) ∙ append-nil (d .done) in
       rw all (record { next = omega (arith, d .size); after = d .bytes; room = omega (arith, d .size, d .room) })
 
+pub table-good : (b table : List ℕ) (n : ℕ) (r : Bool) → r ≡ same table (filled (keyAt Current b) n) → r ≡ true → table ≡ filled (keyAt Current b) n
+table-good b table n r e f = same-is table (filled (keyAt Current b) n) (sym e ∙ f)
+
 module _ (b table texts out : List ℕ) where
   pub many-no-book : (a : BookAnswer) → Judged Current b a → a ≡ Nothing → LooksMany Current b table texts out (refusal 9) out
   many-no-book a j e = many.LooksMany.no-book (judged-none b a j e) refl refl
@@ -209,12 +221,9 @@ module _ (b table texts out : List ℕ) where
     pub many-bad-table : r ≡ false → LooksMany Current b table texts out (refusal 22) out
     many-bad-table f = many.LooksMany.bad-table (h .0) (λ q. let z : _≡_ {A = ℕ} 0 1 = cc (e, ap (λ (x : List ℕ). same table x) (q ∙ sym (table-is b n h)), same-refl table) in omega arith) refl refl
 
-    pub table-good : r ≡ true → table ≡ filled (keyAt Current b) n
-    table-good f = same-is table (filled (keyAt Current b) n) (sym e ∙ f)
-
     module _ (f : r ≡ true) where
       good : table ≡ tableOf (h .0)
-      good = table-good f ∙ table-is b n h
+      good = table-good b table n r e f ∙ table-is b n h
 
       pub many-no-room : (c : ℕ) → c ≡ length (lines texts) → length out / 66 < c → LooksMany Current b table texts out (refusal 4) out
       many-no-room c ec l =

@@ -14,7 +14,8 @@ use Rattle.form.specs.Form.{Form}
 use Rattle.form.specs.FormLaws.{Lawful}
 use Rattle.book.specs.Book.{Book}
 use Rattle.book.specs.BookLaws.{one-book}
-use Rattle.book.specs.OutcomeLaws.{same-acts}
+use Rattle.book.specs.Outcome.{this-book}
+use Rattle.book.specs.OutcomeLaws.{one-outcome}
 use Rattle.table.specs.Lines.{lines}
 use Rattle.table.specs.Many.{entryOf, entries, tableOf, lookedUp, Fills, LooksMany}
 use Rattle.table.specs.Many as many
@@ -31,7 +32,7 @@ one-told f n u k Nowhere (At j) x y = absurd (x j y)
 one-told f n u k Nowhere Nowhere x y = refl
 
 module _ (F : Form) (L : Lawful F) where
-  one-table : (b : List ℕ) (x y : Book F b) → tableOf x ≡ tableOf y
+  pub one-table : (b : List ℕ) (x y : Book F b) → tableOf x ≡ tableOf y
   one-table b x y = ap (λ (s : List Rec). fill (map (λ (r : Rec). r .0) s)) (one-book F L b x y .2)
 
   pub one-fills : {b out : List ℕ} {r q : ℕ} {o o′ : List ℕ} → Fills F b out r o → Fills F b out q o′ → (r ≡ q) × (o ≡ o′)
@@ -45,7 +46,7 @@ module _ (F : Form) (L : Lawful F) where
   one-entries : {b : List ℕ} (x y : Book F b) (ts : List (List ℕ)) → entries (lookedUp x) ts ≡ entries (lookedUp y) ts
   unfolding entries
   one-entries x y [] = refl
-  one-entries x y (t ∷ ts) = ap₂ (λ (q : Answer × List Rec) (o : List ℕ). entryOf (q .0) ++ o) (same-acts L x y (meaning (look Plain t 64))) (one-entries x y ts)
+  one-entries x y (t ∷ ts) = ap₂ (λ (a : Answer) (o : List ℕ). entryOf a ++ o) (one-outcome L {m = meaning (look Plain t 64)} (this-book x refl refl) (this-book y refl refl) .0) (one-entries x y ts)
 
   pub one-many : {b table texts out : List ℕ} {r q : Written} {o o′ : List ℕ} → LooksMany F b table texts out r o → LooksMany F b table texts out q o′ → (r ≡ q) × (o ≡ o′)
   one-many (many.LooksMany.no-book n e f) (many.LooksMany.no-book k g h) = (e ∙ sym g, f ∙ sym h)

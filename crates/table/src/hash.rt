@@ -6,7 +6,7 @@ ghost use Rattle.table.specs.Hash.{joined, fnv};
 ghost use Rattle.table.specs.Table.{home};
 
 // h times 2^40 + 2^8 + 2^7 + 2^5 + 2^4 + 2 + 1, modulo 2^64.
-pub fn wrapping_mul_prime(h: u64) -> u64
+fn wrapping_mul_prime(h: u64) -> u64
     ensures { λ r. ⌜ r ≡ (h * 1099511628211) % 2 ^ 64 ⌝ }
 {
     let a = wrapping_add_u64(h << 40, h << 8);
@@ -29,7 +29,7 @@ fn join(h: u64, b: u8) -> u64
     wrapping_mul_prime(h ^ long(b))
 }
 
-pub fn fnv1a(s: &[u8]) -> u64
+fn fnv1a(s: &[u8]) -> u64
     ensures { λ r. ⌜ r ≡ fnv (now (s .entry)) ⌝ }
 {
     let mut h: u64 = 14695981039346656037;
@@ -42,7 +42,7 @@ pub fn fnv1a(s: &[u8]) -> u64
 }
 
 // The bucket at which the walk for a key starts.
-pub fn home(key: &[u8]) -> usize
+pub(crate) fn home(key: &[u8]) -> usize
     ensures { λ r. ⌜ (r ≡ home (now (key .entry))) × (r < 512) ⌝ }
 {
     (fnv1a(key) % 512) as usize

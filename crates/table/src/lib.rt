@@ -1,6 +1,6 @@
-// A table of 512 buckets beside a book, that finds a key by its hash. A bucket holds a slot's number counted from 1, or 0.
-pub mod hash;
-pub mod look;
+// A table of 512 buckets beside a book, by which the slot of a key is found. A bucket holds a slot's number counted from 1, or 0.
+mod hash;
+mod look;
 pub mod many;
 
 use form::HEAD;
@@ -47,7 +47,7 @@ fn free_spot(table: &[u8], h: usize) -> usize
 }
 
 // Fills the table from a book with n records.
-pub fn fill_table(book: &[u8], n: usize, table: &mut [u8])
+pub(crate) fn fill_table(book: &[u8], n: usize, table: &mut [u8])
     requires { ⌜ Counts Current (now book) n × (length (now table) ≡ 512) ⌝ }
     ensures { λ _. ⌜ now (table .exit) ≡ filled (keyAt Current (now (book .entry))) n ⌝ }
 {
@@ -61,7 +61,7 @@ pub fn fill_table(book: &[u8], n: usize, table: &mut [u8])
 }
 
 // The slot of `key`, in a book with n records, by the table that filling gives.
-pub fn probe(book: &[u8], n: usize, table: &[u8], key: &[u8]) -> Slot
+pub(crate) fn probe(book: &[u8], n: usize, table: &[u8], key: &[u8]) -> Slot
     requires { ⌜ Counts Current (now book) n × (now table ≡ filled (keyAt Current (now book)) n) ⌝ }
     ensures { λ r. ⌜ Told (keyAt Current (now (book .entry))) n (now (key .entry)) r ⌝ }
 {

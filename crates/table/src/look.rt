@@ -40,7 +40,7 @@ fn look_key(book: &[u8], n: usize, table: &[u8], key: &[u8], out: &mut [u8]) -> 
 }
 
 // Copies what a text that is its own rendering holds to the start of `out`, and answers its length.
-pub fn look_text(book: &[u8], n: usize, table: &[u8], text: &[u8], out: &mut [u8]) -> Written
+pub(crate) fn look_text(book: &[u8], n: usize, table: &[u8], text: &[u8], out: &mut [u8]) -> Written
     requires { ⌜ Counts Current (now book) n × (now table ≡ filled (keyAt Current (now book)) n) ⌝ }
     requires { ⌜ 64 ≤ length (now out) ⌝ }
     ensures { λ r. ⌜ Looked Current Plain (now (book .entry)) (now (text .entry)) (now (out .entry)) r (now (out .exit)) ⌝ }
