@@ -79,6 +79,24 @@ static void look_up(const uint8_t *book, size_t size, const char *path) {
     }
 }
 
+/* Many texts in one call, by a table that is filled from the book; it is filled anew once a record comes or goes. */
+static int look_up_many(const uint8_t *book, size_t size, const char *texts) {
+    uint8_t table[HP_BOOK_TABLE];
+    uint8_t answers[2 * HP_BOOK_ANSWER];
+    uint8_t refusal = hp_book_fill(book, size, table, sizeof table);
+    if (refusal != HP_DONE) {
+        return refused("fill", refusal);
+    }
+    struct hp_written written = hp_book_lookup_many(book, size, table, sizeof table, TEXT(texts), answers, sizeof answers);
+    if (written.refusal != HP_DONE) {
+        return refused("many", written.refusal);
+    }
+    for (const uint8_t *answer = answers; answer < answers + written.length; answer += HP_BOOK_ANSWER) {
+        printf("many      %d, a value of %d bytes: \"%.*s\"\n", answer[0], answer[1], answer[1], (const char *)answer + 2);
+    }
+    return 0;
+}
+
 /* Texts of one path share a record; another client, zeros and all, has its own. */
 static int keep_it(void) {
     static uint8_t book[HP_BOOK_SIZE(2)];
@@ -101,7 +119,7 @@ static int keep_it(void) {
         return refused("oldest", oldest.refusal);
     }
     printf("oldest    revision number %" PRIu64 ", height %" PRIu64 "\n", oldest.number, oldest.height);
-    return 0;
+    return look_up_many(book, sizeof book, "clients/07-tendermint-4/consensusStates/7-2\nports/transfer\n");
 }
 
 /* A network that names its ports in Greek: the wide calls take what the plain ones refuse. */

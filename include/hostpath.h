@@ -1,11 +1,11 @@
 /* IBC host paths and identifiers, and books of records under such paths: the C interface of libhostpath.a.
  *
  * Every call takes any bytes and any numbers. A text is a pointer and a count of bytes, a null
- * pointer with count 0 among them; `out` and `book` are lent buffers, each a pointer and a size in the
- * same way. What a call may write lies apart from all else that is lent to it: `out` from every text
- * and from the book, and a book that is written from the text and the value. A success writes from
- * byte 0 of `out` and leaves the bytes after what it wrote. A refusal changes no byte of any buffer;
- * its length, numbers and value are 0.
+ * pointer with count 0 among them; `out`, `book` and `table` are lent buffers, each a pointer and a size
+ * in the same way. What a call may write lies apart from all else that is lent to it: `out` from every
+ * text, from the book and from the table, a table that is filled from the book, and a book that is
+ * written from the text and the value. A success writes from byte 0 of `out` and leaves the bytes after
+ * what it wrote. A refusal changes no byte of any buffer; its length, numbers and value are 0.
  *
  * The numbers after a call are its refusals, in the order in which they are looked for; 0 is done.
  * The library is proved in Rattle; rust/hostpath has the same calls for Rust, and examples/path.c uses them.
@@ -75,7 +75,9 @@ enum {
     HP_BOOK_SLOT = 321,      /* a slot: HP_BOOK_KEY, HP_BOOK_VALUE and the lengths of both */
     HP_BOOK_KEY = 255,       /* the longest key */
     HP_BOOK_VALUE = 64,      /* the longest value; the shortest has one byte */
-    HP_BOOK_MOST = 200       /* the slots of the largest book; the smallest has one */
+    HP_BOOK_MOST = 200,      /* the slots of the largest book; the smallest has one */
+    HP_BOOK_TABLE = 512,     /* a table of buckets beside a book, by which hp_book_lookup_many finds records */
+    HP_BOOK_ANSWER = 66      /* what hp_book_lookup_many writes for a text */
 };
 
 /* A book of so many slots is a buffer of this size.

@@ -200,7 +200,7 @@ function of_call(what, n) {
         say("    unsafe { c::hp_" call[n] "(" rust_arguments(n, "passed") ") }\n}")
     } else if (what == "calls") say(camel(call[n]) ",")
     else if (what == "names of calls") say("\"hp_" call[n] "\" => Self::" camel(call[n]) ",")
-    else if (what == "what calls take") say("Self::" camel(call[n]) " => [" has(n, "kind") ", " has(n, "book") ", " has(n, "out") "],")
+    else if (what == "what calls take") say("Self::" camel(call[n]) " => [" has(n, "kind") ", " has(n, "book") ", " lends(n) "],")
     else if (what == "calls in the wide mode") {
         if (is_wide(n)) say("Self::" camel(plain(n)) " => Self::" camel(call[n]) ",")
     } else if (what == "calls of the wide mode") {
@@ -255,12 +255,23 @@ function has(n, argument,    i) {
     return "false"
 }
 
+# Whether a lent buffer that the call writes is no book: `out`, by whatever name.
+function fills(n, i) {
+    return type[n, i] ~ /mut/ && name[n, i] != "book"
+}
+
+function lends(n,    i) {
+    for (i = 1; i <= count[n]; i++) if (fills(n, i)) return "true"
+    return "false"
+}
+
 # A call's arguments out of a `Call`: texts and numbers by their order, the others by name.
 function from_call(n,    i, all, texts, numbers) {
     for (i = 1; i <= count[n]; i++) {
         all = all (i > 1 ? ", " : "")
         if (type[n, i] == "u64") all = all "numbers[" (numbers++) "]"
         else if (type[n, i] == "&[u8]" && name[n, i] != "book") all = all "texts[" (texts++) "]"
+        else if (fills(n, i)) all = all "out"
         else all = all name[n, i]
     }
     return all

@@ -2,6 +2,7 @@
 use std::collections::BTreeMap;
 
 use model::book::{Answer, Book, Buffer, Call, Manner, MOST, VALUE};
+use model::many::{filled, BUCKETS};
 use model::path::KINDS;
 use model::pool::Pools;
 use model::random::Random;
@@ -34,6 +35,14 @@ impl Lent {
         Self(Buffer::of(bytes))
     }
 
+    /// The table that filling gives; of a buffer that is no book, one without buckets.
+    pub fn table(&self) -> Vec<u8> {
+        match &self.0 {
+            Buffer::Book(book) => filled(book),
+            Buffer::Other(_) => vec![0; BUCKETS],
+        }
+    }
+
     /// A check of a call: its answer, and all bytes of the book after it.
     pub fn check(&mut self, set: &mut Set, call: &Call) {
         set.count();
@@ -59,6 +68,10 @@ impl Lent {
             }
             Call::Oldest(client) => (asked(Function::BookOldest, [client, b""]), 0),
             Call::Convert(old) => (asked(Function::BookConvert, [old, b""]), 0),
+            Call::Fill(room) => (asked(Function::BookFill, [b"", b""]), *room),
+            Call::LookupMany(table, texts, room) => {
+                (asked(Function::BookLookupMany, [table, texts]), *room)
+            }
         };
         set.on_book(call, room, &answer, &self.0.bytes());
         answer
@@ -104,7 +117,7 @@ impl<'a> Chance<'a> {
         self.random.of(&Manner::BOTH)
     }
 
-    fn text(&mut self) -> Vec<u8> {
+    pub fn text(&mut self) -> Vec<u8> {
         if self.random.one_in(12) {
             return spelling::odd(self.pools, self.random);
         }
@@ -137,7 +150,7 @@ impl<'a> Chance<'a> {
         Call::Oldest(client)
     }
 
-    fn call(&mut self) -> Call {
+    pub fn call(&mut self) -> Call {
         match self.random.below(64) {
             0 => Call::New,
             1..=8 => self.oldest(),

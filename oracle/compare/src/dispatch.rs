@@ -270,7 +270,7 @@ impl Function {
             Self::BookLookupLenient => [false, true, true],
             Self::BookOldest => [false, true, false],
             Self::BookConvert => [false, true, false],
-            Self::BookFill => [false, true, false],
+            Self::BookFill => [false, true, true],
             Self::BookLookupMany => [false, true, true],
             // Above, made by bin/interface.
             Self::BookLend => [false, true, false],
@@ -345,7 +345,7 @@ pub fn make(call: &Call, book: &mut [u8], out: &mut [u8]) -> Returned {
         Function::BookLookupLenient => raw::book_lookup_lenient(book, texts[0], out).into(),
         Function::BookOldest => raw::book_oldest(book, texts[0]).into(),
         Function::BookConvert => raw::book_convert(texts[0], book).into(),
-        Function::BookFill => raw::book_fill(book, table).into(),
+        Function::BookFill => raw::book_fill(book, out).into(),
         Function::BookLookupMany => raw::book_lookup_many(book, texts[0], texts[1], out).into(),
         // Above, made by bin/interface.
         Function::BookLend => Returned::default(),

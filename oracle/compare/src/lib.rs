@@ -12,6 +12,7 @@ pub mod dispatch;
 pub mod identifiers;
 pub mod iteration;
 pub mod library;
+pub mod many;
 pub mod no_books;
 pub mod original;
 pub mod packets;
@@ -57,4 +58,5 @@ pub const FAMILIES: &[Sets] = &[
     books::SETS,
     no_books::SETS,
     conversions::SETS,
+    many::SETS,
 ];

@@ -200,6 +200,7 @@ impl<'a> Set<'a> {
         let (returned, text) = match answer {
             Ok(Given::Nothing) => (Returned::default(), &[][..]),
             Ok(Given::Value(value)) => (Returned::new(0, value.len() as u64), &value[..]),
+            Ok(Given::Table(table)) => (Returned::default(), &table[..]),
             Ok(Given::Heights([a, b])) => (Returned { refusal: 0, numbers: [*a, *b, 0] }, &[][..]),
             Err(refusal) => (Returned::new(*refusal, 0), &[][..]),
         };

@@ -2,6 +2,7 @@
 use std::collections::BTreeMap;
 
 use crate::identifier::Identifier;
+use crate::many;
 use crate::path::{self, read_with_key};
 use crate::{
     hold, Mode, Refusal, ABSENT, BAD_BOOK, BAD_LENGTH, FULL, KEY_TOO_LONG, LOOSE, NO_ROOM,
@@ -102,6 +103,11 @@ impl Book {
 
     pub fn free(&self) -> usize {
         self.slots - self.records.len()
+    }
+
+    /// The keys in their order.
+    pub fn keys(&self) -> impl Iterator<Item = &Vec<u8>> {
+        self.records.keys()
     }
 
     /// 1, 2, 3, in a plain call 20, 10, 6, 11.
@@ -216,6 +222,10 @@ pub enum Call {
     Oldest(Vec<u8>),
     /// A book of version 1, to be turned into one of version 2 in the buffer that is lent.
     Convert(Vec<u8>),
+    /// The size of a buffer, of which a table is made.
+    Fill(usize),
+    /// A table, texts that byte 10 ends, and the room for what they hold.
+    LookupMany(Vec<u8>, Vec<u8>, usize),
 }
 
 impl Call {
@@ -225,7 +235,11 @@ impl Call {
             Self::Write(_, text, _) | Self::Remove(_, text) | Self::Lookup(_, text, _) => {
                 read_with_key(Mode::Plain, text).ok().map(|(_, key)| key)
             }
-            Self::New | Self::Oldest(_) | Self::Convert(_) => None,
+            Self::New
+            | Self::Oldest(_)
+            | Self::Convert(_)
+            | Self::Fill(_)
+            | Self::LookupMany(..) => None,
         }
     }
 }
@@ -236,6 +250,8 @@ pub enum Given {
     Nothing,
     Value(Value),
     Heights([u64; 2]),
+    /// A table, of whose length nothing is said.
+    Table(Vec<u8>),
 }
 
 pub type Answer = Result<Given, Refusal>;
@@ -274,6 +290,10 @@ impl Buffer {
                 book.lookup(*manner, text, *room).map(Given::Value)
             }
             (Call::Oldest(client), Self::Book(book)) => book.oldest(client).map(Given::Heights),
+            (Call::Fill(room), Self::Book(book)) => many::fill(book, *room).map(Given::Table),
+            (Call::LookupMany(table, texts, room), Self::Book(book)) => {
+                many::lookups(book, table, texts, *room).map(Given::Value)
+            }
         }
     }
 

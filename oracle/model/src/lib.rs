@@ -6,6 +6,7 @@ use std::ops::RangeInclusive;
 pub mod book;
 pub mod identifier;
 pub mod iteration;
+pub mod many;
 pub mod packet;
 pub mod path;
 pub mod pool;
@@ -36,6 +37,7 @@ pub const NOT_A_DIGIT: Refusal = 18;
 pub const TOO_LARGE: Refusal = 19;
 pub const LOOSE: Refusal = 20;
 pub const BAD_UTF8: Refusal = 21;
+pub const BAD_TABLE: Refusal = 22;
 pub const BAD_V2_KEY: Refusal = 24;
 
 /// What may be wrong with a number. The refusals that have a place.

@@ -63,6 +63,18 @@ const OPERATIONS: [(&str, Operation); 8] = [
 
 const VALUE: [u8; 32] = [7; 32];
 
+/// So many keys, and a book that is full of them.
+pub fn full(records: usize) -> (Vec<Vec<u8>>, Vec<u8>) {
+    let keys: Vec<Vec<u8>> = (0..records).map(key).collect();
+    let mut full = vec![0; book_size(records)];
+    let mut book = Book::new(&mut full).expect("a book's size");
+    for key in &keys {
+        book.write(key, &VALUE).expect("it has room");
+    }
+    assert_eq!(full[6], records as u8, "the keys differ");
+    (keys, full)
+}
+
 /// A full book, its keys, and whose turn it is.
 struct Desk {
     keys: Vec<Vec<u8>>,
@@ -73,13 +85,7 @@ struct Desk {
 
 impl Desk {
     fn new(records: usize) -> Self {
-        let keys: Vec<Vec<u8>> = (0..records).map(key).collect();
-        let mut full = vec![0; book_size(records)];
-        let mut book = Book::new(&mut full).expect("a book's size");
-        for key in &keys {
-            book.write(key, &VALUE).expect("it has room");
-        }
-        assert_eq!(full[6], records as u8, "the keys differ");
+        let (keys, full) = full(records);
         Self { keys, book: full.clone(), full, turn: 0 }
     }
 

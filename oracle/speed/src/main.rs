@@ -3,14 +3,17 @@
 //! formatting and beside a copy of their texts. Both sides get the same texts from one driver, turn by
 //! turn; a side's time is the least of its rounds. So it is with the programs askpath and rustask on a
 //! file of lines. Then calls on books, which the original lacks: time of a call over time of one reading
-//! of every key of its book. PICTURE is written with some of them as bars.
+//! of every key of its book, and of many lookups by one call over as many calls. PICTURE is written with
+//! some of them as bars.
 //!
 //! For oracle/count: `speed count OPERATION RECORDS TIMES` runs one operation on a book so many times,
+//! `speed many fill|once|alone TEXTS TIMES` looks many texts up in a book of 200 records,
 //! `speed names` prints the families, `speed pass NAME upper|lower TIMES` runs one side of one, and
 //! `speed text CALL KIND TIMES` has one text of a kind read, rendered or keyed by both sides.
 mod books;
 mod family;
 mod identifiers;
+mod many;
 mod numbers;
 mod paths;
 mod picture;
@@ -30,13 +33,14 @@ fn main() {
         ["count", operation, records, times] => {
             books::count(operation, number(records), number(times));
         }
+        ["many", operation, texts, times] => many::count(operation, number(texts), number(times)),
         ["names"] => families().for_each(|family| println!("{}", family.name)),
         ["pass", name, side, times] => {
             let family = families().find(|family| family.name == name).expect("a family's name");
             family.run(side == "upper", number(times) as u32);
         }
         ["text", call, kind, times] => texts::run(call, number(kind), number(times)),
-        _ => panic!("speed figures|count|names|pass|text .."),
+        _ => panic!("speed figures|count|many|names|pass|text .."),
     }
 }
 
@@ -49,7 +53,7 @@ fn families() -> impl Iterator<Item = Family> {
 fn figures(picture: &str, programs: Option<Family>) {
     let mut figures = vec![];
     println!("{:44}  ratio", "family");
-    for family in families().chain(programs).chain(books::families()) {
+    for family in families().chain(programs).chain(books::families()).chain(many::families()) {
         let ratio = family.ratio();
         println!("{:44} {ratio:6.2}", family.name);
         figures.push((family.name, ratio));

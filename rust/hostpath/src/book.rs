@@ -1,4 +1,6 @@
 //! The record book in a lent buffer.
+use core::slice::ChunksExact;
+
 use crate::{done, pair, raw, Refusal};
 
 /// The bytes before a book's slots.
@@ -11,6 +13,10 @@ pub const BOOK_MOST: usize = 200;
 pub const BOOK_KEY: usize = 255;
 /// The bytes of the longest value; the shortest has one.
 pub const BOOK_VALUE: usize = 64;
+/// The bytes of a table of buckets beside a book.
+pub const BOOK_TABLE: usize = 512;
+/// The bytes of an answer of [`Book::lookup_many`].
+pub const BOOK_ANSWER: usize = 66;
 
 /// The size of a book of so many slots.
 pub const fn book_size(slots: usize) -> usize {
@@ -107,6 +113,25 @@ impl<'a> Book<'a> {
         held(answer, room)
     }
 
+    /// Fills a table from the book, by which [`lookup_many`](Self::lookup_many) finds its records as they are now. 9.
+    pub fn fill(&self, table: &mut Table) -> Result<(), Refusal> {
+        done(raw::book_fill(self.0, table.0))
+    }
+
+    /// What [`lookup`](Self::lookup) gives for each of many texts, in their order: each text is ended by a line end, and
+    /// bytes after the last of these are a text if there are any. The room has [`BOOK_ANSWER`] bytes a text. Book and
+    /// table are checked once, and the table has to be filled anew after each write and removal. 9, 22, 4.
+    pub fn lookup_many<'b>(
+        &self,
+        table: &Table,
+        texts: &[u8],
+        room: &'b mut [u8],
+    ) -> Result<Answers<'b>, Refusal> {
+        let answer = raw::book_lookup_many(self.0, table.0, texts, room);
+        done(answer.refusal)?;
+        Ok(Answers(room[..answer.length as usize].chunks_exact(BOOK_ANSWER)))
+    }
+
     /// The smallest pair of revision number and height among a client's consensus states: of `10-2` and
     /// `7-2` the second, though it is the last in byte order of key. 9, the client's 2, 5, 6; then 12.
     pub fn oldest(&self, client_id: &[u8]) -> Result<(u64, u64), Refusal> {
@@ -119,3 +144,59 @@ fn held(answer: raw::Written, room: &[u8; BOOK_VALUE]) -> Result<&[u8], Refusal>
     done(answer.refusal)?;
     Ok(&room[..answer.length as usize])
 }
+
+/// A table of buckets in a lent buffer beside a book: which slot each record stands in, by the hash of its key.
+///
+/// ```
+/// use hostpath::{book_size, Book, Refusal, Table, BOOK_ANSWER, BOOK_TABLE};
+///
+/// let (mut buffer, mut buckets) = ([0; book_size(2)], [0; BOOK_TABLE]);
+/// let (mut book, mut table) = (Book::new(&mut buffer)?, Table::open(&mut buckets));
+/// book.write(b"ports/transfer", b"a digest")?;
+/// book.fill(&mut table)?;
+/// let (texts, mut room) = (b"ports/transfer\nports/icahost\nports", [0; 3 * BOOK_ANSWER]);
+/// let mut answers = book.lookup_many(&table, texts, &mut room)?;
+/// assert_eq!(answers.next(), Some(Ok(&b"a digest"[..])));
+/// assert_eq!(answers.next(), Some(Err(Refusal::Absent)));
+/// assert_eq!(answers.next(), Some(Err(Refusal::NotAPath)));
+/// assert_eq!(answers.next(), None);
+///
+/// book.write(b"ports/icahost", b"another")?; // so the table is stale
+/// assert_eq!(book.lookup_many(&table, texts, &mut room).err(), Some(Refusal::BadTable));
+/// # Ok::<(), Refusal>(())
+/// ```
+#[derive(Debug)]
+pub struct Table<'a>(&'a mut [u8; BOOK_TABLE]);
+
+impl<'a> Table<'a> {
+    /// Takes a buffer, whatever it holds. Nothing is looked at here: where it is not what [`Book::fill`] gives of a
+    /// book, [`Book::lookup_many`] on that book gives 22.
+    pub fn open(buffer: &'a mut [u8; BOOK_TABLE]) -> Self {
+        Self(buffer)
+    }
+
+    /// The table's bytes, as they may be stored and opened again.
+    pub fn bytes(&self) -> &[u8; BOOK_TABLE] {
+        self.0
+    }
+}
+
+/// The answers of [`Book::lookup_many`], in the order of its texts: each a value, or the refusal of that text alone.
+/// 1, 2, 3 (17, 18, 19), 20, 10, 12.
+#[derive(Clone, Debug)]
+pub struct Answers<'a>(ChunksExact<'a, u8>);
+
+impl<'a> Iterator for Answers<'a> {
+    type Item = Result<&'a [u8], Refusal>;
+
+    fn next(&mut self) -> Option<Self::Item> {
+        let answer = self.0.next()?;
+        Some(done(answer[0]).map(|()| &answer[2..][..answer[1].into()]))
+    }
+
+    fn size_hint(&self) -> (usize, Option<usize>) {
+        self.0.size_hint()
+    }
+}
+
+impl ExactSizeIterator for Answers<'_> {}

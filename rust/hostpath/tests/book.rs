@@ -1,5 +1,6 @@
 //! The book through its type.
-use hostpath::{book_size, Book, Refusal, BOOK_HEAD, BOOK_KEY, BOOK_MOST, BOOK_VALUE};
+use hostpath::{book_size, Book, Refusal, Table};
+use hostpath::{BOOK_ANSWER, BOOK_HEAD, BOOK_KEY, BOOK_MOST, BOOK_TABLE, BOOK_VALUE};
 
 const LOOSE: &[u8] = b"clients/07-tendermint-4/consensusStates/007-+2";
 const EXACT: &[u8] = b"clients/07-tendermint-4/consensusStates/7-2";
@@ -103,6 +104,69 @@ fn converted() {
         assert_eq!(Book::convert(&old, &mut other).map(|_| ()), Err(Refusal::NoRoom), "{size}");
         assert_eq!(other, vec![0xa5; size]);
     }
+}
+
+/// Each answer is that of a lookup alone, in the order of the texts, and what stands behind them is left.
+#[test]
+fn many() {
+    let mut buffer = [0; book_size(BOOK_MOST)];
+    let mut book = Book::new(&mut buffer).unwrap();
+    let ports: Vec<String> = (0..BOOK_MOST).map(|port| format!("ports/transfer.{port}")).collect();
+    for (port, at) in ports.iter().zip(1..) {
+        book.write(port.as_bytes(), &vec![at; 1 + usize::from(at) % BOOK_VALUE]).unwrap();
+    }
+    let mut buckets = [0xa5; BOOK_TABLE];
+    let mut table = Table::open(&mut buckets);
+    assert_eq!(book.fill(&mut table), Ok(()));
+    assert_eq!(table.bytes().iter().filter(|bucket| **bucket != 0).count(), BOOK_MOST);
+
+    let long = [b'u'; 4097];
+    let odd: [&[u8]; 8] =
+        [b"", b"ports/\xff", b"ports/absent", b"x/5x/upgradedClient", LOOSE, &long, b"", EXACT];
+    let texts: Vec<&[u8]> = ports.iter().map(String::as_bytes).chain(odd).collect();
+    for end in [&b""[..], b"\n"] {
+        let lines = [&texts.join(&b'\n'), end].concat();
+        let mut room = vec![0xa5; BOOK_ANSWER * texts.len() + 1];
+        let answers = book.lookup_many(&table, &lines, &mut room).unwrap();
+        assert_eq!(answers.len(), texts.len());
+        for (text, answer) in texts.iter().zip(answers) {
+            assert_eq!(answer.map(<[u8]>::to_vec), held(&book, text), "{}", text.escape_ascii());
+        }
+        assert_eq!(room.last(), Some(&0xa5));
+        let short = &mut room[..BOOK_ANSWER * texts.len() - 1];
+        assert_eq!(book.lookup_many(&table, &lines, short).err(), Some(Refusal::NoRoom));
+    }
+}
+
+/// The order of refusals, and which table is stale.
+#[test]
+fn tables() {
+    let mut buffer = [0; book_size(2)];
+    let mut book = Book::new(&mut buffer).unwrap();
+    let mut buckets = [0; BOOK_TABLE];
+    let mut table = Table::open(&mut buckets);
+    let many = |book: &Book, table: &Table, texts: &[u8]| {
+        let mut room = [0xa5; 2 * BOOK_ANSWER];
+        let answers = book.lookup_many(table, texts, &mut room).map(|answers| answers.len());
+        assert!(answers.is_ok() || room == [0xa5; 2 * BOOK_ANSWER]);
+        answers
+    };
+    assert_eq!(many(&book, &table, b""), Ok(0)); // no records, no buckets
+    assert_eq!(many(&book, &table, b"\n\n"), Ok(2));
+    book.write(EXACT, b"a digest").unwrap();
+    assert_eq!(many(&book, &table, b"\n\n\n"), Err(Refusal::BadTable));
+    book.fill(&mut table).unwrap();
+    assert_eq!(many(&book, &table, b"\n\n\n"), Err(Refusal::NoRoom));
+    assert_eq!(many(&book, &table, EXACT), Ok(1));
+    book.write(EXACT, b"another").unwrap(); // the same keys, so the same table
+    assert_eq!(many(&book, &table, EXACT), Ok(1));
+    book.remove(EXACT).unwrap();
+    assert_eq!(many(&book, &table, EXACT), Err(Refusal::BadTable));
+    let (mut none, before) = ([0; 8], *table.bytes());
+    let none = Book::open(&mut none);
+    assert_eq!(none.fill(&mut table), Err(Refusal::BadBook));
+    assert_eq!(*table.bytes(), before);
+    assert_eq!(many(&none, &table, EXACT), Err(Refusal::BadBook));
 }
 
 /// A lent buffer may begin at any address.

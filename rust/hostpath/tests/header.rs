@@ -22,6 +22,8 @@ fn sizes() {
         ("BOOK_KEY", hostpath::BOOK_KEY),
         ("BOOK_VALUE", hostpath::BOOK_VALUE),
         ("BOOK_MOST", hostpath::BOOK_MOST),
+        ("BOOK_TABLE", hostpath::BOOK_TABLE),
+        ("BOOK_ANSWER", hostpath::BOOK_ANSWER),
     ] {
         assert_eq!(number(name), Some(size), "{name}");
     }

@@ -3,7 +3,7 @@ use core::ptr::{null, null_mut};
 
 use hostpath::raw::c::*;
 use hostpath::raw::{Fault, Packet, Pair, Written};
-use hostpath::{book_size, Book, BOOK_VALUE};
+use hostpath::{book_size, Book, BOOK_TABLE, BOOK_VALUE};
 
 const PORT: &[u8] = b"ports/transfer";
 
@@ -109,6 +109,9 @@ fn books() {
         assert_eq!(hp_book_lookup_lenient(null(), 0, null(), 0, null_mut(), 0), refused(9));
         assert_eq!(hp_book_convert(null(), 0, null_mut(), 0), 9);
         assert_eq!(hp_book_oldest(null(), 0, null(), 0), none);
+        assert_eq!(hp_book_fill(null(), 0, null_mut(), 0), 9);
+        let many = hp_book_lookup_many(null(), 0, null(), 0, null(), 0, null_mut(), 0);
+        assert_eq!(many, refused(9));
     }
     assert_eq!(out, [0; BOOK_VALUE]);
 }
@@ -129,6 +132,14 @@ fn texts_values_and_rooms() {
         assert_eq!(hp_book_lookup(book, n, port, size, null_mut(), 0), refused(4));
         let short = Pair { refusal: 6, number: 0, height: 0 };
         assert_eq!(hp_book_oldest(book, n, null(), 0), short);
+        assert_eq!(hp_book_fill(book, n, null_mut(), 0), 4);
+        let none = hp_book_lookup_many(book, n, null(), 0, null(), 0, null_mut(), 0);
+        assert_eq!(none, refused(22));
+        let empty = [0; BOOK_TABLE];
+        let (table, t) = (empty.as_ptr(), empty.len());
+        let nothing = hp_book_lookup_many(book, n, table, t, null(), 0, null_mut(), 0);
+        assert_eq!(nothing, Written { refusal: 0, length: 0 });
+        assert_eq!(hp_book_lookup_many(book, n, table, t, port, size, null_mut(), 0), refused(4));
     }
     assert_eq!(buffer, made);
 }
