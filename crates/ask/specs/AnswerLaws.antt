@@ -26,7 +26,7 @@ use Rattle.path.specs.Read.{refusalOf, placeOf, render, partsOf, textsOf, rende
 use Rattle.path.specs.View.{kindOf, carriedOf, viewOf}
 use Rattle.path.specs.ReadLaws.{made-range, has-both, kind-has, kind-parts}
 use Rattle.path.specs.BackLaws.{read-reads}
-use Rattle.path.specs.NumberLaws.{why-wrong, wrong-marks}
+use Rattle.path.specs.WrongLaws.{why-wrong, wrong-marks}
 use Rattle.path.specs.Length.{fixed}
 use Rattle.path.specs.ExactLaws.{rendering-not-longer}
 use Rattle.path.specs.MeasureLaws.{lengths, render-length, length-sums}

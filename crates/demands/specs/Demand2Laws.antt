@@ -25,7 +25,7 @@ use Rattle.path.specs.declared.Reading.{Reading}
 use Rattle.path.specs.declared.Reading.the-variants.{Read, Refused}
 use Rattle.path.specs.Kinds.{Carried, Kind, kinds}
 use Rattle.path.specs.Text.{partOf}
-use Rattle.path.specs.Read.{fitsKind, readFirst, partsOf, textsOf, render, renderPath, renderOf, readPath, keyBy, keyOf, bytesBy, readingBytes, refusalOf, whyNot, placeOf, faultOf, readFault}
+use Rattle.path.specs.Read.{fits, fitsKind, readFirst, partsOf, textsOf, render, renderPath, renderOf, readPath, keyBy, keyOf, bytesBy, readingBytes, refusalOf, whyNot, placeOf, faultOf, readFault}
 use Rattle.path.specs.View.{kindOf, carriedOf}
 use Rattle.path.specs.Valid.{Valid, only, ReadsAs}
 use Rattle.path.specs.Reads.{Has}
@@ -40,7 +40,7 @@ use Rattle.demands.specs.ToldLaws.{bytes26, told-back, length26}
 use Rattle.text.specs.declared.Fault.{Fault}
 use Rattle.text.specs.Fault.{hasPlace}
 use Rattle.path.specs.Number.{NumberWrong}
-use Rattle.path.specs.NumberLaws.{wrong-why, why-wrong, wrong-unread, wrong-marks}
+use Rattle.path.specs.WrongLaws.{asRefusal, back-fault, wrong-why, why-wrong, wrong-unread, wrong-marks}
 use Rattle.demands.specs.Written.{Done, Back, NoKind, WhenRead, NoNumber}
 
 -- ---- a call that writes a text, where there is room
@@ -153,18 +153,6 @@ IsRead t = (p : Path) × (e : Bool) × (readPath t ≡ Read p e)
 not-read : (t : List ℕ) (w : Refusal) → readPath t ≡ Refused w → IsRead t → ⊥
 not-read t w h x = let q = x .2 in let z : _≡_ {A = ℕ} 0 1 = cc in omega (arith, z)
 
--- a refusal with a place is told by its fault
-abbrev asRefusal : Fault → Refusal
-asRefusal f = cond (eqb (f .refusal) 17) (WithoutDigits (f .place)) (cond (eqb (f .refusal) 18) (WithoutDigit (f .place)) (AboveAll (f .place)))
-
-back-fault : (w : Refusal) → hasPlace (refusalOf w) ≡ true → asRefusal (faultOf w) ≡ w
-back-fault TooLong h = clash (let z : _≡_ {A = ℕ} 0 1 = cc in z)
-back-fault NotAscii h = clash (let z : _≡_ {A = ℕ} 0 1 = cc in z)
-back-fault NotAPath h = clash (let z : _≡_ {A = ℕ} 0 1 = cc in z)
-back-fault (WithoutDigits i) h = refl
-back-fault (WithoutDigit i) h = refl
-back-fault (AboveAll i) h = refl
-
 -- a number that has no place is none of theirs
 no-place : (n : ℕ) (w : Refusal) → hasPlace n ≡ false → hasPlace (refusalOf w) ≡ true → n ≡ refusalOf w → ⊥
 no-place n w h k e = let z : _≡_ {A = ℕ} 0 1 = cc in omega (arith, z)
@@ -216,7 +204,7 @@ module _ (t out : List ℕ) (f : Fault) (e : f ≡ readFault t (length out)) whe
     path-way : whyNot t ≡ NotAPath → readPath t ≡ Refused NotAPath → WhenRead t out f
     path-way y h =
         let m : f .refusal ≡ 3 = number-is NotAPath h in
-        let nothing : NoNumber t = λ w x. let k = wrong-marks t w x .placed in let z : w ≡ NotAPath = sym (wrong-why t w x) ∙ y in let q = rw z at k in clash (let z : _≡_ {A = ℕ} 0 1 = cc in z) in
+        let nothing : NoNumber fits t = λ w x. let k = wrong-marks t w x .placed in let z : w ≡ NotAPath = sym (wrong-why t w x) ∙ y in let q = rw z at k in clash (let z : _≡_ {A = ℕ} 0 1 = cc in z) in
         record {
           too-long = iff-no (λ q. omega arith) (λ q. omega (arith, q));
           not-ascii = iff-no (λ q. omega arith) (λ q. let b = q .1 in let z : _≡_ {A = ℕ} 0 1 = cc in omega (arith, z));
@@ -229,7 +217,7 @@ module _ (t out : List ℕ) (f : Fault) (e : f ≡ readFault t (length out)) whe
 
     number-way : (w : Refusal) → whyNot t ≡ w → (w ≡ NotAPath → ⊥) → readPath t ≡ Refused w → WhenRead t out f
     number-way w y n h =
-        let x : NumberWrong t w = why-wrong t w n y in
+        let x : NumberWrong fits t w = why-wrong t w n y in
         let k : hasPlace (refusalOf w) ≡ true = wrong-marks t w x .placed in
         let m : f .refusal ≡ refusalOf w = number-is w h in
         let other : (i : ℕ) → hasPlace i ≡ false → f .refusal ≡ i → ⊥ = λ i g q. no-place i w g k (sym q ∙ m) in
@@ -237,7 +225,7 @@ module _ (t out : List ℕ) (f : Fault) (e : f ≡ readFault t (length out)) whe
           too-long = iff-no (other 1 refl) (λ q. omega (arith, q));
           not-ascii = iff-no (other 2 refl) (λ q. let b = q .1 in let z : _≡_ {A = ℕ} 0 1 = cc in omega (arith, z));
           not-a-path = iff-no (other 3 refl) (λ q. q .3 w x);
-          bad-number = λ v g. (λ q. (l, a, subst (NumberWrong t) (sym (back-fault w k) ∙ ap asRefusal (sym (fault-is w h) ∙ q) ∙ back-fault v g) x), λ q. fault-is w h ∙ ap faultOf (sym y ∙ wrong-why t v (q .2)));
+          bad-number = λ v g. (λ q. (l, a, subst (NumberWrong fits t) (sym (back-fault w k) ∙ ap asRefusal (sym (fault-is w h) ∙ q) ∙ back-fault v g) x), λ q. fault-is w h ∙ ap faultOf (sym y ∙ wrong-why t v (q .2)));
           no-room = iff-no (other 4 refl) (λ q. not-read t w h (q .0));
           done = iff-no (other 0 refl) (λ q. not-read t w h (q .0));
           placeless = λ q. absurd (no-place (f .refusal) w q k m);
@@ -259,7 +247,7 @@ module _ (t out : List ℕ) (f : Fault) (e : f ≡ readFault t (length out)) whe
       read : IsRead t
       read = (p, x, h)
 
-      right : (w : Refusal) → NumberWrong t w → ⊥
+      right : (w : Refusal) → NumberWrong fits t w → ⊥
       right w y = let q = wrong-unread t w y in let z : _≡_ {A = ℕ} 0 1 = cc in omega (arith, z)
 
       go : (b : Bool) → leb 26 (length out) ≡ b → WhenRead t out f

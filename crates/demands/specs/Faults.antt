@@ -1,4 +1,4 @@
--- Request L3: what the four calls that answer a place say by it. `hp_read` tells exactly when the number alone is wrong (`when-read` in
+-- Request L3: what the calls that answer a place say by it. `hp_read` tells exactly when the number alone is wrong (`when-read` in
 -- Demand2); here is that at most one kind is meant, and what the place of 17, 18 and 19 tells whoever mends the text.
 -- Assumes nothing.
 use Prim.Native.Nat.{ℕ, _+_, _-_, _≤_}
@@ -11,22 +11,28 @@ use denote.Ref.{now}
 use Rattle.text.specs.declared.Fault.{Fault}
 use Rattle.text.specs.Bytes.{bytes}
 use Rattle.text.specs.Fault.{fault, hasPlace, Mends}
+use Rattle.text.specs.Part.{every}
 use Rattle.identifiers.specs.Check.{namedOf, indexPlace, namedIndexFault, faultOf}
 use Rattle.identifiers.specs.FaultLaws.{index-mends, check-last-of, named-index-last-of}
 use Rattle.path.specs.declared.Place.{Place}
 use Rattle.path.specs.declared.Refusal.{Refusal}
 use Rattle.path.specs.Text.{partOf}
 use Rattle.path.specs.Number.{Marks}
-use Rattle.path.specs.NumberLaws.{wrong-marks}
+use Rattle.path.specs.WrongLaws.{wrong-marks}
 use Rattle.path.specs.Read.{suitsKind}
 use Rattle.path.specs.Read as paths
 use Rattle.path.specs.Reads.{kindAt}
 use Rattle.path.specs.ReadLaws.{suits-one}
+use Rattle.wide.specs.Check.{namedIndexFaultIn, faultIn}
 use Rattle.demands.specs.PathCalls.{ReadCall}
+use Rattle.demands.specs.WideAlikeLaws.{wide-last-of, wide-index-last-of}
 use Rattle.demands.specs.Demand2.{when-read}
 use Rattle.hostpath.proofs.hp_validate_named_u64_index.Reads as hp-validate-named-u64-index
 use Rattle.hostpath.proofs.hp_validate_connection_identifier.Reads as hp-validate-connection-identifier
 use Rattle.hostpath.proofs.hp_validate_channel_identifier.Reads as hp-validate-channel-identifier
+use Rattle.hostpath.proofs.hp_wide_validate_named_u64_index.Reads as hp-wide-validate-named-u64-index
+use Rattle.hostpath.proofs.hp_wide_validate_connection_identifier.Reads as hp-wide-validate-connection-identifier
+use Rattle.hostpath.proofs.hp_wide_validate_channel_identifier.Reads as hp-wide-validate-channel-identifier
 
 -- ---- reading
 -- at most one kind fits but for its numbers
@@ -51,6 +57,11 @@ pub record IndexMarks (name s : List ℕ) (f : Fault) : Type 0 where
   pub from : length name + 1 ≤ f .place
   pub mends : Mends (drop (length name + 1) s) (f .refusal) (f .place - (length name + 1))
 
+-- the answer f to the check of s as that name and an index: 17, 18 and 19 have a place that tells this, and all else has 0
+pub record IndexSays (name s : List ℕ) (f : Fault) : Type 0 where
+  pub marks : hasPlace (f .refusal) ≡ true → IndexMarks name s f
+  pub placeless : hasPlace (f .refusal) ≡ false → f .place ≡ 0
+
 -- of an answer f that a contract names by its number n: 17, 18 and 19 come from the index alone
 module _ (name s : List ℕ) (n : ℕ) (last : hasPlace n ≡ true → n ≡ namedOf name s) (f : Fault) (e : f ≡ fault n (indexPlace name s)) where
   marks-of : hasPlace (f .refusal) ≡ true → IndexMarks name s f
@@ -64,26 +75,30 @@ module _ (name s : List ℕ) (n : ℕ) (last : hasPlace n ≡ true → n ≡ nam
       let k : hasPlace n ≡ false = subst (λ (x : Fault). hasPlace (x .refusal) ≡ false) e h in
       ap (λ (x : Fault). x .place) e ∙ rw k
 
-pub named-marks : (κs : _) (a : _) (r : _) (s : _) → hp-validate-named-u64-index.Post κs a r s → hasPlace (r .refusal) ≡ true → IndexMarks (now (a .1 .0)) (now (a .0)) r
+  says-of : IndexSays name s f
+  says-of = record { marks = marks-of; placeless = placeless-of }
+
+pub named-says : (κs : _) (a : _) (r : _) (s : _) → hp-validate-named-u64-index.Post κs a r s → IndexSays (now (a .1 .0)) (now (a .0)) r
 unfolding namedIndexFault
-named-marks κs a r s p = marks-of _ _ _ (named-index-last-of (now (a .1 .0)) (now (a .0))) r p
+named-says κs a r s p = says-of _ _ _ (named-index-last-of (now (a .1 .0)) (now (a .0))) r p
 
-pub named-placeless : (κs : _) (a : _) (r : _) (s : _) → hp-validate-named-u64-index.Post κs a r s → hasPlace (r .refusal) ≡ false → r .place ≡ 0
-unfolding namedIndexFault
-named-placeless κs a r s p = placeless-of _ _ _ (named-index-last-of (now (a .1 .0)) (now (a .0))) r p
-
-pub connection-marks : (κs : _) (a : _) (r : _) (s : _) → hp-validate-connection-identifier.Post κs a r s → hasPlace (r .refusal) ≡ true → IndexMarks (bytes "connection") (now (a .0)) r
+pub connection-says : (κs : _) (a : _) (r : _) (s : _) → hp-validate-connection-identifier.Post κs a r s → IndexSays (bytes "connection") (now (a .0)) r
 unfolding faultOf
-connection-marks κs a r s p = marks-of _ _ _ (check-last-of (bytes "connection") (now (a .0)) 10 64) r p
+connection-says κs a r s p = says-of _ _ _ (check-last-of (bytes "connection") (now (a .0)) 10 64) r p
 
-pub connection-placeless : (κs : _) (a : _) (r : _) (s : _) → hp-validate-connection-identifier.Post κs a r s → hasPlace (r .refusal) ≡ false → r .place ≡ 0
+pub channel-says : (κs : _) (a : _) (r : _) (s : _) → hp-validate-channel-identifier.Post κs a r s → IndexSays (bytes "channel") (now (a .0)) r
 unfolding faultOf
-connection-placeless κs a r s p = placeless-of _ _ _ (check-last-of (bytes "connection") (now (a .0)) 10 64) r p
+channel-says κs a r s p = says-of _ _ _ (check-last-of (bytes "channel") (now (a .0)) 8 64) r p
 
-pub channel-marks : (κs : _) (a : _) (r : _) (s : _) → hp-validate-channel-identifier.Post κs a r s → hasPlace (r .refusal) ≡ true → IndexMarks (bytes "channel") (now (a .0)) r
-unfolding faultOf
-channel-marks κs a r s p = marks-of _ _ _ (check-last-of (bytes "channel") (now (a .0)) 8 64) r p
+-- the same for letters beyond ASCII
+pub wide-named-says : (κs : _) (a : _) (r : _) (s : _) → hp-wide-validate-named-u64-index.Post κs a r s → IndexSays (now (a .1 .0)) (now (a .0)) r
+unfolding namedIndexFaultIn
+wide-named-says κs a r s p = says-of _ _ _ (wide-index-last-of (now (a .1 .0)) (now (a .0))) r p
 
-pub channel-placeless : (κs : _) (a : _) (r : _) (s : _) → hp-validate-channel-identifier.Post κs a r s → hasPlace (r .refusal) ≡ false → r .place ≡ 0
-unfolding faultOf
-channel-placeless κs a r s p = placeless-of _ _ _ (check-last-of (bytes "channel") (now (a .0)) 8 64) r p
+pub wide-connection-says : (κs : _) (a : _) (r : _) (s : _) → hp-wide-validate-connection-identifier.Post κs a r s → IndexSays (bytes "connection") (now (a .0)) r
+unfolding faultIn every
+wide-connection-says κs a r s p = says-of _ _ _ (wide-last-of (bytes "connection") (now (a .0)) refl 10 64) r p
+
+pub wide-channel-says : (κs : _) (a : _) (r : _) (s : _) → hp-wide-validate-channel-identifier.Post κs a r s → IndexSays (bytes "channel") (now (a .0)) r
+unfolding faultIn every
+wide-channel-says κs a r s p = says-of _ _ _ (wide-last-of (bytes "channel") (now (a .0)) refl 8 64) r p

@@ -9,25 +9,30 @@ use lib.Dec.{eqb, ltb, leb}
 use lib.ListN.{length, drop, getD}
 use borrow.Author.Tests.{lt-leb, ltb-true, ne-eqb}
 use Rattle.text.specs.Bytes.{bytes}
+use Rattle.text.specs.Fault.{numeralFault, numeralPlace, hasPlace}
 use Rattle.text.specs.Number.{isDigit, withDigit, digitsFrom, digitsAt, numeralOf}
 use Rattle.text.specs.Part.{every, startsWith, same}
 use Rattle.text.specs.PartLaws.{and-left, and-right, every-append}
-use Rattle.identifiers.specs.Check.{indexOf, namedOf, Form, plain, indexed, Rule, formOf, charsOf, checkOf}
+use Rattle.identifiers.specs.FaultLaws.{check-last-of}
+use Rattle.identifiers.specs.Check.{first, unless, indexOf, namedOf, Form, plain, indexed, Rule, formOf, charsOf, checkOf}
 use Rattle.identifiers.specs.Check as check
+use Rattle.text.specs.declared.Numeral.{Numeral}
+use Rattle.path.specs.declared.Refusal.{Refusal}
 use Rattle.path.specs.declared.name.Name.{Name}
 use Rattle.path.specs.declared.name.Name.the-variants.{Client as client, Connection as connection, Port as port, Channel as channel, Upgrade as upgrade}
 use Rattle.path.specs.Kinds.{Part, word, name, count, pair, Kind, kinds}
-use Rattle.path.specs.Text.{components, component, onto, cutStep, cutAt, joinBy}
+use Rattle.path.specs.Text.{components, component, onto, cutStep, cutAt, joinBy, places, placesFrom}
 use Rattle.path.specs.TextLaws.{without, allWithout, join-cut, cut-join}
 use Rattle.path.specs.Read.{nameFault, arePair, fits, allFrom, fitsKind}
 use Rattle.path.specs.Reads.{Has}
+use Rattle.path.specs.Number.{Wrong, BadNumber, whole, before-dash, behind-dash, partAt, NumberWrong}
 use Rattle.path.specs.ReadLaws.{has-both}
 use Rattle.letters.specs.Character.{utf8}
 use Rattle.letters.specs.CharacterLaws.{utf8-none, utf8-at}
 use Rattle.letters.specs.Narrow.{narrow}
 use Rattle.letters.specs.NarrowLaws.{narrow-none, narrow-at, length-narrow, narrow-ascii, Mark, asLetter, asBlank, asOther, Alike, none, same as alike-byte, other, alike}
 use Rattle.wide.specs.Mode.{wide}
-use Rattle.wide.specs.Check.{charsIn, checkIn}
+use Rattle.wide.specs.Check.{charsIn, checkIn, namedIndexIn}
 use Rattle.wide.specs.Render.{nameFaultIn}
 use Rattle.demands.specs.WideWritten.{fitsWide, fitsKindWide}
 
@@ -140,6 +145,33 @@ name-picture port c u = check-picture check.port tt c u
 name-picture channel c u = check-picture check.channel refl c u
 name-picture upgrade c u = rw (u, narrow-ascii c, alike-without 47 refl (alike c))
 
+-- ---- a wide check gives 17, 18 or 19 only by its index
+check-broken : (r : Rule) (s : List ℕ) → utf8 s ≡ false → checkIn wide r s ≡ 21
+unfolding wide checkIn charsIn
+check-broken r s u = rw u
+
+placeless-21 : {n : ℕ} → n ≡ 21 → hasPlace n ≡ true → ⊥
+placeless-21 e h = let k : hasPlace 21 ≡ true = subst (λ (m : ℕ). hasPlace m ≡ true) e h in let z : _≡_ {A = ℕ} 0 1 = cc in omega arith
+
+module _ (w s : List ℕ) where
+  pub wide-last-of : every clear w ≡ true → (least most : ℕ) → hasPlace (checkIn wide (record { least = least; most = most; form = indexed w }) s) ≡ true → checkIn wide (record { least = least; most = most; form = indexed w }) s ≡ namedOf w s
+  wide-last-of c least most h = go (utf8 s) refl
+    where
+      go : (v : Bool) → utf8 s ≡ v → checkIn wide (record { least = least; most = most; form = indexed w }) s ≡ namedOf w s
+      go true u =
+          let e = check-picture (record { least = least; most = most; form = indexed w }) c s u in
+          e ∙ check-last-of w (narrow s) least most (subst (λ (m : ℕ). hasPlace m ≡ true) e h) ∙ named-alike w c (alike s)
+      go false u = absurd (placeless-21 (check-broken (record { least = least; most = most; form = indexed w }) s u) h)
+
+  pub wide-index-last-of : hasPlace (namedIndexIn wide s w) ≡ true → namedIndexIn wide s w ≡ namedOf w s
+  unfolding wide namedIndexIn
+  wide-index-last-of h = go (utf8 s) (utf8 w) h
+    where
+      go : (a b : Bool) → hasPlace (first (unless 21 a) (first (unless 21 b) (namedOf w s))) ≡ true → first (unless 21 a) (first (unless 21 b) (namedOf w s)) ≡ namedOf w s
+      go true true k = refl
+      go true false k = absurd (placeless-21 refl k)
+      go false b k = absurd (placeless-21 refl k)
+
 -- ---- cut
 pub data Alikes : List (List ℕ) → List (List ℕ) → Type 0 where
   nil : Alikes [] []
@@ -221,6 +253,16 @@ components-narrow t = go (components t) (cut-some t) (cut-without t) (join-cut 4
     go [] l h e = absurd (omega arith)
     go (c ∷ cs) l h e = ap (λ (x : List ℕ). components (narrow x)) (sym e) ∙ ap components (narrow-join (c ∷ cs)) ∙ cut-join 47 (narrow c) (map narrow cs) (without-narrow (c ∷ cs) h)
 
+-- ---- a text and its picture have their slashes at the same places
+alike-places : {s u : List ℕ} → Alike s u → (i : ℕ) → placesFrom i u ≡ placesFrom i s
+unfolding placesFrom
+alike-places none i = refl
+alike-places (alike-byte {b} h x) i = rw (alike-places x (i + 1))
+alike-places (other {b} {m} h k x) i = rw (high-apart b m 47 h k refl, marks-apart b m 47 h k refl, alike-places x (i + 1))
+
+pub places-narrow : (t : List ℕ) → places (narrow t) ≡ places t
+places-narrow t = alike-places (alike t) 0
+
 -- each is UTF-8
 abbrev pub allTaken : List (List ℕ) → Bool
 allTaken [] = true
@@ -277,3 +319,98 @@ module _ (t : List ℕ) (u : utf8 t ≡ true) where
       let c = has-both (λ x. partsClear (x .parts)) (λ x. true) m clear-all in
       let l : length (components (narrow t)) ≡ length (components t) = ap length (components-narrow t) ∙ length-map (components t) in
       rw (l, fit-from 0 (e .parts) c)
+
+-- ---- a number of the picture is bad exactly where the text's own is
+record Same (s u : List ℕ) : Type 0 where
+  numeral : numeralOf u ≡ numeralOf s
+  size : length u ≡ length s
+
+same-back : {s u : List ℕ} → Same s u → Same u s
+same-back x = record { numeral = sym (x .numeral); size = sym (x .size) }
+
+same-of : {s u : List ℕ} → Alike s u → Same s u
+same-of x = record { numeral = numeral-alike x; size = alike-length x }
+
+wrong-same : {s u : List ℕ} {i : ℕ} {w : Refusal} → Same s u → Wrong u i w → Wrong s i w
+wrong-same {i = i} e x =
+    record {
+      no-number = λ v. x .no-number (v .0, e .numeral ∙ v .1);
+      number = x .number ∙ ap numeralFault (e .numeral);
+      place = x .place ∙ ap (λ (n : Numeral). i + numeralPlace n) (e .numeral);
+    }
+
+-- two texts with a dash between, of numbers alike
+record Cut (cs : List (List ℕ)) (r h : List ℕ) : Type 0 where
+  first-text : List ℕ
+  second-text : List ℕ
+  cut : cs ≡ first-text ∷ (second-text ∷ [])
+  first-same : Same first-text r
+  second-same : Same second-text h
+
+cut-picture : {cs us : List (List ℕ)} → Alikes cs us → (r h : List ℕ) → us ≡ r ∷ (h ∷ []) → Cut cs r h
+cut-picture nil r h e = let z : _≡_ {A = ℕ} 0 1 = cc in absurd (omega arith)
+cut-picture (cons x nil) r h e = let z : _≡_ {A = ℕ} 0 1 = cc in absurd (omega arith)
+cut-picture (cons {c = c} {u = u} x (cons {c = d} {u = v} y nil)) r h e =
+    let p : u ≡ r = cc in
+    let q : v ≡ h = cc in
+    record { first-text = c; second-text = d; cut = refl; first-same = subst (Same c) p (same-of x); second-same = subst (Same d) q (same-of y) }
+cut-picture (cons x (cons y (cons z zs))) r h e = let z : _≡_ {A = ℕ} 0 1 = cc in absurd (omega arith)
+
+cut-itself : {cs us : List (List ℕ)} → Alikes cs us → (r h : List ℕ) → cs ≡ r ∷ (h ∷ []) → Cut us r h
+cut-itself nil r h e = let z : _≡_ {A = ℕ} 0 1 = cc in absurd (omega arith)
+cut-itself (cons x nil) r h e = let z : _≡_ {A = ℕ} 0 1 = cc in absurd (omega arith)
+cut-itself (cons {c = c} {u = u} x (cons {c = d} {u = v} y nil)) r h e =
+    let p : c ≡ r = cc in
+    let q : d ≡ h = cc in
+    record { first-text = u; second-text = v; cut = refl; first-same = subst (Same u) p (same-back (same-of x)); second-same = subst (Same v) q (same-back (same-of y)) }
+cut-itself (cons x (cons y (cons z zs))) r h e = let z : _≡_ {A = ℕ} 0 1 = cc in absurd (omega arith)
+
+-- where numbers are alike, and the texts with a dash between
+module _ (s u : List ℕ) (whole-same : Same s u) (cut-same : (r h : List ℕ) → cutAt 45 u ≡ r ∷ (h ∷ []) → Cut (cutAt 45 s) r h) where
+  bad-same : {p : Part} {i : ℕ} {w : Refusal} → BadNumber p u i w → BadNumber p s i w
+  bad-same (whole x) = whole (wrong-same whole-same x)
+  bad-same (before-dash {r = r} {h = h} e x) = let c = cut-same r h e in before-dash (c .cut) (wrong-same (c .first-same) x)
+  bad-same {w = w} (behind-dash {r = r} {h = h} {i = i} e n x) =
+      let c = cut-same r h e in
+      let k : i + length r + 1 ≡ i + length (c .first-text) + 1 = ap (λ (m : ℕ). i + m + 1) (c .first-same .size) in
+      behind-dash (c .cut) (n .0, sym (c .first-same .numeral) ∙ n .1) (subst (λ (m : ℕ). Wrong (c .second-text) m w) k (wrong-same (c .second-same) x))
+
+clear-at : (ps : List Part) (k : ℕ) → partsClear ps ≡ true → partClear (getD ps k count) ≡ true
+clear-at [] k h = refl
+clear-at (p ∷ ps) zero h = and-left (partClear p) _ h
+clear-at (p ∷ ps) (suc k) h = clear-at ps k (and-right (partClear p) _ h)
+
+module _ (t : List ℕ) (u : utf8 t ≡ true) (w : Refusal) where
+  part-itself : {e : Kind} → Has kinds e → (k : ℕ) → fits (partAt e k) (component (narrow t) k) ≡ fitsWide (partAt e k) (component t k)
+  part-itself {e} m k =
+      let c = has-both (λ x. partsClear (x .parts)) (λ x. true) m clear-all in
+      rw (component-narrow t u k) (fits-picture (partAt e k) (clear-at (e .parts) k c) (component t k) (taken-at (components t) k (all-taken t u)))
+
+  count-itself : length (components (narrow t)) ≡ length (components t)
+  count-itself = ap length (components-narrow t) ∙ length-map (components t)
+
+  pub wrong-itself : NumberWrong fits (narrow t) w → NumberWrong fitsWide t w
+  wrong-itself x =
+      let a = alike (component t (x .at)) in
+      record {
+        kind = x .kind;
+        listed = x .listed;
+        as-many = sym count-itself ∙ x .as-many;
+        at = x .at;
+        inside = x .inside;
+        bad = rw (← places-narrow t) (bad-same (component t (x .at)) (narrow (component t (x .at))) (same-of a) (cut-picture (alike-cut 45 refl a)) (rw (component-narrow t u (x .at)) at (x .bad)));
+        others = λ k l n. sym (part-itself (x .listed) k) ∙ x .others k l n;
+      }
+
+  pub wrong-picture : NumberWrong fitsWide t w → NumberWrong fits (narrow t) w
+  wrong-picture x =
+      let a = alike (component t (x .at)) in
+      record {
+        kind = x .kind;
+        listed = x .listed;
+        as-many = count-itself ∙ x .as-many;
+        at = x .at;
+        inside = x .inside;
+        bad = rw (component-narrow t u (x .at), places-narrow t) (bad-same (narrow (component t (x .at))) (component t (x .at)) (same-back (same-of a)) (cut-itself (alike-cut 45 refl a)) (x .bad));
+        others = λ k l n. part-itself (x .listed) k ∙ x .others k l n;
+      }

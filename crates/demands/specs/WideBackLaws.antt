@@ -41,18 +41,8 @@ use Rattle.wide.specs.Mode.{wide}
 use Rattle.wide.specs.Read.{readIn}
 use Rattle.wide.specs.Render.{nameFaultIn, namesFaultIn, renderIn}
 use Rattle.demands.specs.WideWritten.{WideValid, WideReadsAs}
-use Rattle.demands.specs.WideAlikeLaws.{high-apart, marks-apart, alike-without, name-picture, Alikes, nil, cons, alike-cut, narrow-join, allTaken, utf8-join}
+use Rattle.demands.specs.WideAlikeLaws.{high-apart, marks-apart, alike-without, name-picture, Alikes, nil, cons, alike-cut, narrow-join, places-narrow, allTaken, utf8-join}
 use Rattle.demands.specs.WideLaws.{accepts}
-
--- ---- a text and its picture have their slashes at the same places
-alike-places : {s u : List ℕ} → Alike s u → (i : ℕ) → placesFrom i u ≡ placesFrom i s
-unfolding placesFrom
-alike-places none i = refl
-alike-places (same {b} h x) i = rw (alike-places x (i + 1))
-alike-places (other {b} {m} h k x) i = rw (high-apart b m 47 h k refl, marks-apart b m 47 h k refl, alike-places x (i + 1))
-
-pub places-narrow : (t : List ℕ) → places (narrow t) ≡ places t
-places-narrow t = alike-places (alike t) 0
 
 -- ---- an accepted identifier: it is UTF-8, its picture is accepted, and it has no slash
 name-taken : (n : Name) (c : List ℕ) → nameFaultIn wide n c ≡ 0 → utf8 c ≡ true

@@ -11,7 +11,7 @@ use lib.ListN.{length}
 use borrow.Author.Tests.{lt-ltb, le-ltb, ltb-true, ltb-false, le-leb, leb-true}
 use Rattle.text.specs.declared.Fault.{Fault}
 use Rattle.text.specs.Fault.{hasPlace}
-use Rattle.text.specs.Part.{every, ascii}
+use Rattle.text.specs.Part.{every, ascii, same}
 use Rattle.text.specs.PartLaws.{and-left, and-right}
 use Rattle.text.specs.Put.{text, done, refusal, answer}
 use Rattle.identifiers.specs.Check.{unless, among, identifierByte, within, Rule, formOf}
@@ -20,7 +20,10 @@ use Rattle.path.specs.declared.Path.{Path}
 use Rattle.path.specs.declared.Refusal.the-variants.{TooLong, NotAscii, NotAPath, NoDigits as WithoutDigits, NotADigit as WithoutDigit, TooLarge as AboveAll}
 use Rattle.path.specs.declared.Reading.{Reading}
 use Rattle.path.specs.declared.Reading.the-variants.{Read, Refused}
-use Rattle.path.specs.Read.{readPath, bytesBy, readingBytes, readFault, faultOf}
+use Rattle.path.specs.Kinds.{kinds}
+use Rattle.path.specs.Read.{carriedFrom, readFirst, renderPath, readPath, bytesBy, readingBytes, readFault, faultOf}
+use Rattle.path.specs.ReadLaws.{read-has, kinds-apart}
+use Rattle.path.specs.BackLaws.{read-reads}
 use Rattle.letters.specs.declared.Character.{Character}
 use Rattle.letters.specs.declared.Character.the-variants.{Scalar, Broken}
 use Rattle.letters.specs.Character.{characters, each, utf8}
@@ -31,8 +34,8 @@ use Rattle.wide.specs.Mode.{wide}
 use Rattle.wide.specs.Check.{charsIn, checkIn}
 use Rattle.wide.specs.Read.{readIn, readingBytesIn, readFaultIn}
 use Rattle.demands.specs.Written.{WhenRead}
-use Rattle.demands.specs.WideWritten.{allowed, Fine, WhenWideRead}
-use Rattle.demands.specs.WideAlikeLaws.{fits-itself}
+use Rattle.demands.specs.WideWritten.{allowed, Fine, WideKind, WhenWideRead}
+use Rattle.demands.specs.WideAlikeLaws.{fits-itself, wrong-itself, wrong-picture}
 use Rattle.demands.specs.Demand2Laws.{when-read, iff-yes, iff-no}
 
 clash : {A : Type 0} → _≡_ {A = ℕ} 0 1 → A
@@ -57,6 +60,18 @@ each-same f g h (c ∷ cs) = rw (h c, each-same f g h cs)
 
 pub letters-allowed : (s : List ℕ) → every identifierByte (narrow s) ≡ each allowed (characters s)
 letters-allowed s = every-narrow identifierByte s ∙ each-same (λ c. identifierByte (seenAs c)) allowed seen-allowed (characters s)
+
+-- ---- the picture is read exactly where some kind fits the text itself
+module _ (t : List ℕ) (u : utf8 t ≡ true) where
+  read-kind : ((p : Path) × (e : Bool) × (readPath (narrow t) ≡ Read p e)) → WideKind t
+  read-kind x = let r = read-reads (narrow t) (x .0) (x .1) (x .2) in (r .kind, r .listed, sym (fits-itself t u (r .listed)) ∙ r .fitting)
+
+  kind-read : length t ≤ 4096 → WideKind t → (p : Path) × (e : Bool) × (readPath (narrow t) ≡ Read p e)
+  unfolding readPath
+  kind-read s x =
+      let p = x .0 .make (carriedFrom 0 (x .0 .parts) (narrow t)) in
+      let f = read-has (narrow t) (x .1) kinds-apart (fits-itself t u (x .1) ∙ x .2) in
+      (p, same (narrow t) (renderPath (narrow t) p), rw (length-narrow t, le-ltb 4096 (length t) s, narrow-ascii t, f))
 
 -- a check accepts exactly the texts that are fine
 pub accepts : (r : Rule) (s : List ℕ) → (checkIn wide r s ≡ 0) ↔ Fine r s
@@ -157,10 +172,10 @@ module _ (t out : List ℕ) (f : Fault) (e : f ≡ readFaultIn wide t (length ou
           record {
             too-long = (λ q. omega (arith, l, w .too-long .0 q), λ q. w .too-long .1 (omega (arith, l, q)));
             bad-utf8 = iff-no (λ q. never-21 q) (λ q. let v : utf8 t ≡ false = q .1 in clash cc);
-            not-a-path = (λ q. let x = w .not-a-path .0 q in (short, u, λ k m. sym (fits-itself t u m) ∙ x .2 k m, x .3), λ q. w .not-a-path .1 (s, low, λ k m. fits-itself t u m ∙ q .2 k m, q .3));
-            bad-number = λ x k. (λ q. (short, u, w .bad-number x k .0 q .2), λ q. w .bad-number x k .1 (s, low, q .2));
-            no-room = (λ q. let x = w .no-room .0 q in (short, u, x .0, x .1), λ q. w .no-room .1 (q .2, q .3));
-            done = (λ q. let x = w .done .0 q in (short, u, x .0, x .1), λ q. w .done .1 (q .2, q .3));
+            not-a-path = (λ q. let x = w .not-a-path .0 q in (short, u, λ k m. sym (fits-itself t u m) ∙ x .2 k m, λ v y. x .3 v (wrong-picture t u v y)), λ q. w .not-a-path .1 (s, low, λ k m. fits-itself t u m ∙ q .2 k m, λ v y. q .3 v (wrong-itself t u v y)));
+            bad-number = λ x k. (λ q. (short, u, wrong-itself t u x (w .bad-number x k .0 q .2)), λ q. w .bad-number x k .1 (s, low, wrong-picture t u x (q .2)));
+            no-room = (λ q. let x = w .no-room .0 q in (short, u, read-kind t u (x .0), x .1), λ q. w .no-room .1 (kind-read t u short (q .2), q .3));
+            done = (λ q. let x = w .done .0 q in (short, u, read-kind t u (x .0), x .1), λ q. w .done .1 (kind-read t u short (q .2), q .3));
             placeless = w .placeless;
           }
         where

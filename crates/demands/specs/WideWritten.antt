@@ -19,13 +19,12 @@ use Rattle.path.specs.Kinds.{Part, word, name, count, pair, Carried, Kind, kind
 use Rattle.path.specs.Text.{cutAt}
 use Rattle.path.specs.Reads.{Has}
 use Rattle.path.specs.Number.{NumberWrong}
-use Rattle.path.specs.Read.{isNumber, arePair, allFrom, componentCount, render, partsOf, textsOf, readPath, refusalOf, faultOf}
+use Rattle.path.specs.Read.{isNumber, arePair, allFrom, componentCount, render, partsOf, textsOf, refusalOf, faultOf}
 use Rattle.path.specs.View.{kindOf, carriedOf}
 use Rattle.letters.specs.declared.Character.{Character}
 use Rattle.letters.specs.declared.Character.the-variants.{Scalar, Broken}
 use Rattle.letters.specs.Character.{characters, each, utf8}
 use Rattle.letters.specs.Class.{isLetter}
-use Rattle.letters.specs.Narrow.{narrow}
 use Rattle.wide.specs.declared.reading.WideReading.the-variants.{Of}
 use Rattle.wide.specs.Mode.{wide}
 use Rattle.wide.specs.Read.{readIn}
@@ -75,16 +74,16 @@ fitsKindWide e t = eqb (componentCount t) (length (e .parts)) && allFrom fitsWid
 abbrev pub NoWideKind : List ℕ → Type 0
 NoWideKind t = (e : Kind) → Has kinds e → fitsKindWide e t ≡ false
 
--- the picture of the text is read
-abbrev pub PictureRead : List ℕ → Type 0
-PictureRead t = (p : Path) × (e : Bool) × (readPath (narrow t) ≡ Read p e)
+-- some kind of the table fits the text itself
+abbrev pub WideKind : List ℕ → Type 0
+WideKind t = (e : Kind) × Has kinds e × (fitsKindWide e t ≡ true)
 
 -- the answer f to a wide reading of t into `out`: each refusal exactly when
 pub record WhenWideRead (t out : List ℕ) (f : Fault) : Type 0 where
   pub too-long : (f .refusal ≡ tooLong) ↔ (4096 < length t)
   pub bad-utf8 : (f .refusal ≡ badUtf8) ↔ ((length t ≤ 4096) × (utf8 t ≡ false))
-  pub not-a-path : (f .refusal ≡ notAPath) ↔ ((length t ≤ 4096) × (utf8 t ≡ true) × NoWideKind t × NoNumber (narrow t))
-  pub bad-number : (w : Refusal) → hasPlace (refusalOf w) ≡ true → (f ≡ faultOf w) ↔ ((length t ≤ 4096) × (utf8 t ≡ true) × NumberWrong (narrow t) w)
-  pub no-room : (f .refusal ≡ noRoom) ↔ ((length t ≤ 4096) × (utf8 t ≡ true) × PictureRead t × (length out < 26))
-  pub done : (f .refusal ≡ 0) ↔ ((length t ≤ 4096) × (utf8 t ≡ true) × PictureRead t × (26 ≤ length out))
+  pub not-a-path : (f .refusal ≡ notAPath) ↔ ((length t ≤ 4096) × (utf8 t ≡ true) × NoWideKind t × NoNumber fitsWide t)
+  pub bad-number : (w : Refusal) → hasPlace (refusalOf w) ≡ true → (f ≡ faultOf w) ↔ ((length t ≤ 4096) × (utf8 t ≡ true) × NumberWrong fitsWide t w)
+  pub no-room : (f .refusal ≡ noRoom) ↔ ((length t ≤ 4096) × (utf8 t ≡ true) × WideKind t × (length out < 26))
+  pub done : (f .refusal ≡ 0) ↔ ((length t ≤ 4096) × (utf8 t ≡ true) × WideKind t × (26 ≤ length out))
   pub placeless : hasPlace (f .refusal) ≡ false → f .place ≡ 0

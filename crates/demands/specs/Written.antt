@@ -15,10 +15,10 @@ use Rattle.text.specs.Refusal.{tooLong, notAscii, notAPath, noRoom}
 use Rattle.path.specs.declared.Path.{Path}
 use Rattle.path.specs.declared.Reading.the-variants.{Read}
 use Rattle.path.specs.declared.Refusal.{Refusal}
-use Rattle.path.specs.Kinds.{Carried, Kind, kinds}
+use Rattle.path.specs.Kinds.{Part, Carried, Kind, kinds}
 use Rattle.path.specs.Text.{partOf}
 use Rattle.path.specs.Number.{NumberWrong}
-use Rattle.path.specs.Read.{fitsKind, readPath, refusalOf, faultOf}
+use Rattle.path.specs.Read.{fits, fitsKind, readPath, refusalOf, faultOf}
 use Rattle.path.specs.Reads.{Has}
 use Rattle.demands.specs.Told.{Told}
 
@@ -40,16 +40,16 @@ pub record Back (w : List ℕ) (said : Told) (kind : ℕ) (v : Carried (List ℕ
 abbrev pub NoKind : List ℕ → Type 0
 NoKind t = (e : Kind) → Has kinds e → fitsKind e t ≡ false
 
--- no kind fits but for a number
-abbrev pub NoNumber : List ℕ → Type 0
-NoNumber t = (w : Refusal) → NumberWrong t w → ⊥
+-- no kind fits but for a number, where `good` tells that a component is what a part asks for
+abbrev pub NoNumber : (Part → List ℕ → Bool) → List ℕ → Type 0
+NoNumber good t = (w : Refusal) → NumberWrong good t w → ⊥
 
 -- the answer f to a reading of t into `out`: each refusal exactly when. 17, 18 and 19 have the place that is told, and all else has 0
 pub record WhenRead (t out : List ℕ) (f : Fault) : Type 0 where
   pub too-long : (f .refusal ≡ tooLong) ↔ (4096 < length t)
   pub not-ascii : (f .refusal ≡ notAscii) ↔ ((length t ≤ 4096) × (ascii t ≡ false))
-  pub not-a-path : (f .refusal ≡ notAPath) ↔ ((length t ≤ 4096) × (ascii t ≡ true) × NoKind t × NoNumber t)
-  pub bad-number : (w : Refusal) → hasPlace (refusalOf w) ≡ true → (f ≡ faultOf w) ↔ ((length t ≤ 4096) × (ascii t ≡ true) × NumberWrong t w)
+  pub not-a-path : (f .refusal ≡ notAPath) ↔ ((length t ≤ 4096) × (ascii t ≡ true) × NoKind t × NoNumber fits t)
+  pub bad-number : (w : Refusal) → hasPlace (refusalOf w) ≡ true → (f ≡ faultOf w) ↔ ((length t ≤ 4096) × (ascii t ≡ true) × NumberWrong fits t w)
   pub no-room : (f .refusal ≡ noRoom) ↔ (((p : Path) × (e : Bool) × (readPath t ≡ Read p e)) × (length out < 26))
   pub done : (f .refusal ≡ 0) ↔ (((p : Path) × (e : Bool) × (readPath t ≡ Read p e)) × (26 ≤ length out))
   pub placeless : hasPlace (f .refusal) ≡ false → f .place ≡ 0

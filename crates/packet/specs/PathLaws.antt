@@ -26,7 +26,7 @@ use Rattle.path.specs.Kinds.{Part, word, name, count, pair, Kind, kinds}
 use Rattle.path.specs.Read.{fits, suits, fitsKind, suitsKind, readFirst, whyNot, readPath, refusalOf}
 use Rattle.path.specs.Reads.{Has}
 use Rattle.path.specs.ReadLaws.{allOf, kind-fits, kind-suits, has-both, is-reads}
-use Rattle.path.specs.NumberLaws.{why-wrong}
+use Rattle.path.specs.NumberLaws.{why-faulty}
 use Rattle.packet.specs.declared.PacketKind.{PacketKind}
 use Rattle.packet.specs.declared.PacketKind.the-variants.{Commitment, Receipt, Acknowledgement}
 use Rattle.packet.specs.Key.{markerOf, packetKey}
@@ -177,7 +177,7 @@ module _ (k : PacketKind) (c : List ℕ) (n : ℕ) (ok : checkOf client c ≡ 0)
   no-number = go (whyNot key) refl
     where
       other : (w : Refusal) → (refusalOf w ≡ 3 → ⊥) → whyNot key ≡ w → w ≡ NotAPath
-      other w h e = let x = why-wrong key w (λ q. h (ap refusalOf q)) e in absurd (no-suit (x .listed) (x .suiting))
+      other w h e = let x = why-faulty key w (λ q. h (ap refusalOf q)) e in absurd (no-suit (x .listed) (x .suiting))
 
       go : (w : Refusal) → whyNot key ≡ w → w ≡ NotAPath
       go NotAPath e = refl

@@ -20,3 +20,4 @@ pub mod TextLaws
 pub mod Valid
 pub mod View
 pub mod ViewLaws
+pub mod WrongLaws

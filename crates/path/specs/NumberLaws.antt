@@ -1,4 +1,5 @@
--- Laws of `Number`: the reader's answer is the first fault exactly where the number alone is wrong, and its place marks what to mend.
+-- Laws of `Number`: the reader's answer is the first fault exactly where the number alone is wrong, and its place marks what to mend. What
+-- the reader computes is `Faulty`; that it is `NumberWrong`, said of the text, is in WrongLaws.
 -- Assumes nothing.
 use Prim.Native.Nat.{ℕ, _+_, _≤_}
 use mathlib.Core.Path.{_≡_, refl, sym, ap, subst, _∙_}
@@ -28,22 +29,30 @@ use Rattle.path.specs.Kinds.{Part, word, name, count, pair, Kind, kinds}
 use Rattle.path.specs.Read.{fits, isNumber, componentCount, arePair, allFrom, suits, fitsKind, suitsKind, readFirst, numeralFaults, pairFaults, partFaults, faultsFrom, kindFaults, faultsAs, whyNot, refusalOf, placeOf}
 use Rattle.path.specs.Reads.{Has, here, later}
 use Rattle.path.specs.ReadLaws.{clashAll, apartAll, kinds-apart, suits-clash, suits-same, is-reads}
-use Rattle.path.specs.Number.{NumberWrong, Marks}
+use Rattle.path.specs.Number.{Marks}
+
+-- some kind of the table fits the text in every part but its numbers, and w is the first fault of these
+pub record Faulty (t : List ℕ) (w : Refusal) : Type 0 where
+  pub kind : Kind
+  pub listed : Has kinds kind
+  pub suiting : suitsKind kind t ≡ true
+  pub others : List Refusal
+  pub first : faultsFrom 0 (kind .parts) t ≡ w ∷ others
 
 -- ---- the first fault of a list of kinds is that of the kind that suits
-abbrev Wrong : List Kind → List ℕ → Refusal → Type 0
-Wrong es t w = (e : Kind) × Has es e × (suitsKind e t ≡ true) × (others : List Refusal) × (faultsFrom 0 (e .parts) t ≡ w ∷ others)
+abbrev First : List Kind → List ℕ → Refusal → Type 0
+First es t w = (e : Kind) × Has es e × (suitsKind e t ≡ true) × (others : List Refusal) × (faultsFrom 0 (e .parts) t ≡ w ∷ others)
 
-first-wrong : (es : List Kind) (t : List ℕ) (w : Refusal) → (w ≡ NotAPath → ⊥) → getD (faultsAs es t) 0 NotAPath ≡ w → Wrong es t w
+first-wrong : (es : List Kind) (t : List ℕ) (w : Refusal) → (w ≡ NotAPath → ⊥) → getD (faultsAs es t) 0 NotAPath ≡ w → First es t w
 unfolding faultsAs kindFaults
 first-wrong [] t w n h = absurd (n (sym h))
 first-wrong (e ∷ es) t w n h = go (suitsKind e t) refl (faultsFrom 0 (e .parts) t) refl h (λ k. first-wrong es t w n k)
   where
-    more : Wrong es t w → Wrong (e ∷ es) t w
+    more : First es t w → First (e ∷ es) t w
     more x = (x .0, later (x .1), x .2, x .3, x .4)
 
     go : (v : Bool) → suitsKind e t ≡ v → (fs : List Refusal) → faultsFrom 0 (e .parts) t ≡ fs → getD (cond v fs [] ++ faultsAs es t) 0 NotAPath ≡ w
-        → (getD (faultsAs es t) 0 NotAPath ≡ w → Wrong es t w) → Wrong (e ∷ es) t w
+        → (getD (faultsAs es t) 0 NotAPath ≡ w → First es t w) → First (e ∷ es) t w
     go false s fs f k ih = more (ih k)
     go true s [] f k ih = more (ih k)
     go true s (x ∷ fs) f k ih = (e, here, s, fs, f ∙ ap (λ (y : Refusal). y ∷ fs) k)
@@ -71,25 +80,25 @@ pair-none i (r ∷ []) h = refl
 pair-none i (r ∷ (k ∷ [])) h = rw (value-none i (numeralOf r) (and-left _ _ h)) (value-none (i + length r + 1) (numeralOf k) (and-right (isNumber r) _ h))
 pair-none i (r ∷ (k ∷ (x ∷ xs))) h = refl
 
-part-none : (p : Part) (i : ℕ) (c : List ℕ) → fits p c ≡ true → partFaults p i c ≡ []
+pub part-none : (p : Part) (i : ℕ) (c : List ℕ) → fits p c ≡ true → partFaults p i c ≡ []
 unfolding fits partFaults
 part-none (word w) i c h = refl
 part-none (name n) i c h = refl
 part-none count i c h = value-none i (numeralOf c) h
 part-none pair i c h = pair-none i (cutAt 45 c) h
 
-parts-none : (k : ℕ) (ps : List Part) (t : List ℕ) → allFrom fits k ps t ≡ true → faultsFrom k ps t ≡ []
+pub parts-none : (k : ℕ) (ps : List Part) (t : List ℕ) → allFrom fits k ps t ≡ true → faultsFrom k ps t ≡ []
 parts-none k [] t h = refl
 parts-none k (p ∷ ps) t h = rw (part-none p (placeAt t k .start) (component t k) (and-left _ _ h)) (parts-none (k + 1) ps t (and-right (fits p (component t k)) _ h))
 
-part-suits : (p : Part) (c : List ℕ) → fits p c ≡ true → suits p c ≡ true
+pub part-suits : (p : Part) (c : List ℕ) → fits p c ≡ true → suits p c ≡ true
 unfolding suits
 part-suits (word w) c h = h
 part-suits (name n) c h = h
 part-suits count c h = refl
 part-suits pair c h = refl
 
-parts-suit : (k : ℕ) (ps : List Part) (t : List ℕ) → allFrom fits k ps t ≡ true → allFrom suits k ps t ≡ true
+pub parts-suit : (k : ℕ) (ps : List Part) (t : List ℕ) → allFrom fits k ps t ≡ true → allFrom suits k ps t ≡ true
 parts-suit k [] t h = refl
 parts-suit k (p ∷ ps) t h = rw (part-suits p (component t k) (and-left _ _ h)) (parts-suit (k + 1) ps t (and-right (fits p (component t k)) _ h))
 
@@ -97,19 +106,19 @@ fits-suits : (e : Kind) (t : List ℕ) → fitsKind e t ≡ true → (suitsKind 
 unfolding fitsKind suitsKind
 fits-suits e t h = let f = and-right (eqb (componentCount t) (length (e .parts))) (allFrom fits 0 (e .parts) t) h in (rw (and-left (eqb (componentCount t) (length (e .parts))) (allFrom fits 0 (e .parts) t) h) (parts-suit 0 (e .parts) t f), parts-none 0 (e .parts) t f)
 
--- ---- so that the number alone is wrong exactly where the reader says so
+-- ---- so that there is a first fault exactly where the reader says so
 module _ (t : List ℕ) (w : Refusal) where
-  pub wrong-why : NumberWrong t w → whyNot t ≡ w
+  pub faulty-why : Faulty t w → whyNot t ≡ w
   unfolding whyNot
-  wrong-why x = wrong-first t w (x .others) (x .listed) kinds-apart (x .suiting) (x .first)
+  faulty-why x = wrong-first t w (x .others) (x .listed) kinds-apart (x .suiting) (x .first)
 
-  pub why-wrong : (w ≡ NotAPath → ⊥) → whyNot t ≡ w → NumberWrong t w
+  pub why-faulty : (w ≡ NotAPath → ⊥) → whyNot t ≡ w → Faulty t w
   unfolding whyNot
-  why-wrong n h = let x = first-wrong kinds t w n h in record { kind = x .0; listed = x .1; suiting = x .2; others = x .3; first = x .4 }
+  why-faulty n h = let x = first-wrong kinds t w n h in record { kind = x .0; listed = x .1; suiting = x .2; others = x .3; first = x .4 }
 
   -- such a text fits no kind
-  pub wrong-unread : NumberWrong t w → readFirst kinds t ≡ Nothing
-  wrong-unread x = go (readFirst kinds t) refl
+  pub faulty-unread : Faulty t w → readFirst kinds t ≡ Nothing
+  faulty-unread x = go (readFirst kinds t) refl
     where
       go : (a : PathAnswer) → readFirst kinds t ≡ a → a ≡ Nothing
       go Nothing h = refl
@@ -192,5 +201,5 @@ parts-mark t k (p ∷ ps) w others h =
     (λ rest e. part-marks t p (placeAt t k .start) (component t k) w rest (component-stands t k) e)
     (λ rest e. parts-mark t (k + 1) ps w rest e)
 
-pub wrong-marks : (t : List ℕ) (w : Refusal) → NumberWrong t w → Marks t w
-wrong-marks t w x = parts-mark t 0 (x .kind .parts) w (x .others) (x .first)
+pub faulty-marks : (t : List ℕ) (w : Refusal) → Faulty t w → Marks t w
+faulty-marks t w x = parts-mark t 0 (x .kind .parts) w (x .others) (x .first)
