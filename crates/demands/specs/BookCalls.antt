@@ -1,5 +1,5 @@
 -- Demand 3 of the generated contracts of `hp_book_write`, `hp_book_remove` and `hp_book_lookup` and of the lenient three: what they may do,
--- as their sources have it, is what `calls` permits.
+-- as their sources have it, is what `Permitted` allows.
 -- Assumes nothing.
 use mathlib.Core.Path.{_≡_, subst}
 use mathlib.Core.List.{List, []}

@@ -1,4 +1,4 @@
--- Demand 3 holds of any functions that do only what `calls` permits.
+-- Demand 3 holds of any functions that do only what `Permitted` allows.
 -- Assumes nothing.
 use Prim.Native.Nat.{ℕ, suc, _≤_, _<_}
 use mathlib.Core.Path.{_≡_, refl, sym, ap, _∙_}

@@ -1,4 +1,4 @@
--- The generated contracts allow all that `Permitted` allows, so what `Glue` proves of them is not empty.
+-- The generated contracts allow all that `Permitted` allows, so what `BookCalls` proves of them is not empty.
 -- Assumes nothing.
 use mathlib.Core.Path.{_≡_, refl, sym, subst}
 use mathlib.Core.List.{List, []}

@@ -7,13 +7,13 @@ use mathlib.Core.List.{List, [], _∷_}
 use native.Mathlib.Omega.{arith}
 use lib.Dec.{eqb}
 use lib.ListN.{length, length-take, length-drop}
-use borrow.Author.Tests.{le-ltb}
+use borrow.Author.Tests.{lt-ltb, le-ltb}
 use Rattle.text.specs.Part.{ascii, same}
 use Rattle.path.specs.declared.Place.{Place}
 use Rattle.path.specs.declared.Path.{Path}
 use Rattle.path.specs.declared.PathView.{PathView}
 use Rattle.path.specs.declared.PathAnswer.the-variants.{Found, Nothing}
-use Rattle.path.specs.declared.Refusal.the-variants.{NotAscii}
+use Rattle.path.specs.declared.Refusal.the-variants.{TooLong, NotAscii}
 use Rattle.path.specs.declared.Reading.the-variants.{Read, Refused}
 use Rattle.path.specs.Text.{partOf}
 use Rattle.path.specs.Kinds.{kinds, carried}
@@ -61,6 +61,10 @@ module _ (t : List ℕ) (p : Path) (h : Found p ≡ readFirst kinds t) where
   found-read short v e n l = rw (le-ltb 4096 (length t) short, first-low kinds t p kinds-low (sym h), ← h, exact-mark n (l ∙ rw e))
 
 -- ---- what is not read
+pub too-long : (t : List ℕ) → 4096 < length t → Refused TooLong ≡ readPath t
+unfolding readPath
+too-long t long = rw (lt-ltb 4096 (length t) long)
+
 pub no-path : (t : List ℕ) → length t ≤ 4096 → Nothing ≡ readFirst kinds t → Refused (cond (ascii t) (whyNot t) NotAscii) ≡ readPath t
 unfolding readPath
 no-path t short h = rw (le-ltb 4096 (length t) short, ← h) (go (ascii t))

@@ -9,7 +9,7 @@ use Rattle.text.specs.Put.{Wanted, refused, answer}
 use Rattle.text.specs.declared.Fault.{Fault}
 use Rattle.path.specs.declared.Refusal.the-variants.{TooLong}
 use Rattle.path.specs.declared.Reading.the-variants.{Refused}
-use Rattle.path.specs.Read.{numberOf, readPlace, readPath, keyBy, bytesBy}
+use Rattle.path.specs.Read.{readPlace, readPath, keyBy, bytesBy}
 use Rattle.wide.specs.declared.reading.WideReading.{WideReading}
 use Rattle.wide.specs.declared.reading.WideReading.the-variants.{Of, NotTaken}
 use Rattle.wide.specs.Mode.{Mode}
@@ -17,11 +17,7 @@ use Rattle.wide.specs.Mode.{Mode}
 unfoldable pub readIn : Mode → List ℕ → WideReading
 readIn m t = cond (ltb 4096 (length t)) (Of (Refused TooLong)) (cond (m .takes t) (Of (readPath (m .seen t))) NotTaken)
 
--- the number and the place of each answer
-abbrev pub numberIn : Mode → WideReading → ℕ
-numberIn m (Of r) = numberOf r
-numberIn m NotTaken = m .other
-
+-- the place of each answer
 abbrev pub placeIn : WideReading → ℕ
 placeIn (Of r) = readPlace r
 placeIn NotTaken = 0

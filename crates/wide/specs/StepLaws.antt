@@ -53,6 +53,12 @@ pub chars-wide : (s : List ℕ) → wideChars s ≡ charsIn wide s
 unfolding wide charsIn wideChars
 chars-wide s = refl
 
+pub accepted-length : (m : Mode) (r : Rule) (s : List ℕ) → checkIn m r s ≡ 0 → (r .least ≤ length s) × (length s ≤ r .most)
+unfolding checkIn within
+accepted-length m r s ok =
+    let k = unless-zero 6 _ (omega arith) (first-zero _ _ (first-zero (charsIn m s) _ ok .1) .0) in
+    (leb-true _ _ (and-left _ _ k), leb-true _ _ (and-right (leb (r .least) (length s)) _ k))
+
 first-first : (a b d : ℕ) → first a (first b d) ≡ first (first a b) d
 first-first a b d = go (eqb a 0) refl
   where
@@ -91,12 +97,6 @@ module _ (least most : ℕ) (name s : List ℕ) (n : ℕ) (e : n ≡ checkIn wid
   pub named-last : n ≡ 0 → fault (namedOf name s) (indexPlace name s) ≡ faultIn wide (record { least = least; most = most; form = indexed name }) s
   unfolding faultIn
   named-last h = let k : asked ≡ namedOf name s = check-form wide least most s (indexed name) ∙ rw (← e) (first-none n (namedOf name s) h) in rw k
-
-pub accepted-length : (m : Mode) (r : Rule) (s : List ℕ) → checkIn m r s ≡ 0 → (r .least ≤ length s) × (length s ≤ r .most)
-unfolding checkIn within
-accepted-length m r s ok =
-    let k = unless-zero 6 _ (omega arith) (first-zero _ _ (first-zero (charsIn m s) _ ok .1) .0) in
-    (leb-true _ _ (and-left _ _ k), leb-true _ _ (and-right (leb (r .least) (length s)) _ k))
 
 -- ---- a new client identifier
 pub trim-wide : (s : List ℕ) → wideTrim s ≡ trimIn wide s

@@ -1,17 +1,14 @@
 -- `read_path` meets its contract.
 -- Assumes nothing.
 use mathlib.Core.Path.{sym, ap, _∙_}
-use borrow.Author.Tests.{lt-ltb}
-use Rattle.path.specs.Read.{readPath}
 use Rattle.path.specs.declared.Reading.the-variants.{Refused}
-use Rattle.reader.specs.ReadingLaws.{found-measured, found-read, no-path}
+use Rattle.reader.specs.ReadingLaws.{found-measured, found-read, too-long, no-path}
 use borrow.Author.Needs.{needs}
 use Rattle.reader.proofs.read_path.Statement.{statement}
 use Rattle.reader.proofs.read_path.Tie as tie
 
 returns : tie.Need-returns
-unfolding readPath
-returns c = rw (lt-ltb _ _ (c .if1 .taken))
+returns c = too-long _ (c .if1 .taken)
 
 returns-2 : tie.Need-returns-2
 returns-2 c = ap Refused (c .fault .ensures) ∙ no-path _ (c .before .before .before .before .if1 .left) (sym (c .before .enum-told .given .1) ∙ c .before .before .before .parse-path .ensures)
