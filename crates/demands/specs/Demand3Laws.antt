@@ -9,9 +9,10 @@ use mathlib.Core.Option.{Option, none, some}
 use native.Mathlib.Decide.{decLt}
 use native.Mathlib.Omega.{arith}
 use lib.ListN.{length, take, getElem?}
-use Rattle.runs.specs.Machine.{answers, final, answer-at, Enough, SameKey, LastUpdate, Unchanged}
-use Rattle.runs.specs.Machine as machine
-use Rattle.runs.specs.Runs.{Runs, does-at, kept-at, kept-end, simulates}
+use Rattle.runs.specs.MachineLaws.{answers, final, answer-at, Enough, SameKey, LastUpdate, Unchanged}
+use Rattle.runs.specs.MachineLaws as machine
+use Rattle.runs.specs.Runs.{Runs}
+use Rattle.runs.specs.RunsLaws.{does-at, kept-at, kept-end, simulates}
 use Rattle.keys.specs.Records.{Key, get, put, del}
 use Rattle.keys.specs.Act.{Rec, Meaning, addTo, takeFrom, lookIn, act, Seen, seen}
 use Rattle.keys.specs.ActLaws.{keyIn, ansOf}

@@ -9,7 +9,7 @@ use native.Mathlib.Decide.{ℕ-discrete}
 use native.Mathlib.Omega.{arith}
 use lib.Dec.{eqb}
 use lib.ListN.{length}
-use Rattle.runs.specs.Machine.{Independent, Enough}
+use Rattle.runs.specs.MachineLaws.{Independent, Enough}
 use Rattle.keys.specs.Records.{Key, get}
 use Rattle.keys.specs.RecordLaws.{records-ext}
 use Rattle.keys.specs.Act.{Rec, Meaning, refuses, Answer, says, act, Seen, seen}

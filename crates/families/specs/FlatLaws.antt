@@ -18,8 +18,9 @@ use Rattle.path.specs.TextLaws.{count-components}
 use Rattle.path.specs.Kinds.{Part, Carried, carried, Kind, kinds}
 use Rattle.path.specs.Read.{fitFrom, carriedFrom, componentCount, fitsKind, readKind, orElse, readFirst}
 use Rattle.path.specs.Reads.{Has, Reads}
-use Rattle.path.specs.ReadLaws.{fitAll, kind-fits, apartAll, read-has, made-carried}
-use Rattle.path.specs.ExactLaws.{spelledFrom, exact-by-spelling}
+use Rattle.path.specs.ReadLaws.{kind-fits, apartAll, read-has, made-carried}
+use Rattle.path.specs.Spelled.{fitAll, spelledFrom}
+use Rattle.path.specs.ExactLaws.{exact-by-spelling}
 use Rattle.path.specs.View.{kindOf}
 use Rattle.scan.specs.Tail.{carriedAll, spelledAll, Tail, none, some, tailOf}
 use Rattle.families.specs.Walked.{nothing, read, flat}

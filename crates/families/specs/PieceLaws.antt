@@ -21,7 +21,8 @@ use Rattle.path.specs.Text.{cutAt, nowhere}
 use Rattle.path.specs.TextLaws.{without}
 use Rattle.path.specs.Kinds.{Part, word, name, count, pair, Carried, carried, setName}
 use Rattle.path.specs.Read.{isNumber, numberIn}
-use Rattle.path.specs.ExactLaws.{spelled, value-is}
+use Rattle.path.specs.ExactLaws.{value-is}
+use Rattle.path.specs.Spelled.{spelled}
 use Rattle.text.specs.NumberLaws.{decimal-no-longer}
 use Rattle.scan.specs.declared.number.Counted.{Counted}
 use Rattle.scan.specs.Run.{run, ruleRun}

@@ -10,7 +10,7 @@ use native.Mathlib.Omega.{arith}
 use lib.Dec.{eqb}
 use borrow.Author.Tests.{eqb-true, eqb-false}
 use Rattle.runs.specs.Total.{total}
-use Rattle.runs.specs.Cell.{pick, pick-yes, pick-no}
+use Rattle.runs.specs.CellLaws.{pick, pick-yes, pick-no}
 use Rattle.keys.specs.Records.{Key, get, put, del, Sorted}
 use Rattle.keys.specs.RecordLaws.{get-put-same, get-put-other, get-del-same, get-del-other, sorted-put, sorted-del, total-put-new, total-put-old, total-del}
 use Rattle.keys.specs.Act.{Rec, Meaning, refuses, writes, removes, looks, Answer, says, done, gives, addTo, takeFrom, lookIn, act}

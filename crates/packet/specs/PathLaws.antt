@@ -25,7 +25,8 @@ use Rattle.path.specs.TextLaws.{every-all}
 use Rattle.path.specs.Kinds.{Part, word, name, count, pair, Kind, kinds}
 use Rattle.path.specs.Read.{fits, suits, fitsKind, suitsKind, readFirst, whyNot, readPath, refusalOf}
 use Rattle.path.specs.Reads.{Has}
-use Rattle.path.specs.ReadLaws.{allOf, kind-fits, kind-suits, has-both, is-reads}
+use Rattle.path.specs.ReadLaws.{kind-fits, kind-suits, has-both, is-reads}
+use Rattle.path.specs.Spelled.{allOf}
 use Rattle.path.specs.NumberLaws.{why-faulty}
 use Rattle.packet.specs.declared.PacketKind.{PacketKind}
 use Rattle.packet.specs.declared.PacketKind.the-variants.{Commitment, Receipt, Acknowledgement}

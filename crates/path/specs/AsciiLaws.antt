@@ -23,7 +23,8 @@ use Rattle.path.specs.Kinds.{Part, word, name, count, pair, Kind, kinds,
 use Rattle.path.specs.declared.name.Name.{Name}
 use Rattle.path.specs.declared.name.Name.the-variants.{Client as client, Connection as connection, Port as port, Channel as channel, Upgrade as upgrade}
 use Rattle.path.specs.Read.{nameFault, isNumber, arePair, fits, carriedFrom, fitsKind, readKind, orElse, readFirst}
-use Rattle.path.specs.ReadLaws.{fitAll, kind-fits}
+use Rattle.path.specs.ReadLaws.{kind-fits}
+use Rattle.path.specs.Spelled.{fitAll}
 
 abbrev low : ℕ → Bool
 low b = ltb b 128

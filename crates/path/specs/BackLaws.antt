@@ -36,7 +36,8 @@ use Rattle.path.specs.Read.{nameFault, valueOf, numberIn, fits, adds, ca
 use Rattle.path.specs.View.{kindOf, carriedOf}
 use Rattle.path.specs.Valid.{Valid, setCount, setPair, only, ReadsAs}
 use Rattle.path.specs.Reads.{Has, kindAt, Reads}
-use Rattle.path.specs.ReadLaws.{fitAll, kind-fits, has-both, read-has, kinds-apart, made-range, made-parts, made-carried, kind-has, made-kind, kind-parts, path-made, is-reads}
+use Rattle.path.specs.ReadLaws.{kind-fits, has-both, read-has, kinds-apart, made-range, made-parts, made-carried, kind-has, made-kind, kind-parts, path-made, is-reads}
+use Rattle.path.specs.Spelled.{fitAll}
 use Rattle.path.specs.ExactLaws.{own, ownFrom, name-set, shown-made, render-made, rendering-not-longer}
 
 -- ---- the bytes of a rendering

@@ -25,6 +25,7 @@ use Rattle.path.specs.TextLaws.{part-component, join-cons, join-cut}
 use Rattle.path.specs.Kinds.{Part, word, name, count, pair, Carried, Kind, kinds, nameIn, setName}
 use Rattle.path.specs.declared.name.Name.{Name}
 use Rattle.path.specs.declared.name.Name.the-variants.{Client as client, Connection as connection, Port as port, Channel as channel, Upgrade as upgrade}
+use Rattle.path.specs.Spelled.{spelled, spelledFrom}
 use Rattle.path.specs.Read.{valueOf, isNumber, numberIn, arePair, fits, adds, carriedFrom, fitFrom, componentCount, fitsKind, show, shown, render, textsOf, renderPath}
 use Rattle.path.specs.Reads.{Has, Reads}
 use Rattle.path.specs.ReadLaws.{has-both, made-parts, made-carried}
@@ -91,16 +92,6 @@ all-no-longer k (p ∷ (q ∷ ps)) t h f =
     (no-longer-append 47 _ _ _ _ (own-no-longer p k t (and-left (fits p (component t k)) _ f)) (all-no-longer (k + 1) (q ∷ ps) t (omega arith) (and-right (fits p (component t k)) _ f)))
 
 -- ---- the same, seen from the components: only a number has more than one spelling
-abbrev pub spelled : Part → List ℕ → Bool
-spelled (word w) c = true
-spelled (name n) c = true
-spelled count c = eqb (length (decimal (numberIn c))) (length c)
-spelled pair c = eqb (length (decimal (numberIn (getD (cutAt 45 c) 0 []))) + suc (length (decimal (numberIn (getD (cutAt 45 c) 1 []))))) (length c)
-
-abbrev pub spelledFrom : ℕ → List Part → List ℕ → Bool
-spelledFrom k [] t = true
-spelledFrom k (p ∷ ps) t = spelled p (component t k) && spelledFrom (k + 1) ps t
-
 own-spelled : (p : Part) (k : ℕ) (t : List ℕ) → fits p (component t k) ≡ true → spelled p (component t k) ≡ eqb (length (own p k t)) (length (component t k))
 unfolding fits show
 own-spelled (word w) k t h = rw (same-is (component t k) w h) (sym (eq-eqb (length w) (length w) refl))

@@ -15,6 +15,7 @@ pub mod PlaceLaws
 pub mod Read
 pub mod Reads
 pub mod ReadLaws
+pub mod Spelled
 pub mod Text
 pub mod TextLaws
 pub mod Valid

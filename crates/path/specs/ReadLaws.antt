@@ -22,18 +22,10 @@ use Rattle.path.specs.Text.{components}
 use Rattle.path.specs.Kinds.{Part, word, name, count, pair, Carried, Kind, kinds, kind1}
 use Rattle.path.specs.Read.{fits, suits, carriedFrom, allFrom, componentCount, fitsKind, suitsKind, readKind, orElse, readFirst, partsOf}
 use Rattle.path.specs.Reads.{Has, here, later, Reads, kindAt}
+use Rattle.path.specs.Spelled.{allOf, fitAll}
 use Rattle.path.specs.View.{kindOf, carriedOf}
 
 -- ---- a text passes a test of each part of a kind where its components, one by one, pass it
-abbrev pub allOf : (Part → List ℕ → Bool) → List Part → List (List ℕ) → Bool
-allOf f [] [] = true
-allOf f [] (c ∷ cs) = false
-allOf f (p ∷ ps) [] = false
-allOf f (p ∷ ps) (c ∷ cs) = f p c && allOf f ps cs
-
-abbrev pub fitAll : List Part → List (List ℕ) → Bool
-fitAll ps cs = allOf fits ps cs
-
 module _ (f : Part → List ℕ → Bool) where
   all-length : (ps : List Part) (cs : List (List ℕ)) → (length cs ≡ length ps → ⊥) → allOf f ps cs ≡ false
   all-length [] [] h = absurd (h refl)

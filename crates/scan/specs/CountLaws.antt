@@ -21,7 +21,7 @@ use Rattle.text.specs.declared.Numeral.the-variants.{Value, NoDigits, NotADigit
 use Rattle.identifiers.specs.Check.{isValue}
 use Rattle.path.specs.Kinds.{count}
 use Rattle.path.specs.Read.{valueOf, isNumber, numberIn}
-use Rattle.path.specs.ExactLaws.{spelled}
+use Rattle.path.specs.Spelled.{spelled}
 use Rattle.scan.specs.declared.number.Figures.{Figures}
 use Rattle.scan.specs.declared.number.Counted.{Counted}
 use Rattle.scan.specs.Run.{run}

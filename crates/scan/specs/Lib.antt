@@ -10,4 +10,4 @@ pub mod RunLaws
 pub mod Tail
 pub mod TailLaws
 pub mod WordLaws
-pub mod Words
+pub mod WordsLaws

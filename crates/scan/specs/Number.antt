@@ -9,7 +9,7 @@ use Rattle.text.specs.Number.{isDigit, withDigit, numeralOf}
 use Rattle.text.specs.Part.{ascii, startsWith}
 use Rattle.path.specs.Kinds.{count}
 use Rattle.path.specs.Read.{isNumber, numberIn}
-use Rattle.path.specs.ExactLaws.{spelled}
+use Rattle.path.specs.Spelled.{spelled}
 use Rattle.scan.specs.declared.number.Figures.{Figures}
 use Rattle.scan.specs.declared.number.Counted.{Counted}
 use Rattle.scan.specs.Run.{run}

@@ -23,7 +23,8 @@ use Rattle.path.specs.Text.{cutAt, joinBy}
 use Rattle.path.specs.TextLaws.{without, join-cut, cut-join}
 use Rattle.path.specs.declared.name.Name.the-variants.{Upgrade}
 use Rattle.path.specs.Read.{fits, nameFault, valueOf, isNumber, numberIn, arePair}
-use Rattle.path.specs.ExactLaws.{value-is, spelled}
+use Rattle.path.specs.ExactLaws.{value-is}
+use Rattle.path.specs.Spelled.{spelled}
 use Rattle.scan.specs.declared.number.Figures.{Figures}
 use Rattle.scan.specs.declared.number.Counted.{Counted}
 use Rattle.scan.specs.Run.{run}

@@ -9,8 +9,7 @@ use Rattle.path.specs.declared.Place.{Place}
 use Rattle.path.specs.Text.{components, placesFrom, nowhere}
 use Rattle.path.specs.Kinds.{Part, Carried, carried}
 use Rattle.path.specs.Read.{adds}
-use Rattle.path.specs.ReadLaws.{fitAll}
-use Rattle.path.specs.ExactLaws.{spelled}
+use Rattle.path.specs.Spelled.{fitAll, spelled}
 
 -- what parts carry, by the components and their places
 abbrev pub carriedAll : List Part → List (List ℕ) → List Place → Carried Place

@@ -19,8 +19,7 @@ use Rattle.path.specs.Text.{components, cutAt, cutStep, onto, places, placesFro
 use Rattle.path.specs.TextLaws.{without, count-components}
 use Rattle.path.specs.Kinds.{Part, word, name, count, pair, Carried, carried, Kind}
 use Rattle.path.specs.Read.{fits, adds, carriedFrom, componentCount, fitsKind, readKind}
-use Rattle.path.specs.ReadLaws.{allOf, fitAll}
-use Rattle.path.specs.ExactLaws.{spelled, spelledFrom}
+use Rattle.path.specs.Spelled.{allOf, fitAll, spelled, spelledFrom}
 use Rattle.scan.specs.WordLaws.{starts-split, starts-whole, starts-room}
 use Rattle.scan.specs.Tail.{carriedAll, spelledAll, Tail, none, some, tailOf, afterOf, added, Stops, at-end, at-slash}
 

@@ -5,7 +5,7 @@ use borrow.Author.Tests.{not-false}
 use Rattle.text.specs.Bytes.{bytes}
 use Rattle.scan.specs.IndexLaws.{channel-run}
 use Rattle.scan.specs.WordLaws.{word-room}
-use Rattle.scan.specs.Words.{channel-word}
+use Rattle.scan.specs.WordsLaws.{channel-word}
 use native.Mathlib.Omega.{arith}
 use borrow.Author.Needs.{needs}
 use Rattle.scan.proofs.name.channel_length.Statement.{statement}

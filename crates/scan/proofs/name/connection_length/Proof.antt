@@ -5,7 +5,7 @@ use borrow.Author.Tests.{not-false}
 use Rattle.text.specs.Bytes.{bytes}
 use Rattle.scan.specs.IndexLaws.{connection-run}
 use Rattle.scan.specs.WordLaws.{word-room}
-use Rattle.scan.specs.Words.{connection-word}
+use Rattle.scan.specs.WordsLaws.{connection-word}
 use native.Mathlib.Omega.{arith}
 use borrow.Author.Needs.{needs}
 use Rattle.scan.proofs.name.connection_length.Statement.{statement}

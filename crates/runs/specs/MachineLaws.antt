@@ -10,8 +10,9 @@ use native.Mathlib.Omega.{arith}
 use lib.ListN.{length, take, getElem?}
 use Rattle.text.specs.PlaceLaws.{at-some}
 use Rattle.runs.specs.Rearranged.{Rearranged}
-use Rattle.runs.specs.Total.{total, total-rearranged}
-use Rattle.runs.specs.Cell.{pick, touch, cell, same-before, same-end}
+use Rattle.runs.specs.Total.{total}
+use Rattle.runs.specs.TotalLaws.{total-rearranged}
+use Rattle.runs.specs.CellLaws.{pick, touch, cell, same-before, same-end}
 
 -- Running a list of calls.
 module _ {State Call Answer : Type 0} (step : State → Call → Answer × State) where
