@@ -1,7 +1,8 @@
 //! The record book in a lent buffer.
+use core::fmt;
 use core::slice::ChunksExact;
 
-use crate::{done, pair, raw, Refusal};
+use crate::{bytes_of, done, pair, raw, str_of, sure, ClientId, Refusal};
 
 /// The bytes before a book's slots.
 pub const BOOK_HEAD: usize = 8;
@@ -23,41 +24,102 @@ pub const fn book_size(slots: usize) -> usize {
     BOOK_HEAD + BOOK_SLOT * slots
 }
 
+/// The key of a text: the rendering of the path that it is read as, where that has at most [`BOOK_KEY`] bytes.
+#[derive(Clone, Copy, PartialEq, Eq, PartialOrd, Ord, Hash)]
+pub struct Key {
+    bytes: [u8; BOOK_KEY],
+    length: usize,
+}
+
+impl Key {
+    /// Of a text that a call has taken.
+    fn of(text: &[u8]) -> Self {
+        let mut bytes = [0; BOOK_KEY];
+        let answer = raw::key(text, &mut bytes);
+        sure(done(answer.refusal).ok());
+        Self { bytes, length: answer.length as usize }
+    }
+
+    /// Its text.
+    pub fn as_str(&self) -> &str {
+        str_of(sure(self.bytes.get(..self.length)))
+    }
+}
+
+impl AsRef<str> for Key {
+    fn as_ref(&self) -> &str {
+        self.as_str()
+    }
+}
+
+impl PartialEq<str> for Key {
+    fn eq(&self, other: &str) -> bool {
+        self.as_str() == other
+    }
+}
+
+impl fmt::Display for Key {
+    fn fmt(&self, out: &mut fmt::Formatter<'_>) -> fmt::Result {
+        self.as_str().fmt(out)
+    }
+}
+
+impl fmt::Debug for Key {
+    fn fmt(&self, out: &mut fmt::Formatter<'_>) -> fmt::Result {
+        out.debug_tuple("Key").field(&self.as_str()).finish()
+    }
+}
+
+/// A record that [`Book::lookup_lenient`] has found.
+#[derive(Clone, Copy, Debug, PartialEq, Eq)]
+pub struct Held<'a> {
+    /// Under which key it stands.
+    pub key: Key,
+    /// What it holds.
+    pub value: &'a [u8],
+}
+
 /// A book of version 2 in a lent buffer of [`book_size`] bytes. Texts with one rendering are one path, and a
-/// record stands under the rendering, its key. A text that is not its own key is refused with 20; the `.._lenient`
-/// methods take it, for importers that pad their heights.
+/// record stands under the rendering, its key. A text that is not its own key is refused as
+/// [`Loose`](Refusal::Loose); the `.._lenient` methods take it, for importers that pad their heights, and each
+/// answers the key that it worked on.
 ///
 /// ```
-/// use hostpath::{book_size, Book, Refusal};
+/// use hostpath::{book_size, Book, ClientId, Refusal};
 ///
 /// let mut buffer = [0; book_size(2)];
 /// let mut book = Book::new(&mut buffer)?;
-/// let padded = b"clients/07-tendermint-4/consensusStates/007-2";
-/// assert_eq!(book.write(padded, b"a digest"), Err(Refusal::Loose));
-/// book.write_lenient(padded, b"a digest")?;
-/// assert_eq!(book.oldest(b"07-tendermint-4"), Ok((7, 2)));
-/// book.remove(b"clients/07-tendermint-4/consensusStates/7-2")?; // the same path, by its key
-/// assert_eq!(book.oldest(b"07-tendermint-4"), Err(Refusal::Absent));
+/// let padded = "clients/07-tendermint-4/consensusStates/007-2";
+/// assert_eq!(book.write(padded, "a digest"), Err(Refusal::Loose));
+/// let key = book.write_lenient(padded, "a digest")?;
+/// assert_eq!(key.as_str(), "clients/07-tendermint-4/consensusStates/7-2");
+///
+/// let client_id = ClientId::try_from("07-tendermint-4")?;
+/// assert_eq!(book.oldest(client_id), Ok((7, 2)));
+/// book.remove(key.as_str())?; // the same path, by its key
+/// assert_eq!(book.oldest(client_id), Err(Refusal::Absent));
 /// # Ok::<(), Refusal>(())
 /// ```
 #[derive(Debug)]
 pub struct Book<'a>(&'a mut [u8]);
 
 impl<'a> Book<'a> {
-    /// Makes a book without records of a buffer, whatever that holds. 9.
+    /// Makes a book without records of a buffer, whatever that holds.
+    #[doc = errors!(BadBook)]
     pub fn new(buffer: &'a mut [u8]) -> Result<Self, Refusal> {
         done(raw::book_new(buffer))?;
         Ok(Self(buffer))
     }
 
     /// Takes a buffer that holds a book. Nothing is looked at here, since every call looks: where the
-    /// buffer holds none, each gives 9 and changes nothing.
+    /// buffer holds none, each gives [`BadBook`](Refusal::BadBook) and changes nothing.
     pub fn open(buffer: &'a mut [u8]) -> Self {
         Self(buffer)
     }
 
     /// Makes of a buffer, whatever that holds, the book that has the slots and the records of `old`, a book
-    /// of version 1: 9 where that is none, then 4 where the buffer is not of [`book_size`] for its slots.
+    /// of version 1. The buffer is of [`book_size`] for its slots.
+    #[doc = errors!(BadBook, NoRoom)]
     pub fn convert(old: &[u8], buffer: &'a mut [u8]) -> Result<Self, Refusal> {
         done(raw::book_convert(old, buffer))?;
         Ok(Self(buffer))
@@ -68,81 +130,96 @@ impl<'a> Book<'a> {
         self.0
     }
 
-    /// Adds a record, or replaces its value, which has 1 to 64 bytes. The text is its own key: 20 where it is loose.
-    /// 9, 1, 2, 3 (17, 18, 19), 20, 10, 6, 11.
-    pub fn write(&mut self, text: &[u8], value: &[u8]) -> Result<(), Refusal> {
-        done(raw::book_write(self.0, text, value))
+    /// Adds a record, or replaces its value, which has from 1 to [`BOOK_VALUE`] bytes. The text is its own key.
+    #[doc = errors!(BadBook, path, Loose, KeyTooLong, BadLength, Full)]
+    pub fn write(
+        &mut self,
+        text: impl AsRef<[u8]>,
+        value: impl AsRef<[u8]>,
+    ) -> Result<(), Refusal> {
+        done(raw::book_write(self.0, text.as_ref(), value.as_ref()))
     }
 
-    /// Removes a record. The text is its own key: 20 where it is loose. 9, 1, 2, 3 (17, 18, 19), 20, 10, 12.
-    pub fn remove(&mut self, text: &[u8]) -> Result<(), Refusal> {
-        done(raw::book_remove(self.0, text))
+    /// Removes a record. The text is its own key.
+    #[doc = errors!(BadBook, path, Loose, KeyTooLong, Absent)]
+    pub fn remove(&mut self, text: impl AsRef<[u8]>) -> Result<(), Refusal> {
+        done(raw::book_remove(self.0, text.as_ref()))
     }
 
-    /// A record's value, in lent room for the longest. The text is its own key: 20 where it is loose.
-    /// 9, 1, 2, 3 (17, 18, 19), 20, 10, 12.
+    /// A record's value, in lent room for the longest. The text is its own key.
+    #[doc = errors!(BadBook, path, Loose, KeyTooLong, Absent)]
     pub fn lookup<'b>(
         &self,
-        text: &[u8],
+        text: impl AsRef<[u8]>,
         room: &'b mut [u8; BOOK_VALUE],
     ) -> Result<&'b [u8], Refusal> {
-        let answer = raw::book_lookup(self.0, text, room);
-        held(answer, room)
+        bytes_of(raw::book_lookup(self.0, text.as_ref(), room), room)
     }
 
-    /// As [`write`](Self::write), under the key of the text however its numbers are spelled: for importers that pad
-    /// their heights. Others use `write`, and learn by 20 that their text is no key. 9, 1, 2, 3 (17, 18, 19), 10, 6, 11.
-    pub fn write_lenient(&mut self, text: &[u8], value: &[u8]) -> Result<(), Refusal> {
-        done(raw::book_write_lenient(self.0, text, value))
+    /// As [`write`](Self::write), under the key of the text however its numbers are spelled, which is the answer: for
+    /// importers that pad their heights. Others use `write`, and learn by [`Loose`](Refusal::Loose) that their text is
+    /// no key.
+    #[doc = errors!(BadBook, path, KeyTooLong, BadLength, Full)]
+    pub fn write_lenient(
+        &mut self,
+        text: impl AsRef<[u8]>,
+        value: impl AsRef<[u8]>,
+    ) -> Result<Key, Refusal> {
+        let text = text.as_ref();
+        done(raw::book_write_lenient(self.0, text, value.as_ref()))?;
+        Ok(Key::of(text))
     }
 
-    /// As [`remove`](Self::remove), under the key of the text however its numbers are spelled: for importers that pad
-    /// their heights. Others use `remove`, and learn by 20 that their text is no key. 9, 1, 2, 3 (17, 18, 19), 10, 12.
-    pub fn remove_lenient(&mut self, text: &[u8]) -> Result<(), Refusal> {
-        done(raw::book_remove_lenient(self.0, text))
+    /// As [`remove`](Self::remove), under the key of the text however its numbers are spelled, which is the answer: for
+    /// importers that pad their heights. Others use `remove`, and learn by [`Loose`](Refusal::Loose) that their text is
+    /// no key.
+    #[doc = errors!(BadBook, path, KeyTooLong, Absent)]
+    pub fn remove_lenient(&mut self, text: impl AsRef<[u8]>) -> Result<Key, Refusal> {
+        let text = text.as_ref();
+        done(raw::book_remove_lenient(self.0, text))?;
+        Ok(Key::of(text))
     }
 
-    /// As [`lookup`](Self::lookup), under the key of the text however its numbers are spelled: for importers that pad
-    /// their heights. Others use `lookup`, and learn by 20 that their text is no key. 9, 1, 2, 3 (17, 18, 19), 10, 12.
+    /// As [`lookup`](Self::lookup), under the key of the text however its numbers are spelled, which the answer has
+    /// with the value: for importers that pad their heights. Others use `lookup`, and learn by
+    /// [`Loose`](Refusal::Loose) that their text is no key.
+    #[doc = errors!(BadBook, path, KeyTooLong, Absent)]
     pub fn lookup_lenient<'b>(
         &self,
-        text: &[u8],
+        text: impl AsRef<[u8]>,
         room: &'b mut [u8; BOOK_VALUE],
-    ) -> Result<&'b [u8], Refusal> {
-        let answer = raw::book_lookup_lenient(self.0, text, room);
-        held(answer, room)
+    ) -> Result<Held<'b>, Refusal> {
+        let text = text.as_ref();
+        let value = bytes_of(raw::book_lookup_lenient(self.0, text, room), room)?;
+        Ok(Held { key: Key::of(text), value })
     }
 
-    /// Fills a table from the book, by which [`lookup_many`](Self::lookup_many) finds its records as they are now. 9.
+    /// Fills a table from the book, by which [`lookup_many`](Self::lookup_many) finds its records as they are now.
+    #[doc = errors!(BadBook)]
     pub fn fill(&self, table: &mut Table) -> Result<(), Refusal> {
         done(raw::book_fill(self.0, table.0))
     }
 
     /// What [`lookup`](Self::lookup) gives for each of many texts, in their order: each text is ended by a line end, and
     /// bytes after the last of these are a text if there are any. The room has [`BOOK_ANSWER`] bytes a text. Book and
-    /// table are checked once, and the table has to be filled anew after each write and removal. 9, 22, 4.
+    /// table are checked once, and the table has to be filled anew once a key has come or gone.
+    #[doc = errors!(BadBook, BadTable, NoRoom)]
     pub fn lookup_many<'b>(
         &self,
         table: &Table,
-        texts: &[u8],
+        texts: impl AsRef<[u8]>,
         room: &'b mut [u8],
     ) -> Result<Answers<'b>, Refusal> {
-        let answer = raw::book_lookup_many(self.0, table.0, texts, room);
-        done(answer.refusal)?;
-        Ok(Answers(room[..answer.length as usize].chunks_exact(BOOK_ANSWER)))
+        let answer = raw::book_lookup_many(self.0, table.0, texts.as_ref(), room);
+        Ok(Answers(bytes_of(answer, room)?.chunks_exact(BOOK_ANSWER)))
     }
 
     /// The smallest pair of revision number and height among a client's consensus states: of `10-2` and
-    /// `7-2` the second, though it is the last in byte order of key. 9, the client's 2, 5, 6; then 12.
-    pub fn oldest(&self, client_id: &[u8]) -> Result<(u64, u64), Refusal> {
-        pair(raw::book_oldest(self.0, client_id))
+    /// `7-2` the second, though it is the last in byte order of key.
+    #[doc = errors!(BadBook, Absent)]
+    pub fn oldest(&self, client_id: ClientId<'_>) -> Result<(u64, u64), Refusal> {
+        pair(raw::book_oldest(self.0, client_id.as_bytes()))
     }
-}
-
-/// The value that a lookup wrote.
-fn held(answer: raw::Written, room: &[u8; BOOK_VALUE]) -> Result<&[u8], Refusal> {
-    done(answer.refusal)?;
-    Ok(&room[..answer.length as usize])
 }
 
 /// A table of buckets in a lent buffer beside a book: which slot each record stands in, by the hash of its key.
@@ -152,16 +229,16 @@ fn held(answer: raw::Written, room: &[u8; BOOK_VALUE]) -> Result<&[u8], Refusal>
 ///
 /// let (mut buffer, mut buckets) = ([0; book_size(2)], [0; BOOK_TABLE]);
 /// let (mut book, mut table) = (Book::new(&mut buffer)?, Table::open(&mut buckets));
-/// book.write(b"ports/transfer", b"a digest")?;
+/// book.write("ports/transfer", "a digest")?;
 /// book.fill(&mut table)?;
-/// let (texts, mut room) = (b"ports/transfer\nports/icahost\nports", [0; 3 * BOOK_ANSWER]);
+/// let (texts, mut room) = ("ports/transfer\nports/icahost\nports", [0; 3 * BOOK_ANSWER]);
 /// let mut answers = book.lookup_many(&table, texts, &mut room)?;
 /// assert_eq!(answers.next(), Some(Ok(&b"a digest"[..])));
 /// assert_eq!(answers.next(), Some(Err(Refusal::Absent)));
 /// assert_eq!(answers.next(), Some(Err(Refusal::NotAPath)));
 /// assert_eq!(answers.next(), None);
 ///
-/// book.write(b"ports/icahost", b"another")?; // so the table is stale
+/// book.write("ports/icahost", "another")?; // so the table is stale
 /// assert_eq!(book.lookup_many(&table, texts, &mut room).err(), Some(Refusal::BadTable));
 /// # Ok::<(), Refusal>(())
 /// ```
@@ -170,7 +247,7 @@ pub struct Table<'a>(&'a mut [u8; BOOK_TABLE]);
 
 impl<'a> Table<'a> {
     /// Takes a buffer, whatever it holds. Nothing is looked at here: where it is not what [`Book::fill`] gives of a
-    /// book, [`Book::lookup_many`] on that book gives 22.
+    /// book, [`Book::lookup_many`] on that book gives [`BadTable`](Refusal::BadTable).
     pub fn open(buffer: &'a mut [u8; BOOK_TABLE]) -> Self {
         Self(buffer)
     }
@@ -181,8 +258,8 @@ impl<'a> Table<'a> {
     }
 }
 
-/// The answers of [`Book::lookup_many`], in the order of its texts: each a value, or the refusal of that text alone.
-/// 1, 2, 3 (17, 18, 19), 20, 10, 12.
+/// The answers of [`Book::lookup_many`], in the order of its texts: each a value, or the refusal that
+/// [`Book::lookup`] gives for that text alone.
 #[derive(Clone, Debug)]
 pub struct Answers<'a>(ChunksExact<'a, u8>);
 
@@ -191,7 +268,8 @@ impl<'a> Iterator for Answers<'a> {
 
     fn next(&mut self) -> Option<Self::Item> {
         let answer = self.0.next()?;
-        Some(done(answer[0]).map(|()| &answer[2..][..answer[1].into()]))
+        let value = |()| sure(answer.get(2..2 + usize::from(answer[1])));
+        Some(done(answer[0]).map(value))
     }
 
     fn size_hint(&self) -> (usize, Option<usize>) {

@@ -1,7 +1,7 @@
 //! What is wrong with a text, and where.
 use core::fmt;
 
-use crate::{done, raw, Refusal};
+use crate::{done, raw, sure, Refusal};
 
 /// A number of a path or of an identifier.
 #[derive(Clone, Copy, Debug, PartialEq, Eq, PartialOrd, Ord, Hash)]
@@ -61,7 +61,7 @@ pub struct Place {
 /// ```
 /// use hostpath::{Number, Path, Place, Refusal};
 ///
-/// let fault = Path::read(b"clients/07-tendermint-4/consensusStates/7-x").unwrap_err();
+/// let fault = Path::read("clients/07-tendermint-4/consensusStates/7-x").unwrap_err();
 /// assert_eq!(fault, Refusal::NotADigit);
 /// assert_eq!(fault.place, Some(Place { number: Number::RevisionHeight, byte: 42 }));
 /// assert_eq!(
@@ -74,26 +74,27 @@ pub struct Place {
 pub struct Fault {
     /// Why.
     pub refusal: Refusal,
-    /// Where: of 17, 18 and 19.
+    /// Where: of [`NoDigits`](Refusal::NoDigits), [`NotADigit`](Refusal::NotADigit) and
+    /// [`TooLarge`](Refusal::TooLarge).
     pub place: Option<Place>,
 }
 
 impl Fault {
     /// What the check of an index answers.
     pub(crate) fn of_index(answer: raw::Fault) -> Result<(), Self> {
-        Self::of(answer, |_| Some(Number::Index))
+        Self::of(answer, |_| Number::Index)
     }
 
     /// What the reading of a text answers.
     pub(crate) fn of_path(answer: raw::Fault, text: &[u8]) -> Result<(), Self> {
-        Self::of(answer, |byte| Number::of_path(text, byte))
+        Self::of(answer, |byte| sure(Number::of_path(text, byte)))
     }
 
-    fn of(answer: raw::Fault, number: impl Fn(usize) -> Option<Number>) -> Result<(), Self> {
+    fn of(answer: raw::Fault, number: impl Fn(usize) -> Number) -> Result<(), Self> {
         done(answer.refusal).map_err(|refusal| {
             let byte = answer.place as usize;
-            let place = number(byte).map(|number| Place { number, byte });
-            Self { refusal, place: place.filter(|_| what(refusal).is_some()) }
+            let place = what(refusal).map(|_| Place { number: number(byte), byte });
+            Self { refusal, place }
         })
     }
 }

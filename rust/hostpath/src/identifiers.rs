@@ -2,76 +2,78 @@
 use core::fmt;
 
 use super::raw;
-use crate::{done, str_of, written, Fault, Refusal};
+use crate::{done, str_of, sure, written, Fault, Refusal};
+use crate::{CHANNEL_ID_ROOM, CLIENT_ID_ROOM, CONNECTION_ID_ROOM};
 
-/// All is letters, digits and `. _ + - # [ ] < >`. 2, 5.
-pub fn validate_identifier_chars(id: &[u8]) -> Result<(), Refusal> {
-    done(raw::validate_identifier_chars(id))
+/// All is letters, digits and `. _ + - # [ ] < >`.
+#[doc = errors!(text, BadChar)]
+pub fn validate_identifier_chars(id: impl AsRef<[u8]>) -> Result<(), Refusal> {
+    done(raw::validate_identifier_chars(id.as_ref()))
 }
 
-/// The length is from `min`, raised to 1, to `max`. 2, 6.
-pub fn validate_identifier_length(id: &[u8], min: u64, max: u64) -> Result<(), Refusal> {
-    done(raw::validate_identifier_length(id, min, max))
+/// The length is from `min`, raised to 1, to `max`.
+#[doc = errors!(text, BadLength)]
+pub fn validate_identifier_length(id: impl AsRef<[u8]>, min: u64, max: u64) -> Result<(), Refusal> {
+    done(raw::validate_identifier_length(id.as_ref(), min, max))
 }
 
-/// The prefix is not empty, and with `-` and any counter after it has from `min` to `max` bytes. 2, 6.
-pub fn validate_prefix_length(prefix: &[u8], min: u64, max: u64) -> Result<(), Refusal> {
-    done(raw::validate_prefix_length(prefix, min, max))
+/// The prefix is not empty, and with `-` and any counter after it has from `min` to `max` bytes.
+#[doc = errors!(text, BadLength)]
+pub fn validate_prefix_length(prefix: impl AsRef<[u8]>, min: u64, max: u64) -> Result<(), Refusal> {
+    done(raw::validate_prefix_length(prefix.as_ref(), min, max))
 }
 
-/// It is the name, `-` and an index: a number text that does not begin with 0 unless it is 0. 2, 7, then
-/// 17, 18 or 19.
-pub fn validate_named_u64_index(id: &[u8], name: &[u8]) -> Result<(), Fault> {
-    Fault::of_index(raw::validate_named_u64_index(id, name))
+/// It is the name, `-` and an index: a number text that does not begin with 0 unless it is 0.
+#[doc = errors!(text, BadPrefix, number)]
+pub fn validate_named_u64_index(id: impl AsRef<[u8]>, name: impl AsRef<[u8]>) -> Result<(), Fault> {
+    Fault::of_index(raw::validate_named_u64_index(id.as_ref(), name.as_ref()))
 }
 
-/// It is a client type: 7 to 43 bytes of such characters. 2, 5, 6.
-pub fn validate_client_type(id: &[u8]) -> Result<(), Refusal> {
-    done(raw::validate_client_type(id))
+/// It is a client type: 7 to 43 bytes of such characters.
+#[doc = errors!(id)]
+pub fn validate_client_type(id: impl AsRef<[u8]>) -> Result<(), Refusal> {
+    done(raw::validate_client_type(id.as_ref()))
 }
 
-/// It is a client identifier: 9 to 64 bytes. 2, 5, 6.
+/// It is a client identifier: 9 to 64 bytes.
 ///
 /// ```
 #[doc = concat!("use ", here!(), "::validate_client_identifier;")]
 /// use hostpath::Refusal;
 ///
-/// assert_eq!(validate_client_identifier(b"07-tendermint-4"), Ok(()));
+/// assert_eq!(validate_client_identifier("07-tendermint-4"), Ok(()));
 /// let refusal = validate_client_identifier(b"clientid").unwrap_err();
 /// assert_eq!((refusal, refusal.number()), (Refusal::BadLength, 6));
 /// ```
-pub fn validate_client_identifier(id: &[u8]) -> Result<(), Refusal> {
-    done(raw::validate_client_identifier(id))
+#[doc = errors!(id)]
+pub fn validate_client_identifier(id: impl AsRef<[u8]>) -> Result<(), Refusal> {
+    done(raw::validate_client_identifier(id.as_ref()))
 }
 
-/// It is a connection identifier: `connection-` and an index, 10 to 64 bytes. 2, 5, 6, 7, then 17, 18 or
-/// 19.
-pub fn validate_connection_identifier(id: &[u8]) -> Result<(), Fault> {
-    Fault::of_index(raw::validate_connection_identifier(id))
+/// It is a connection identifier: `connection-` and an index, 10 to 64 bytes.
+#[doc = errors!(id, BadPrefix, number)]
+pub fn validate_connection_identifier(id: impl AsRef<[u8]>) -> Result<(), Fault> {
+    Fault::of_index(raw::validate_connection_identifier(id.as_ref()))
 }
 
-/// It is a port identifier: 2 to 128 bytes. 2, 5, 6.
-pub fn validate_port_identifier(id: &[u8]) -> Result<(), Refusal> {
-    done(raw::validate_port_identifier(id))
+/// It is a port identifier: 2 to 128 bytes.
+#[doc = errors!(id)]
+pub fn validate_port_identifier(id: impl AsRef<[u8]>) -> Result<(), Refusal> {
+    done(raw::validate_port_identifier(id.as_ref()))
 }
 
-/// It is a channel identifier: `channel-` and an index, 8 to 64 bytes. 2, 5, 6, 7, then 17, 18 or 19.
-pub fn validate_channel_identifier(id: &[u8]) -> Result<(), Fault> {
-    Fault::of_index(raw::validate_channel_identifier(id))
+/// It is a channel identifier: `channel-` and an index, 8 to 64 bytes.
+#[doc = errors!(id, BadPrefix, number)]
+pub fn validate_channel_identifier(id: impl AsRef<[u8]>) -> Result<(), Fault> {
+    Fault::of_index(raw::validate_channel_identifier(id.as_ref()))
 }
 
-/// An upgrade path that renders with any height. All that may be missing there is room.
-fn validate_upgrade_path(text: &[u8]) -> Result<(), Refusal> {
-    match done(raw::render(19, text, b"", u64::MAX, 0, &mut []).refusal) {
-        Err(Refusal::NoRoom) => Ok(()),
-        answer => answer,
-    }
-}
-
-/// Declares a part of a path that has passed a check.
+/// Declares an identifier that has passed its check.
 macro_rules! checked {
-    ($(#[$said:meta])* $name:ident, $check:path, $error:ty) => {
+    ($(#[$said:meta])* $name:ident, $check:ident, $error:ty) => {
         $(#[$said])*
+        ///
+        #[doc = concat!("`try_from` makes one of a text, and refuses what [`", stringify!($check), "`] does.")]
         #[derive(Clone, Copy, Debug, PartialEq, Eq, PartialOrd, Ord, Hash)]
         pub struct $name<'a>(pub(crate) &'a str);
 
@@ -91,8 +93,7 @@ macro_rules! checked {
             type Error = $error;
 
             fn try_from(text: &'a [u8]) -> Result<Self, $error> {
-                $check(text)?;
-                Ok(Self(str_of(text)?))
+                $check(text).map(|()| Self(str_of(text)))
             }
         }
 
@@ -125,22 +126,22 @@ macro_rules! checked {
 }
 
 checked! {
-    /// A client identifier. 2, 5, 6.
+    /// A client identifier.
     ClientId, validate_client_identifier, Refusal
 }
 
 checked! {
-    /// A connection identifier. 2, 5, 6, 7, then 17, 18 or 19.
+    /// A connection identifier.
     ConnectionId, validate_connection_identifier, Fault
 }
 
 checked! {
-    /// A port identifier. 2, 5, 6.
+    /// A port identifier.
     PortId, validate_port_identifier, Refusal
 }
 
 checked! {
-    /// A channel identifier. `channel-+01` and `channel-1` are two. 2, 5, 6, 7, then 17, 18 or 19.
+    /// A channel identifier. `channel-+01` and `channel-1` are two.
     ///
     /// ```
     #[doc = concat!("use ", here!(), "::ChannelId;")]
@@ -153,32 +154,65 @@ checked! {
     ChannelId, validate_channel_identifier, Fault
 }
 
-checked! {
-    /// The upgrade path of an upgraded state: a text without `/`, and with any height a path of at most
-    /// 4,096 bytes. 2, 13, 1.
-    UpgradePath, validate_upgrade_path, Refusal
-}
-
 impl<'a> ClientId<'a> {
-    /// Writes the client type without white space at its ends, `-` and the counter; 64 bytes have room
-    /// for each. 2, 5, 6, 4.
+    /// Writes the client type without white space at its ends, `-` and the counter.
     ///
     /// ```
     #[doc = concat!("use ", here!(), "::ClientId;")]
-    /// use hostpath::Refusal;
+    /// use hostpath::{Refusal, CLIENT_ID_ROOM};
     ///
-    /// let mut room = [0; 64];
-    /// assert_eq!(ClientId::new(b"07-tendermint", 4, &mut room)?.as_str(), "07-tendermint-4");
+    /// let mut room = [0; CLIENT_ID_ROOM];
+    /// assert_eq!(ClientId::new("07-tendermint", 4, &mut room)?.as_str(), "07-tendermint-4");
     /// # Ok::<(), Refusal>(())
     /// ```
-    pub fn new(client_type: &[u8], counter: u64, out: &'a mut [u8]) -> Result<Self, Refusal> {
-        written(raw::client_id_new(client_type, counter, out), out).map(Self)
+    #[doc = errors!(id)]
+    pub fn new(
+        client_type: impl AsRef<[u8]>,
+        counter: u64,
+        room: &'a mut [u8; CLIENT_ID_ROOM],
+    ) -> Result<Self, Refusal> {
+        written(raw::client_id_new(client_type.as_ref(), counter, room), room).map(Self)
+    }
+}
+
+impl<'a> ConnectionId<'a> {
+    /// Writes `connection-` and the counter.
+    ///
+    /// ```
+    #[doc = concat!("use ", here!(), "::ConnectionId;")]
+    /// use hostpath::CONNECTION_ID_ROOM;
+    ///
+    /// let mut room = [0; CONNECTION_ID_ROOM];
+    /// assert_eq!(ConnectionId::new(3, &mut room).as_str(), "connection-3");
+    /// ```
+    pub fn new(counter: u64, room: &'a mut [u8; CONNECTION_ID_ROOM]) -> Self {
+        // the word passes for a client type, so it is written as one
+        let answer = raw::client_id_new(Self::prefix().as_bytes(), counter, room);
+        Self(sure(written(answer, room).ok()))
+    }
+
+    /// The word that each begins with.
+    pub const fn prefix() -> &'static str {
+        "connection"
     }
 }
 
 impl<'a> ChannelId<'a> {
-    /// Writes `channel-` and the counter; 28 bytes have room for each. 4.
-    pub fn new(counter: u64, out: &'a mut [u8]) -> Result<Self, Refusal> {
-        written(raw::channel_id_new(counter, out), out).map(Self)
+    /// Writes `channel-` and the counter.
+    ///
+    /// ```
+    #[doc = concat!("use ", here!(), "::ChannelId;")]
+    /// use hostpath::CHANNEL_ID_ROOM;
+    ///
+    /// let mut room = [0; CHANNEL_ID_ROOM];
+    /// assert_eq!(ChannelId::new(7, &mut room).as_str(), "channel-7");
+    /// ```
+    pub fn new(counter: u64, room: &'a mut [u8; CHANNEL_ID_ROOM]) -> Self {
+        Self(sure(written(raw::channel_id_new(counter, room), room).ok()))
+    }
+
+    /// The word that each begins with.
+    pub const fn prefix() -> &'static str {
+        "channel"
     }
 }

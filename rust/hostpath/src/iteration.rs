@@ -1,5 +1,5 @@
 //! Iteration keys, and blocks of them.
-use crate::{done, pair, raw, Refusal};
+use crate::{done, pair, raw, sure, Refusal};
 
 /// An iteration key's bytes.
 pub const ITERATION_KEY: usize = 38;
@@ -10,29 +10,30 @@ pub const ITERATION_KEY: usize = 38;
 /// ```
 /// use hostpath::{IterationKey, Refusal};
 ///
-/// let key = IterationKey::new(7, 2)?;
-/// assert!(key < IterationKey::new(10, 2)?);
+/// let key = IterationKey::new(7, 2);
+/// assert!(key < IterationKey::new(10, 2));
 /// assert_eq!(key.as_bytes()[..22], *b"iterateConsensusStates");
 /// assert_eq!(IterationKey::read(key.as_bytes()), Ok(key));
 /// assert_eq!((key.revision_number(), key.revision_height()), (7, 2));
 /// assert_eq!(IterationKey::read(&key.as_bytes()[1..]), Err(Refusal::BadIterKey));
-/// # Ok::<(), Refusal>(())
 /// ```
 #[derive(Clone, Copy, Debug, PartialEq, Eq, PartialOrd, Ord, Hash)]
 pub struct IterationKey([u8; ITERATION_KEY]);
 
 impl IterationKey {
-    /// The key of a revision number and height; it has room, so nothing is refused.
-    pub fn new(revision_number: u64, revision_height: u64) -> Result<Self, Refusal> {
+    /// The key of a revision number and height.
+    pub fn new(revision_number: u64, revision_height: u64) -> Self {
         let mut key = [0; ITERATION_KEY];
-        done(raw::iteration_key(revision_number, revision_height, &mut key).refusal)?;
-        Ok(Self(key))
+        let answer = raw::iteration_key(revision_number, revision_height, &mut key);
+        sure(done(answer.refusal).ok());
+        Self(key)
     }
 
-    /// The key that a text is. 15.
-    pub fn read(text: &[u8]) -> Result<Self, Refusal> {
-        done(raw::read_iteration_key(text).refusal)?;
-        text.try_into().map(Self).map_err(|_| Refusal::BadIterKey)
+    /// The key that bytes are.
+    #[doc = errors!(BadIterKey)]
+    pub fn read(bytes: &[u8]) -> Result<Self, Refusal> {
+        done(raw::read_iteration_key(bytes).refusal)?;
+        Ok(Self(sure(bytes.try_into().ok())))
     }
 
     /// Its bytes.
@@ -58,22 +59,22 @@ impl AsRef<[u8]> for IterationKey {
 }
 
 /// Revision number and height of the first key above a pair, in a block of iteration keys that stand
-/// one after the other, each above the one before it. 16, 12.
+/// one after the other, each above the one before it.
 ///
 /// ```
 /// use hostpath::{first_above, last_below, IterationKey, Refusal};
 ///
 /// let mut block = vec![];
 /// for (number, height) in [(7, 2), (10, 2), (10, 3)] {
-///     block.extend(IterationKey::new(number, height)?.as_bytes());
+///     block.extend(IterationKey::new(number, height).as_bytes());
 /// }
 /// assert_eq!(first_above(&block, 10, 2), Ok((10, 3))); // a key equal to the pair is not above it
 /// assert_eq!(last_below(&block, 10, 2), Ok((7, 2)));
 /// assert_eq!(first_above(&block, 10, 3), Err(Refusal::Absent));
 /// assert_eq!(last_below(&[], 10, 3), Err(Refusal::Absent));
 /// assert_eq!(last_below(&block[1..], 10, 3), Err(Refusal::BadBlock));
-/// # Ok::<(), Refusal>(())
 /// ```
+#[doc = errors!(BadBlock, Absent)]
 pub fn first_above(
     block: &[u8],
     revision_number: u64,
@@ -82,7 +83,8 @@ pub fn first_above(
     pair(raw::first_above(block, revision_number, revision_height))
 }
 
-/// Revision number and height of the last key below a pair, in such a block. 16, 12.
+/// Revision number and height of the last key below a pair, in such a block.
+#[doc = errors!(BadBlock, Absent)]
 pub fn last_below(
     block: &[u8],
     revision_number: u64,

@@ -1,5 +1,5 @@
 //! Packet keys of IBC version 2, which no book takes.
-use crate::{done, raw, str_of, ClientId, Refusal, Sequence};
+use crate::{bytes_of, done, raw, str_of, sure, ClientId, Refusal, Sequence};
 
 /// The bytes of the longest packet key.
 pub const PACKET_KEY_MOST: usize = 73;
@@ -24,9 +24,8 @@ impl PacketKind {
         self as u8
     }
 
-    fn of(marker: u8) -> Result<Self, Refusal> {
-        let kind = Self::ALL.into_iter().find(|kind| kind.marker() == marker);
-        kind.ok_or(Refusal::BadV2Key)
+    fn of(marker: u8) -> Option<Self> {
+        Self::ALL.into_iter().find(|kind| kind.marker() == marker)
     }
 }
 
@@ -39,7 +38,7 @@ impl PacketKind {
 /// let client_id = ClientId::try_from("07-tendermint-4")?;
 /// let receipt = PacketKey { kind: PacketKind::Receipt, client_id, sequence: 258.into() };
 /// let mut room = [0; PACKET_KEY_MOST];
-/// let key = receipt.write(&mut room)?;
+/// let key = receipt.write(&mut room);
 /// assert_eq!(key, b"07-tendermint-4\x02\0\0\0\0\0\0\x01\x02");
 /// assert_eq!(PacketKey::read(key), Ok(receipt));
 /// assert_eq!(PacketKey::read(&key[..8]), Err(Refusal::BadV2Key));
@@ -56,19 +55,20 @@ pub struct PacketKey<'a> {
 }
 
 impl<'a> PacketKey<'a> {
-    /// Reads a key. 24, then the client's 2, 5, 6.
+    /// Reads a key.
+    #[doc = errors!(BadV2Key, id)]
     pub fn read(key: &'a [u8]) -> Result<Self, Refusal> {
         let answer = raw::v2_read(key);
         done(answer.refusal)?;
-        let client_id = ClientId(str_of(&key[..answer.length as usize])?);
-        Ok(Self { kind: PacketKind::of(answer.kind)?, client_id, sequence: answer.sequence.into() })
+        let client_id = ClientId(str_of(sure(key.get(..answer.length as usize))));
+        let kind = sure(PacketKind::of(answer.kind));
+        Ok(Self { kind, client_id, sequence: answer.sequence.into() })
     }
 
-    /// Writes the key, of at most [`PACKET_KEY_MOST`] bytes. 4.
-    pub fn write<'o>(&self, out: &'o mut [u8]) -> Result<&'o [u8], Refusal> {
+    /// Writes the key.
+    pub fn write<'o>(&self, room: &'o mut [u8; PACKET_KEY_MOST]) -> &'o [u8] {
         let (kind, client) = (self.kind.marker(), self.client_id.as_bytes());
-        let answer = raw::v2_write(kind, client, self.sequence.value(), out);
-        done(answer.refusal)?;
-        Ok(&out[..answer.length as usize])
+        let answer = raw::v2_write(kind, client, self.sequence.value(), room);
+        sure(bytes_of(answer, room).ok())
     }
 }

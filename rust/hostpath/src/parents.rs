@@ -1,39 +1,42 @@
 //! Texts above all records of a client or a channel, by the calls of the module around this one.
 use super::raw;
 use super::{ChannelId, ClientId, PortId};
-use crate::{written, Refusal};
+use crate::{sure, written, PACKETS_ROOM, PARENT_ROOM};
 
-/// Writes `clients/C/consensusStates`. 4.
+/// Writes `clients/C/consensusStates`.
 pub fn consensus_state_parent<'o>(
     client_id: ClientId<'_>,
-    out: &'o mut [u8],
-) -> Result<&'o str, Refusal> {
-    written(raw::consensus_state_parent(client_id.as_bytes(), out), out)
+    room: &'o mut [u8; PARENT_ROOM],
+) -> &'o str {
+    sure(written(raw::consensus_state_parent(client_id.as_bytes(), room), room).ok())
 }
 
-/// Writes `commitments/ports/P/channels/H/sequences`. 4.
-pub fn commitments_path<'o>(
-    port_id: PortId<'_>,
-    channel_id: ChannelId<'_>,
-    out: &'o mut [u8],
-) -> Result<&'o str, Refusal> {
-    written(raw::commitments_path(port_id.as_bytes(), channel_id.as_bytes(), out), out)
+/// Declares a text above the packets of a channel.
+macro_rules! packets {
+    ($(#[$said:meta])* $name:ident) => {
+        $(#[$said])*
+        pub fn $name<'o>(
+            port_id: PortId<'_>,
+            channel_id: ChannelId<'_>,
+            room: &'o mut [u8; PACKETS_ROOM],
+        ) -> &'o str {
+            let answer = raw::$name(port_id.as_bytes(), channel_id.as_bytes(), room);
+            sure(written(answer, room).ok())
+        }
+    };
 }
 
-/// Writes `acks/ports/P/channels/H/sequences`. 4.
-pub fn acks_path<'o>(
-    port_id: PortId<'_>,
-    channel_id: ChannelId<'_>,
-    out: &'o mut [u8],
-) -> Result<&'o str, Refusal> {
-    written(raw::acks_path(port_id.as_bytes(), channel_id.as_bytes(), out), out)
+packets! {
+    /// Writes `commitments/ports/P/channels/H/sequences`.
+    commitments_path
 }
 
-/// Writes `receipts/ports/P/channels/H/sequences`. 4.
-pub fn receipts_path<'o>(
-    port_id: PortId<'_>,
-    channel_id: ChannelId<'_>,
-    out: &'o mut [u8],
-) -> Result<&'o str, Refusal> {
-    written(raw::receipts_path(port_id.as_bytes(), channel_id.as_bytes(), out), out)
+packets! {
+    /// Writes `acks/ports/P/channels/H/sequences`.
+    acks_path
+}
+
+packets! {
+    /// Writes `receipts/ports/P/channels/H/sequences`.
+    receipts_path
 }

@@ -2,11 +2,15 @@
 use core::fmt;
 
 use super::raw;
-use super::{ChannelId, ClientId, ConnectionId, PortId, UpgradePath};
-use crate::{done, str_of, written, Fault, Refusal, Sequence, PATH_MOST, READING};
+use super::{ChannelId, ClientId, ConnectionId, PortId};
+use super::{UpgradeClientStatePath, UpgradeConsensusStatePath};
+use crate::{done, str_of, sure, written, Fault, Refusal, Sequence, PATH_MOST, READING};
 
 /// A path: cases and fields have the names that ibc-rs has for them, and stand in the order of their
 /// kinds, from 1 to 19. Its identifiers are borrowed from the text that was read.
+///
+/// What it carries was checked when it was made, so every path renders. The path of a text is also had by
+/// `try_from`, of its key and of loose spellings alike; [`read`](Self::read) tells the one from the others.
 ///
 /// In the texts below C is a client, K a connection, P a port, H a channel, S a sequence, R-h a revision
 /// number and height, U an upgrade path and n a height.
@@ -48,9 +52,9 @@ pub enum Path<'a> {
     /// `receipts/ports/P/channels/H/sequences/S`
     Receipt { port_id: PortId<'a>, channel_id: ChannelId<'a>, sequence: Sequence },
     /// `U/n/upgradedClient`
-    UpgradeClientState { upgrade_path: UpgradePath<'a>, height: u64 },
+    UpgradeClientState(UpgradeClientStatePath<'a>),
     /// `U/n/upgradedConsState`
-    UpgradeConsensusState { upgrade_path: UpgradePath<'a>, height: u64 },
+    UpgradeConsensusState(UpgradeConsensusStatePath<'a>),
 }
 
 /// What a text is.
@@ -67,10 +71,13 @@ fn number(bytes: &[u8]) -> u64 {
 }
 
 /// The path of a kind, whose identifiers and numbers stand as the header's table has them.
-fn typed<'a>(kind: u8, [first, second]: [&'a str; 2], [a, b]: [u64; 2]) -> Option<Path<'a>> {
+pub(crate) fn typed<'a>(
+    kind: u8,
+    [first, second]: [&'a str; 2],
+    [a, b]: [u64; 2],
+) -> Option<Path<'a>> {
     let (client_id, connection_id) = (ClientId(first), ConnectionId(first));
-    let (port_id, channel_id, upgrade_path) =
-        (PortId(first), ChannelId(second), UpgradePath(first));
+    let (port_id, channel_id, upgrade_path) = (PortId(first), ChannelId(second), first);
     let (revision_number, revision_height, sequence, height) = (a, b, Sequence::from(a), a);
     Some(match kind {
         1 => Path::NextClientSequence,
@@ -90,20 +97,20 @@ fn typed<'a>(kind: u8, [first, second]: [&'a str; 2], [a, b]: [u64; 2]) -> Optio
         15 => Path::Commitment { port_id, channel_id, sequence },
         16 => Path::Ack { port_id, channel_id, sequence },
         17 => Path::Receipt { port_id, channel_id, sequence },
-        18 => Path::UpgradeClientState { upgrade_path, height },
-        19 => Path::UpgradeConsensusState { upgrade_path, height },
+        18 => UpgradeClientStatePath { upgrade_path, height }.into(),
+        19 => UpgradeConsensusStatePath { upgrade_path, height }.into(),
         _ => return None,
     })
 }
 
 impl<'a> Path<'a> {
-    /// Reads a text. 1, 2, 3; in 3's place 17, 18 or 19 where a number alone is wrong.
+    /// Reads a text.
     ///
     /// ```
     #[doc = concat!("use ", here!(), "::Path;")]
     /// use hostpath::Refusal;
     ///
-    /// let reading = Path::read(b"commitments/ports/transfer/channels/channel-0/sequences/5")?;
+    /// let reading = Path::read("commitments/ports/transfer/channels/channel-0/sequences/5")?;
     /// assert!(reading.exact);
     /// assert!(matches!(reading.path, Path::Commitment { sequence, .. } if sequence.value() == 5));
     ///
@@ -111,20 +118,22 @@ impl<'a> Path<'a> {
     /// assert_eq!(fault, Refusal::NotAPath);
     /// # Ok::<(), Refusal>(())
     /// ```
-    pub fn read(text: &'a [u8]) -> Result<Reading<'a>, Fault> {
-        let mut bytes = [0; READING];
+    #[doc = errors!(path)]
+    pub fn read<T: AsRef<[u8]> + ?Sized>(text: &'a T) -> Result<Reading<'a>, Fault> {
+        let (text, mut bytes) = (text.as_ref(), [0; READING]);
         Fault::of_path(raw::walk(text, &mut bytes), text)?;
         let part = |at: usize| {
             let start = number(&bytes[at..at + 2]) as usize;
-            str_of(&text[start..start + number(&bytes[at + 2..at + 4]) as usize])
+            let end = start + number(&bytes[at + 2..at + 4]) as usize;
+            str_of(sure(text.get(start..end)))
         };
         let numbers = [number(&bytes[10..18]), number(&bytes[18..])];
-        let path = typed(bytes[0], [part(2)?, part(6)?], numbers).ok_or(Refusal::BadKind)?;
+        let path = sure(typed(bytes[0], [part(2), part(6)], numbers));
         Ok(Reading { path, exact: bytes[1] == 1 })
     }
 
-    /// Writes the rendering: the path's key in a store. 4; and 1 of an upgrade path that was read with
-    /// a shorter height.
+    /// Writes the rendering: the path's key in a store. [`KEY_MOST`](crate::KEY_MOST) bytes have room for that of
+    /// every path but an upgraded state's, and [`PATH_MOST`] for each.
     ///
     /// ```
     #[doc = concat!("use ", here!(), "::{ClientId, Path};")]
@@ -137,15 +146,17 @@ impl<'a> Path<'a> {
     /// assert_eq!(path.to_string(), "clients/07-tendermint-4/consensusStates/7-2");
     /// # Ok::<(), Refusal>(())
     /// ```
+    #[doc = errors!(NoRoom)]
     pub fn render<'o>(&self, out: &'o mut [u8]) -> Result<&'o str, Refusal> {
         let ([first, second], [a, b]) = self.carried();
         written(raw::render(self.kind(), first.as_bytes(), second.as_bytes(), a, b, out), out)
     }
 
     /// Whether a store can prove that it holds the path: of all but clients' connections and ports.
-    pub fn is_provable(&self) -> Result<bool, Refusal> {
+    pub fn is_provable(&self) -> bool {
         let answer = raw::is_provable(self.kind());
-        done(answer.refusal).map(|()| answer.value == 1)
+        sure(done(answer.refusal).ok());
+        answer.value == 1
     }
 
     /// The number of its kind, from 1 to 19.
@@ -168,13 +179,13 @@ impl<'a> Path<'a> {
             Self::Commitment { .. } => 15,
             Self::Ack { .. } => 16,
             Self::Receipt { .. } => 17,
-            Self::UpgradeClientState { .. } => 18,
-            Self::UpgradeConsensusState { .. } => 19,
+            Self::UpgradeClientState(_) => 18,
+            Self::UpgradeConsensusState(_) => 19,
         }
     }
 
     /// Its identifiers and numbers, as the header's table has them; what its kind lacks is empty or 0.
-    fn carried(&self) -> ([&'a str; 2], [u64; 2]) {
+    pub(crate) fn carried(&self) -> ([&'a str; 2], [u64; 2]) {
         match *self {
             Self::NextClientSequence | Self::NextConnectionSequence | Self::NextChannelSequence => {
                 (["", ""], [0, 0])
@@ -198,33 +209,50 @@ impl<'a> Path<'a> {
             | Self::Receipt { port_id, channel_id, sequence } => {
                 ([port_id.0, channel_id.0], [sequence.value(), 0])
             }
-            Self::UpgradeClientState { upgrade_path, height }
-            | Self::UpgradeConsensusState { upgrade_path, height } => {
-                ([upgrade_path.0, ""], [height, 0])
+            Self::UpgradeClientState(UpgradeClientStatePath { upgrade_path, height })
+            | Self::UpgradeConsensusState(UpgradeConsensusStatePath { upgrade_path, height }) => {
+                ([upgrade_path, ""], [height, 0])
             }
         }
     }
 }
 
-/// The rendering, and an error where [`Path::render`] with room enough is refused.
-impl fmt::Display for Path<'_> {
-    fn fmt(&self, out: &mut fmt::Formatter<'_>) -> fmt::Result {
-        let mut room = [0; PATH_MOST];
-        out.pad(self.render(&mut room).map_err(|_| fmt::Error)?)
+impl<'a> TryFrom<&'a [u8]> for Path<'a> {
+    type Error = Fault;
+
+    fn try_from(text: &'a [u8]) -> Result<Self, Fault> {
+        Self::read(text).map(|reading| reading.path)
     }
 }
 
-/// Writes the key of a text: the rendering of the path that it is read as. 1, 2, 3 (17, 18, 19), 4.
+impl<'a> TryFrom<&'a str> for Path<'a> {
+    type Error = Fault;
+
+    fn try_from(text: &'a str) -> Result<Self, Fault> {
+        text.as_bytes().try_into()
+    }
+}
+
+/// The rendering.
+impl fmt::Display for Path<'_> {
+    fn fmt(&self, out: &mut fmt::Formatter<'_>) -> fmt::Result {
+        let mut room = [0; PATH_MOST];
+        out.pad(sure(self.render(&mut room).ok()))
+    }
+}
+
+/// Writes the key of a text: the rendering of the path that it is read as.
 ///
 /// ```
 #[doc = concat!("use ", here!(), "::key;")]
 /// use hostpath::Refusal;
 ///
 /// let mut room = [0; 64];
-/// let key = key(b"clients/07-tendermint-4/consensusStates/007-+2", &mut room)?;
+/// let key = key("clients/07-tendermint-4/consensusStates/007-+2", &mut room)?;
 /// assert_eq!(key, "clients/07-tendermint-4/consensusStates/7-2");
 /// # Ok::<(), Refusal>(())
 /// ```
-pub fn key<'o>(text: &[u8], out: &'o mut [u8]) -> Result<&'o str, Refusal> {
-    written(raw::key(text, out), out)
+#[doc = errors!(path, NoRoom)]
+pub fn key(text: impl AsRef<[u8]>, out: &mut [u8]) -> Result<&str, Refusal> {
+    written(raw::key(text.as_ref(), out), out)
 }

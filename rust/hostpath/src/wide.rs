@@ -3,47 +3,88 @@
 //!
 //! ```
 //! use hostpath::wide::{validate_port_identifier, ClientId, Path, PortId};
-//! use hostpath::Refusal;
+//! use hostpath::{Refusal, CLIENT_ID_ROOM};
 //!
-//! let text = "ports/πύλη".as_bytes();
+//! let text = "ports/πύλη";
 //! let Path::Ports { port_id } = Path::read(text)?.path else { panic!("it is a port") };
 //! assert_eq!(port_id, PortId::try_from("πύλη")?);
 //! assert_eq!(hostpath::Path::read(text).unwrap_err(), Refusal::NotAscii);
 //!
-//! let mut room = [0; 64];
-//! let client = ClientId::new("\u{3000}07-τέντερμιντ".as_bytes(), 4, &mut room)?;
+//! let mut room = [0; CLIENT_ID_ROOM];
+//! let client = ClientId::new("\u{3000}07-τέντερμιντ", 4, &mut room)?;
 //! assert_eq!(client.as_str(), "07-τέντερμιντ-4");
 //!
-//! assert_eq!(validate_port_identifier("١٢".as_bytes()), Ok(())); // digits of another script
-//! assert_eq!(validate_port_identifier("a\u{301}".as_bytes()), Err(Refusal::BadChar)); // a mark is no letter
+//! assert_eq!(validate_port_identifier("١٢"), Ok(())); // digits of another script
+//! assert_eq!(validate_port_identifier("a\u{301}"), Err(Refusal::BadChar)); // a mark is no letter
 //! assert_eq!(validate_port_identifier(b"\xff\xfe"), Err(Refusal::BadUtf8));
 //! # Ok::<(), Refusal>(())
 //! ```
 //!
-//! A text is UTF-8, strictly as a `str` is: where a description has the refusal 2 it is 21 here. A letter or digit is what
+//! A text is UTF-8, strictly as a `str` is: what is none is refused with [`BadUtf8`](crate::Refusal::BadUtf8), where those
+//! outside have [`NotAscii`](crate::Refusal::NotAscii). A letter or digit is what
 //! `char::is_alphanumeric` takes for one, and white space around a client type what `char::is_whitespace` does, both in
 //! the release of Rust that the library's table names (docs/DIFFERENCES.md). Lengths are counted in bytes, and the
-//! digits of a number are ASCII. On ASCII texts all here answers as the items of that name outside do. Books are
-//! ASCII alone: they refuse the key of such a path with 2.
+//! digits of a number are ASCII. On ASCII texts all here answers as the items of that name outside do, so what was made
+//! outside is made one of these by `From`. Books are ASCII alone: they refuse the key of such a path with
+//! [`NotAscii`](crate::Refusal::NotAscii).
 
-/// Where examples have their items from.
+/// Where examples have their items from, and what a text that is no text is refused with.
 macro_rules! here {
     () => {
         "hostpath::wide"
+    };
+    (text) => {
+        "BadUtf8"
     };
 }
 
 // The same files as outside, over the wide calls.
 #[path = "identifiers.rs"]
 mod identifiers;
+#[cfg(feature = "alloc")]
+#[path = "owned.rs"]
+mod owned;
 #[path = "parents.rs"]
 mod parents;
 #[path = "path.rs"]
 mod path;
+#[path = "upgrade.rs"]
+mod upgrade;
 
 pub use identifiers::*;
+#[cfg(feature = "alloc")]
+pub use owned::*;
 pub use parents::*;
 pub use path::*;
+pub use upgrade::*;
+
+/// Declares that what has passed a check outside has passed the one here.
+macro_rules! widened {
+    ($($name:ident)+) => {
+        $(
+            impl<'a> From<crate::$name<'a>> for $name<'a> {
+                fn from(plain: crate::$name<'a>) -> Self {
+                    Self(plain.0)
+                }
+            }
+        )+
+    };
+}
+
+widened! { ClientId ConnectionId PortId ChannelId }
+
+impl<'a> From<crate::Path<'a>> for Path<'a> {
+    fn from(plain: crate::Path<'a>) -> Self {
+        let (parts, numbers) = plain.carried();
+        crate::sure(path::typed(plain.kind(), parts, numbers))
+    }
+}
+
+impl<'a> From<crate::Reading<'a>> for Reading<'a> {
+    fn from(plain: crate::Reading<'a>) -> Self {
+        Self { path: plain.path.into(), exact: plain.exact }
+    }
+}
 
 /// The calls under the names of the plain ones.
 mod raw {

@@ -1,9 +1,14 @@
 //! The book through its type.
-use hostpath::{book_size, Book, Refusal, Table};
+use hostpath::{book_size, Book, ClientId, Refusal, Table};
 use hostpath::{BOOK_ANSWER, BOOK_HEAD, BOOK_KEY, BOOK_MOST, BOOK_TABLE, BOOK_VALUE};
 
 const LOOSE: &[u8] = b"clients/07-tendermint-4/consensusStates/007-+2";
 const EXACT: &[u8] = b"clients/07-tendermint-4/consensusStates/7-2";
+
+/// The client that the texts are of, and another.
+fn clients() -> [ClientId<'static>; 2] {
+    ["07-tendermint-4", "07-tendermint-5"].map(|id| ClientId::try_from(id).unwrap())
+}
 
 /// What the book holds under a text.
 fn held(book: &Book, text: &[u8]) -> Result<Vec<u8>, Refusal> {
@@ -15,17 +20,36 @@ fn calls() {
     let mut buffer = [0xa5; book_size(2)];
     let mut book = Book::new(&mut buffer).unwrap();
     assert_eq!(held(&book, EXACT), Err(Refusal::Absent));
-    assert_eq!(book.write_lenient(LOOSE, &[1; BOOK_VALUE]), Ok(()));
-    assert_eq!(book.write(EXACT, &[2; 32]), Ok(()));
-    assert_eq!(book.write(b"ports/transfer", &[3]), Ok(()));
-    assert_eq!(book.write(b"ports/icahost", &[4; 32]), Err(Refusal::Full));
+    assert!(book.write_lenient(LOOSE, [1; BOOK_VALUE]).is_ok());
+    assert_eq!(book.write(EXACT, [2; 32]), Ok(()));
+    assert_eq!(book.write("ports/transfer", [3]), Ok(()));
+    assert_eq!(book.write(String::from("ports/icahost"), vec![4; 32]), Err(Refusal::Full));
     assert_eq!(held(&book, EXACT), Ok(vec![2; 32]));
-    assert_eq!(book.oldest(b"07-tendermint-4"), Ok((7, 2)));
-    assert_eq!(book.oldest(b"07-tendermint-5"), Err(Refusal::Absent));
-    assert_eq!(book.remove_lenient(LOOSE), Ok(()));
+    assert_eq!(clients().map(|id| book.oldest(id)), [Ok((7, 2)), Err(Refusal::Absent)]);
+    assert!(book.remove_lenient(LOOSE).is_ok());
     assert_eq!(book.remove(EXACT), Err(Refusal::Absent));
     assert_eq!(book.bytes()[..8], *b"HPB\0\x02\0\x01\0");
     assert_eq!(held(&Book::open(&mut buffer), b"ports/transfer"), Ok(vec![3]));
+}
+
+/// A lenient call answers which key it worked on, also where the text is that key, or as long as a key can be.
+#[test]
+fn keys() {
+    let mut buffer = [0; book_size(1)];
+    let mut book = Book::new(&mut buffer).unwrap();
+    let long = "u".repeat(BOOK_KEY - "/5/upgradedClient".len()) + "/5/upgradedClient";
+    let loose = long.replace("/5/", "/+05/");
+    let exact = std::str::from_utf8(EXACT).unwrap();
+    for (text, key) in [(LOOSE, exact), (EXACT, exact), (loose.as_bytes(), &long)] {
+        let written = book.write_lenient(text, "a digest").unwrap();
+        assert_eq!(written.as_str(), key);
+        let mut room = [0; BOOK_VALUE];
+        let held = book.lookup_lenient(text, &mut room).unwrap();
+        assert_eq!((held.key, held.value), (written, &b"a digest"[..]));
+        let removed = book.remove_lenient(text).unwrap();
+        assert_eq!((removed, removed.to_string()), (written, key.into()));
+        assert_eq!(book.remove_lenient(text), Err(Refusal::Absent));
+    }
 }
 
 /// A loose text is refused by the plain calls, after 3 and before 10, and the lenient ones find its key's record.
@@ -33,11 +57,11 @@ fn calls() {
 fn loose() {
     let mut buffer = [0; book_size(1)];
     let mut book = Book::new(&mut buffer).unwrap();
-    book.write(EXACT, &[1; 32]).unwrap();
+    book.write(EXACT, [1; 32]).unwrap();
     let before = book.bytes().to_vec();
     let long = [&[b'u'; 300][..], b"/05/upgradedClient"].concat();
     for (text, lenient) in [(LOOSE, Ok(())), (&long, Err(Refusal::KeyTooLong))] {
-        assert_eq!(book.write(text, &[2; BOOK_VALUE + 1]), Err(Refusal::Loose));
+        assert_eq!(book.write(text, [2; BOOK_VALUE + 1]), Err(Refusal::Loose));
         assert_eq!(book.remove(text), Err(Refusal::Loose));
         assert_eq!(held(&book, text), Err(Refusal::Loose));
         assert_eq!(book.bytes(), before);
@@ -53,10 +77,10 @@ fn no_book() {
     }
     let mut buffer = [0; book_size(1)];
     let mut book = Book::open(&mut buffer);
-    assert_eq!(book.write(EXACT, &[1; 32]), Err(Refusal::BadBook));
+    assert_eq!(book.write(EXACT, [1; 32]), Err(Refusal::BadBook));
     assert_eq!(book.remove(EXACT), Err(Refusal::BadBook));
     assert_eq!(held(&book, EXACT), Err(Refusal::BadBook));
-    assert_eq!(book.oldest(b"07-tendermint-4"), Err(Refusal::BadBook));
+    assert_eq!(book.oldest(clients()[0]), Err(Refusal::BadBook));
     assert_eq!(buffer, [0; book_size(1)]);
 }
 
@@ -95,7 +119,7 @@ fn converted() {
     let mut new = [0xa5; book_size(2)];
     let book = Book::convert(&old, &mut new).unwrap();
     assert_eq!(held(&book, EXACT), Ok(vec![7; 32]));
-    assert_eq!(book.oldest(b"07-tendermint-4"), Ok((7, 2)));
+    assert_eq!(book.oldest(clients()[0]), Ok((7, 2)));
     assert_eq!(held(&Book::open(&mut old), EXACT), Err(Refusal::BadBook));
     let none = Book::convert(&new, &mut [0; book_size(2)]).map(|_| ());
     assert_eq!(none, Err(Refusal::BadBook));
@@ -113,7 +137,7 @@ fn many() {
     let mut book = Book::new(&mut buffer).unwrap();
     let ports: Vec<String> = (0..BOOK_MOST).map(|port| format!("ports/transfer.{port}")).collect();
     for (port, at) in ports.iter().zip(1..) {
-        book.write(port.as_bytes(), &vec![at; 1 + usize::from(at) % BOOK_VALUE]).unwrap();
+        book.write(port, vec![at; 1 + usize::from(at) % BOOK_VALUE]).unwrap();
     }
     let mut buckets = [0xa5; BOOK_TABLE];
     let mut table = Table::open(&mut buckets);
@@ -175,8 +199,8 @@ fn addresses() {
     let mut room = [0xa5; book_size(2) + 32];
     for at in 0..32 {
         let mut book = Book::new(&mut room[at..at + book_size(2)]).unwrap();
-        assert_eq!(book.write(b"ports/transfer", &[1; 33]), Ok(()));
-        assert_eq!(book.write(EXACT, &[2; BOOK_VALUE]), Ok(()));
+        assert_eq!(book.write("ports/transfer", [1; 33]), Ok(()));
+        assert_eq!(book.write(EXACT, [2; BOOK_VALUE]), Ok(()));
         assert_eq!(held(&book, b"ports/transfer"), Ok(vec![1; 33]));
         assert_eq!(book.remove(EXACT), Ok(()));
         assert!(room[at + book_size(2)..].iter().all(|byte| *byte == 0xa5));

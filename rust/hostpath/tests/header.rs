@@ -62,13 +62,13 @@ fn kinds() {
         let (name, said) = line.trim().split_once(" = ").unwrap();
         let shape = said.split("/* ").nth(1).unwrap().trim_end_matches(" */");
         let text = shape.split('/').map(filled).collect::<Vec<_>>().join("/");
-        let reading = Path::read(text.as_bytes()).unwrap();
+        let reading = Path::read(&text).unwrap();
         let (path, case) = (reading.path, format!("{:?}", reading.path));
         assert_eq!((path.kind(), reading.exact), (kind, true), "{line}");
         assert_eq!(number(&name["HP_".len()..]), Some(kind.into()), "{line}");
-        assert_eq!(plain(name), plain(&format!("HP{}", case.split(' ').next().unwrap())));
+        assert_eq!(plain(name), plain(&format!("HP{}", case.split([' ', '(']).next().unwrap())));
         assert_eq!(path.to_string(), text);
-        assert_eq!(path.is_provable(), Ok(![8, 10].contains(&kind)), "{line}");
+        assert_eq!(path.is_provable(), ![8, 10].contains(&kind), "{line}");
     }
     assert_eq!(list.matches(" = ").count(), 19);
 }

@@ -1,10 +1,9 @@
 //! Paths, identifiers and refusals through their types. What every call answers is the comparison's
 //! business, in oracle/compare.
 use hostpath::{
-    acks_path, book_size, client_state_prefix, consensus_state_parent, key, update_time_leaf,
-    validate_connection_identifier, validate_identifier_length, validate_named_u64_index, Book,
-    ChannelId, ClientId, ConnectionId, Fault, IterationKey, Number, Path, Place, PortId, Refusal,
-    UpgradePath,
+    book_size, key, validate_connection_identifier, validate_identifier_length,
+    validate_named_u64_index, Book, ChannelId, ClientId, ConnectionId, Fault, IterationKey, Number,
+    Path, Place, PortId, Reading, Refusal, Sequence, CHANNEL_ID_ROOM, CLIENT_ID_ROOM,
 };
 
 #[test]
@@ -20,6 +19,64 @@ fn parts() {
     assert!(!reading.exact);
 }
 
+/// A text is what people have: bytes or a `str`, borrowed from what owns it.
+#[test]
+fn texts() {
+    let text = String::from("ports/transfer");
+    let reading: Reading = Path::read(&text).unwrap();
+    let same = [
+        Path::read("ports/transfer"),
+        Path::read(b"ports/transfer"),
+        Path::read(text.as_str()),
+        Path::read(text.as_bytes()),
+    ];
+    assert_eq!(same, [Ok(reading); 4]);
+    let bytes = text.clone().into_bytes();
+    assert_eq!(Path::read(&bytes), Ok(reading));
+    let path: Path = "ports/transfer".try_into().unwrap();
+    assert_eq!((path, Path::try_from(&bytes[..])), (reading.path, Ok(path)));
+}
+
+/// A path by `try_from` is that of the reading, whether the text is its key or not.
+#[test]
+fn tried() {
+    let loose = "clients/07-tendermint-4/consensusStates/007-2";
+    assert_eq!(Path::try_from(loose), Path::read(loose).map(|reading| reading.path));
+    assert_eq!(Path::try_from("clients"), Err(Refusal::NotAPath.into()));
+    let fault = Path::try_from("x/5x/upgradedClient").unwrap_err();
+    assert_eq!(fault.place, Some(Place { number: Number::UpgradeHeight, byte: 3 }));
+}
+
+/// A sequence is read as document 01 has number texts, and shown as a number.
+#[test]
+fn sequences() {
+    let most = u64::MAX.to_string();
+    let long = "0".repeat(5000) + "7";
+    for (text, number) in
+        [("0", 0), ("7", 7), ("+7", 7), ("+007", 7), (&long, 7), (&most, u64::MAX)]
+    {
+        let sequence: Sequence = text.parse().unwrap();
+        assert_eq!((u64::from(sequence), sequence.to_string()), (number, number.to_string()));
+    }
+    for (text, refusal) in [
+        ("", Refusal::NoDigits),
+        ("+", Refusal::NoDigits),
+        ("++7", Refusal::NotADigit),
+        ("-7", Refusal::NotADigit),
+        (" 7", Refusal::NotADigit),
+        ("7x", Refusal::NotADigit),
+        ("٣", Refusal::NotADigit),
+        ("18446744073709551616", Refusal::TooLarge),
+        ("99999999999999999999x", Refusal::TooLarge),
+    ] {
+        assert_eq!(text.parse::<Sequence>(), Err(refusal), "{text}");
+        let within = format!("acks/ports/ab/channels/channel-1/sequences/{text}");
+        let as_path = if text.is_ascii() { refusal } else { Refusal::NotAscii };
+        assert_eq!(Path::read(&within).unwrap_err(), as_path, "{text}");
+    }
+    assert_eq!(Sequence::default(), 0.into());
+}
+
 #[test]
 fn rooms() {
     let path = Path::read(b"ports/transfer").unwrap().path;
@@ -33,12 +90,12 @@ fn rooms() {
 
 #[test]
 fn identifiers() {
-    let mut out = [b'.'; 12];
-    assert_eq!(ChannelId::new(7, &mut out).map(ChannelId::as_str), Ok("channel-7"));
-    assert_eq!(&out, b"channel-7...");
-    assert_eq!(ClientId::new(b"07 tendermint", 4, &mut out), Err(Refusal::BadChar));
-    assert_eq!(&out, b"channel-7...");
-    assert_eq!(ChannelId::new(7, &mut []), Err(Refusal::NoRoom));
+    let mut out = [b'.'; CHANNEL_ID_ROOM];
+    assert_eq!(ChannelId::new(7, &mut out).as_str(), "channel-7");
+    assert_eq!(&out, b"channel-7...................");
+    let mut out = [b'.'; CLIENT_ID_ROOM];
+    assert_eq!(ClientId::new("07 tendermint", 4, &mut out), Err(Refusal::BadChar));
+    assert_eq!(out, [b'.'; CLIENT_ID_ROOM]);
     assert_eq!(PortId::try_from(&b"\xff"[..]), Err(Refusal::NotAscii));
     let port = PortId::try_from("transfer").unwrap();
     assert_eq!((&port, port.to_string().as_str()), (&port, "transfer"));
@@ -134,34 +191,11 @@ fn refusals_without_a_place() {
     assert_eq!(book.lookup(text, &mut [0; 64]), Err(Refusal::NotADigit));
 }
 
-/// An upgrade path that is taken renders with any height.
 #[test]
-fn upgrade_paths() {
-    let most = "u".repeat(hostpath::PATH_MOST - "/18446744073709551615/upgradedConsState".len());
-    let upgrade_path = UpgradePath::try_from(most.as_str()).unwrap();
-    let path = Path::UpgradeConsensusState { upgrade_path, height: u64::MAX };
-    assert_eq!(path.to_string().len(), hostpath::PATH_MOST);
-    assert_eq!(UpgradePath::try_from((most + "u").as_str()), Err(Refusal::TooLong));
-    assert_eq!(UpgradePath::try_from("a/b"), Err(Refusal::BadSegment));
-    assert_eq!(UpgradePath::try_from("").map(UpgradePath::as_str), Ok(""));
-}
-
-#[test]
-fn texts() {
-    let mut out = [0; 64];
-    let client = ClientId::try_from("07-tendermint-4").unwrap();
-    let (port, channel) =
-        (PortId::try_from("transfer").unwrap(), ChannelId::try_from("channel-0").unwrap());
-    assert_eq!(client_state_prefix(&mut out), Ok("clients"));
-    let parent = consensus_state_parent(client, &mut out);
-    assert_eq!(parent, Ok("clients/07-tendermint-4/consensusStates"));
-    assert_eq!(update_time_leaf(7, 2, &mut out), Ok("consensusStates/7-2/processedTime"));
-    let acks = acks_path(port, channel, &mut out);
-    assert_eq!(acks, Ok("acks/ports/transfer/channels/channel-0/sequences"));
-    assert_eq!(acks_path(port, channel, &mut out[..9]), Err(Refusal::NoRoom));
+fn iteration_keys() {
     let mut key = b"iterateConsensusStates".to_vec();
     key.extend([0, 0, 0, 0, 0, 0, 0, 7, 0, 0, 0, 0, 0, 0, 1, 2]);
-    assert_eq!(IterationKey::new(7, 258).unwrap().as_ref(), key);
+    assert_eq!(IterationKey::new(7, 258).as_ref(), key);
 }
 
 #[test]

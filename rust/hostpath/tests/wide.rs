@@ -3,9 +3,11 @@
 use hostpath::wide::{
     acks_path, commitments_path, consensus_state_parent, key, receipts_path,
     validate_identifier_chars, validate_identifier_length, validate_named_u64_index,
-    validate_prefix_length, ChannelId, ClientId, ConnectionId, Path, PortId, UpgradePath,
+    validate_prefix_length, ChannelId, ClientId, ConnectionId, Path, PortId, Reading,
+    UpgradeConsensusStatePath,
 };
-use hostpath::{book_size, Book, Fault, Number, Place, Refusal, PATH_MOST};
+use hostpath::{book_size, Book, Fault, Number, Place, Refusal};
+use hostpath::{CHANNEL_ID_ROOM, CLIENT_ID_ROOM, PACKETS_ROOM, PARENT_ROOM, PATH_MOST};
 
 /// Identifiers are borrowed from the text as they were written, and the rendering is the key.
 #[test]
@@ -23,7 +25,7 @@ fn paths() {
     let mut room = [0; 64];
     assert_eq!(key(text.as_bytes(), &mut room), Ok(made));
     assert_eq!(reading.path.render(&mut room[..made.len() - 1]), Err(Refusal::NoRoom));
-    assert_eq!(reading.path.is_provable(), Ok(true));
+    assert!(reading.path.is_provable());
     assert!(Path::read(made.as_bytes()).unwrap().exact);
 }
 
@@ -72,37 +74,60 @@ fn lengths_are_in_bytes() {
     assert!(PortId::try_from("é".repeat(64).as_str()).is_ok());
     assert_eq!(PortId::try_from("é".repeat(65).as_str()), Err(Refusal::BadLength));
     let most = "é".repeat((PATH_MOST - "/18446744073709551615/upgradedConsState".len()) / 2);
-    let upgrade_path = UpgradePath::try_from(most.as_str()).unwrap();
-    let path = Path::UpgradeConsensusState { upgrade_path, height: u64::MAX };
+    let path = Path::from(UpgradeConsensusStatePath::new(&most, u64::MAX).unwrap());
     assert_eq!(path.to_string().len(), PATH_MOST - 1);
-    assert_eq!(UpgradePath::try_from((most + "é").as_str()), Err(Refusal::TooLong));
-    assert_eq!(UpgradePath::try_from("é/"), Err(Refusal::BadSegment));
-    assert_eq!(UpgradePath::try_from("🦀").map(UpgradePath::as_str), Ok("🦀"));
+    let more = most + "é";
+    assert_eq!(UpgradeConsensusStatePath::new(&more, u64::MAX), Err(Refusal::TooLong));
+    assert_eq!(UpgradeConsensusStatePath::new("é/", 5), Err(Refusal::BadSegment));
+    assert_eq!(UpgradeConsensusStatePath::new(b"\xff", 5), Err(Refusal::BadUtf8));
+    let crab = UpgradeConsensusStatePath::new("🦀", 5).unwrap();
+    assert_eq!(crab.upgrade_path(), "🦀");
 }
 
 #[test]
 fn texts() {
-    let mut room = [0; 96];
-    let client = ClientId::new("\u{3000}клиент\u{85}".as_bytes(), 4, &mut room);
+    let mut room = [0; CLIENT_ID_ROOM];
+    let client = ClientId::new("\u{3000}клиент\u{85}", 4, &mut room);
     assert_eq!(client.map(ClientId::as_str), Ok("клиент-4"));
-    let client = ClientId::try_from("клиент-4").unwrap();
-    let parent = consensus_state_parent(client, &mut room);
-    assert_eq!(parent, Ok("clients/клиент-4/consensusStates"));
+    let parent = &mut [0; PARENT_ROOM];
+    let parent = consensus_state_parent(client.unwrap(), parent);
+    assert_eq!(parent, "clients/клиент-4/consensusStates");
     let port = PortId::try_from("港口").unwrap();
-    let mut other = [0; 28];
-    let channel = ChannelId::new(7, &mut other).unwrap();
+    let (mut id, mut room) = ([0; CHANNEL_ID_ROOM], [0; PACKETS_ROOM]);
+    let channel = ChannelId::new(7, &mut id);
     assert_eq!(
         commitments_path(port, channel, &mut room),
-        Ok("commitments/ports/港口/channels/channel-7/sequences")
+        "commitments/ports/港口/channels/channel-7/sequences"
     );
-    assert_eq!(
-        acks_path(port, channel, &mut room),
-        Ok("acks/ports/港口/channels/channel-7/sequences")
-    );
+    assert_eq!(acks_path(port, channel, &mut room), "acks/ports/港口/channels/channel-7/sequences");
     assert_eq!(
         receipts_path(port, channel, &mut room),
-        Ok("receipts/ports/港口/channels/channel-7/sequences")
+        "receipts/ports/港口/channels/channel-7/sequences"
     );
+}
+
+/// What was made outside is the same here.
+#[test]
+fn widened() {
+    let client = hostpath::ClientId::try_from("07-tendermint-4").unwrap();
+    assert_eq!(ClientId::from(client), ClientId::try_from(client.as_str()).unwrap());
+    let connection = hostpath::ConnectionId::try_from("connection-3").unwrap();
+    assert_eq!(ConnectionId::from(connection), ConnectionId::try_from("connection-3").unwrap());
+    let port = hostpath::PortId::try_from("transfer").unwrap();
+    assert_eq!(PortId::from(port), PortId::try_from("transfer").unwrap());
+    let channel = hostpath::ChannelId::try_from("channel-+01").unwrap();
+    assert_eq!(ChannelId::from(channel), ChannelId::try_from("channel-+01").unwrap());
+    for text in [
+        "nextChannelSequence",
+        "clients/07-tendermint-4/consensusStates/007-2/processedTime",
+        "connections/connection-3",
+        "receipts/ports/transfer/channels/channel-0/sequences/5",
+        "upgradedIBCState/5/upgradedClient",
+        "upgradedIBCState/05/upgradedConsState",
+    ] {
+        let (plain, wide) = (hostpath::Path::read(text).unwrap(), Path::read(text).unwrap());
+        assert_eq!((Reading::from(plain), Path::from(plain.path)), (wide, wide.path), "{text}");
+    }
 }
 
 /// A book keeps ASCII keys alone.
