@@ -154,6 +154,30 @@ function rust_comment(text) {
     return "/// " text
 }
 
+# Where the refusals of a call's comment begin: behind its last colon that stands in no parenthesis.
+function refusals_at(text,    i, depth, at) {
+    for (i = 1; i <= length(text); i++) {
+        depth += (substr(text, i, 1) == "(") - (substr(text, i, 1) == ")")
+        if (!depth && substr(text, i, 2) ~ /:[ \n]/) at = i
+    }
+    return at
+}
+
+# A call's comment with each refusal's number linked to its variant.
+function linked(text,    at, rest, all, word, k) {
+    at = refusals_at(text)
+    if (!at) return text
+    all = substr(text, 1, at)
+    rest = substr(text, at + 1)
+    while (match(rest, /[0-9]+(,[0-9]+)*/)) {
+        word = substr(rest, RSTART, RLENGTH)
+        for (k = 1; k <= refusals && number[k] "" != word; k++);
+        all = all substr(rest, 1, RSTART - 1) (k > refusals ? word : "[" word "](crate::Refusal::" camel(refusal[k]) ")")
+        rest = substr(rest, RSTART + RLENGTH)
+    }
+    return all rest
+}
+
 function of_refusal(what, k) {
     if (what == "refusals in c") {
         say(c_comment(sentence[refusal[k]]))
@@ -194,7 +218,7 @@ function of_call(what, n) {
         say("/// [`" call[n] "`] on pointers.")
         say("pub fn hp_" call[n] "(" rust_arguments(n, "pointers") ") -> " answer[n] ";")
     } else if (what == "calls on slices") {
-        say("\n" rust_comment(says[n]))
+        say("\n" rust_comment(linked(says[n])))
         say("pub fn " call[n] "(" rust_arguments(n, "slices") ") -> " answer[n] " {")
         say("    // SAFETY: each pointer and count are those of one live slice.")
         say("    unsafe { c::hp_" call[n] "(" rust_arguments(n, "passed") ") }\n}")

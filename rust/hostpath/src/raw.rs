@@ -207,70 +207,70 @@ pub mod c {
 
 // Below, made by bin/interface: calls on slices.
 
-/// All bytes are A-Z, a-z, 0-9 or one of `. _ + - # [ ] < >`: 2, 5.
+/// All bytes are A-Z, a-z, 0-9 or one of `. _ + - # [ ] < >`: [2](crate::Refusal::NotAscii), [5](crate::Refusal::BadChar).
 pub fn validate_identifier_chars(id: &[u8]) -> u8 {
     // SAFETY: each pointer and count are those of one live slice.
     unsafe { c::hp_validate_identifier_chars(id.as_ptr(), id.len()) }
 }
 
-/// The length is from min, raised to 1, to max: 2, 6.
+/// The length is from min, raised to 1, to max: [2](crate::Refusal::NotAscii), [6](crate::Refusal::BadLength).
 pub fn validate_identifier_length(id: &[u8], min: u64, max: u64) -> u8 {
     // SAFETY: each pointer and count are those of one live slice.
     unsafe { c::hp_validate_identifier_length(id.as_ptr(), id.len(), min, max) }
 }
 
-/// The length is from min - 2, raised to 1, to max - 21, both stopping at 0: 2, 6.
+/// The length is from min - 2, raised to 1, to max - 21, both stopping at 0: [2](crate::Refusal::NotAscii), [6](crate::Refusal::BadLength).
 pub fn validate_prefix_length(prefix: &[u8], min: u64, max: u64) -> u8 {
     // SAFETY: each pointer and count are those of one live slice.
     unsafe { c::hp_validate_prefix_length(prefix.as_ptr(), prefix.len(), min, max) }
 }
 
 /// The name, `-` and an index; either text may give 2. The place of 17, 18 and 19 is the byte of id where the fault
-/// stands: 2, 7, then 17, 18 or 19.
+/// stands: [2](crate::Refusal::NotAscii), [7](crate::Refusal::BadPrefix), then [17](crate::Refusal::NoDigits), [18](crate::Refusal::NotADigit) or [19](crate::Refusal::TooLarge).
 pub fn validate_named_u64_index(id: &[u8], name: &[u8]) -> Fault {
     // SAFETY: each pointer and count are those of one live slice.
     unsafe { c::hp_validate_named_u64_index(id.as_ptr(), id.len(), name.as_ptr(), name.len()) }
 }
 
-/// A client type of 7 to 43 bytes: 2, 5, 6.
+/// A client type of 7 to 43 bytes: [2](crate::Refusal::NotAscii), [5](crate::Refusal::BadChar), [6](crate::Refusal::BadLength).
 pub fn validate_client_type(id: &[u8]) -> u8 {
     // SAFETY: each pointer and count are those of one live slice.
     unsafe { c::hp_validate_client_type(id.as_ptr(), id.len()) }
 }
 
-/// A client identifier of 9 to 64 bytes: 2, 5, 6.
+/// A client identifier of 9 to 64 bytes: [2](crate::Refusal::NotAscii), [5](crate::Refusal::BadChar), [6](crate::Refusal::BadLength).
 pub fn validate_client_identifier(id: &[u8]) -> u8 {
     // SAFETY: each pointer and count are those of one live slice.
     unsafe { c::hp_validate_client_identifier(id.as_ptr(), id.len()) }
 }
 
-/// A connection identifier of 10 to 64 bytes, `connection-` and an index, with the place as above: 2, 5, 6, 7, then 17,
-/// 18 or 19.
+/// A connection identifier of 10 to 64 bytes, `connection-` and an index, with the place as above: [2](crate::Refusal::NotAscii), [5](crate::Refusal::BadChar), [6](crate::Refusal::BadLength), [7](crate::Refusal::BadPrefix), then [17](crate::Refusal::NoDigits),
+/// [18](crate::Refusal::NotADigit) or [19](crate::Refusal::TooLarge).
 pub fn validate_connection_identifier(id: &[u8]) -> Fault {
     // SAFETY: each pointer and count are those of one live slice.
     unsafe { c::hp_validate_connection_identifier(id.as_ptr(), id.len()) }
 }
 
-/// A port identifier of 2 to 128 bytes: 2, 5, 6.
+/// A port identifier of 2 to 128 bytes: [2](crate::Refusal::NotAscii), [5](crate::Refusal::BadChar), [6](crate::Refusal::BadLength).
 pub fn validate_port_identifier(id: &[u8]) -> u8 {
     // SAFETY: each pointer and count are those of one live slice.
     unsafe { c::hp_validate_port_identifier(id.as_ptr(), id.len()) }
 }
 
-/// A channel identifier of 8 to 64 bytes, `channel-` and an index, with the place as above: 2, 5, 6, 7, then 17,
-/// 18 or 19.
+/// A channel identifier of 8 to 64 bytes, `channel-` and an index, with the place as above: [2](crate::Refusal::NotAscii), [5](crate::Refusal::BadChar), [6](crate::Refusal::BadLength), [7](crate::Refusal::BadPrefix), then [17](crate::Refusal::NoDigits),
+/// [18](crate::Refusal::NotADigit) or [19](crate::Refusal::TooLarge).
 pub fn validate_channel_identifier(id: &[u8]) -> Fault {
     // SAFETY: each pointer and count are those of one live slice.
     unsafe { c::hp_validate_channel_identifier(id.as_ptr(), id.len()) }
 }
 
-/// The client type without the bytes 9 to 13 and 32 at its ends, `-` and the counter: 2, 5, 6, 4.
+/// The client type without the bytes 9 to 13 and 32 at its ends, `-` and the counter: [2](crate::Refusal::NotAscii), [5](crate::Refusal::BadChar), [6](crate::Refusal::BadLength), [4](crate::Refusal::NoRoom).
 pub fn client_id_new(client_type: &[u8], counter: u64, out: &mut [u8]) -> Written {
     // SAFETY: each pointer and count are those of one live slice.
     unsafe { c::hp_client_id_new(client_type.as_ptr(), client_type.len(), counter, out.as_mut_ptr(), out.len()) }
 }
 
-/// `channel-` and the counter: 4.
+/// `channel-` and the counter: [4](crate::Refusal::NoRoom).
 pub fn channel_id_new(counter: u64, out: &mut [u8]) -> Written {
     // SAFETY: each pointer and count are those of one live slice.
     unsafe { c::hp_channel_id_new(counter, out.as_mut_ptr(), out.len()) }
@@ -278,7 +278,7 @@ pub fn channel_id_new(counter: u64, out: &mut [u8]) -> Written {
 
 /// The reading in 26 bytes, high bytes first: kind; 1 exact or 0 loose; start and length of the first identifier
 /// and of the second, 2 bytes each; two numbers of 8 bytes. What the kind lacks is 0. 17, 18 and 19 stand at 3's place, where
-/// a number alone is wrong, with the byte of the text where its fault stands: 1, 2, 3 (17, 18, 19), 4.
+/// a number alone is wrong, with the byte of the text where its fault stands: [1](crate::Refusal::TooLong), [2](crate::Refusal::NotAscii), [3](crate::Refusal::NotAPath) ([17](crate::Refusal::NoDigits), [18](crate::Refusal::NotADigit), [19](crate::Refusal::TooLarge)), [4](crate::Refusal::NoRoom).
 pub fn read(text: &[u8], out: &mut [u8]) -> Fault {
     // SAFETY: each pointer and count are those of one live slice.
     unsafe { c::hp_read(text.as_ptr(), text.len(), out.as_mut_ptr(), out.len()) }
@@ -290,315 +290,315 @@ pub fn walk(text: &[u8], out: &mut [u8]) -> Fault {
     unsafe { c::hp_walk(text.as_ptr(), text.len(), out.as_mut_ptr(), out.len()) }
 }
 
-/// The rendering of the text: 1, 2, 3 (17, 18, 19), 4.
+/// The rendering of the text: [1](crate::Refusal::TooLong), [2](crate::Refusal::NotAscii), [3](crate::Refusal::NotAPath) ([17](crate::Refusal::NoDigits), [18](crate::Refusal::NotADigit), [19](crate::Refusal::TooLarge)), [4](crate::Refusal::NoRoom).
 pub fn key(text: &[u8], out: &mut [u8]) -> Written {
     // SAFETY: each pointer and count are those of one live slice.
     unsafe { c::hp_key(text.as_ptr(), text.len(), out.as_mut_ptr(), out.len()) }
 }
 
-/// The path of a kind; what the kind lacks has no influence: 14, first, second (an upgrade path: 2, 13), 1, 4.
+/// The path of a kind; what the kind lacks has no influence: [14](crate::Refusal::BadKind), first, second (an upgrade path: [2](crate::Refusal::NotAscii), [13](crate::Refusal::BadSegment)), [1](crate::Refusal::TooLong), [4](crate::Refusal::NoRoom).
 pub fn render(kind: u8, first: &[u8], second: &[u8], a: u64, b: u64, out: &mut [u8]) -> Written {
     // SAFETY: each pointer and count are those of one live slice.
     unsafe { c::hp_render(kind, first.as_ptr(), first.len(), second.as_ptr(), second.len(), a, b, out.as_mut_ptr(), out.len()) }
 }
 
-/// 1 where paths of the kind are provable: 14.
+/// 1 where paths of the kind are provable: [14](crate::Refusal::BadKind).
 pub fn is_provable(kind: u8) -> Flag {
     // SAFETY: each pointer and count are those of one live slice.
     unsafe { c::hp_is_provable(kind) }
 }
 
-/// `iterateConsensusStates`, number and height, 38 bytes: 4.
+/// `iterateConsensusStates`, number and height, 38 bytes: [4](crate::Refusal::NoRoom).
 pub fn iteration_key(number: u64, height: u64, out: &mut [u8]) -> Written {
     // SAFETY: each pointer and count are those of one live slice.
     unsafe { c::hp_iteration_key(number, height, out.as_mut_ptr(), out.len()) }
 }
 
-/// The revision number and height of an iteration key: 15.
+/// The revision number and height of an iteration key: [15](crate::Refusal::BadIterKey).
 pub fn read_iteration_key(key: &[u8]) -> Pair {
     // SAFETY: each pointer and count are those of one live slice.
     unsafe { c::hp_read_iteration_key(key.as_ptr(), key.len()) }
 }
 
 /// The first key above number and height in a block of iteration keys that stand one after the other and rise. 16 for a
-/// length that is no multiple of 38, for a piece that is no key, and for keys out of order or equal: 16, 12.
+/// length that is no multiple of 38, for a piece that is no key, and for keys out of order or equal: [16](crate::Refusal::BadBlock), [12](crate::Refusal::Absent).
 pub fn first_above(block: &[u8], number: u64, height: u64) -> Pair {
     // SAFETY: each pointer and count are those of one live slice.
     unsafe { c::hp_first_above(block.as_ptr(), block.len(), number, height) }
 }
 
-/// The last key below number and height in such a block: 16, 12.
+/// The last key below number and height in such a block: [16](crate::Refusal::BadBlock), [12](crate::Refusal::Absent).
 pub fn last_below(block: &[u8], number: u64, height: u64) -> Pair {
     // SAFETY: each pointer and count are those of one live slice.
     unsafe { c::hp_last_below(block.as_ptr(), block.len(), number, height) }
 }
 
 /// What a packet key says: its kind, 1 commitments, 2 receipts, 3 acknowledgements; how many of its first bytes are the
-/// client; its sequence. The last nine bytes are cut off first. 24 for fewer than nine, or for another marker: 24, the
-/// client's 2, 5, 6.
+/// client; its sequence. The last nine bytes are cut off first. 24 for fewer than nine, or for another marker: [24](crate::Refusal::BadV2Key), the
+/// client's [2](crate::Refusal::NotAscii), [5](crate::Refusal::BadChar), [6](crate::Refusal::BadLength).
 pub fn v2_read(key: &[u8]) -> Packet {
     // SAFETY: each pointer and count are those of one live slice.
     unsafe { c::hp_v2_read(key.as_ptr(), key.len()) }
 }
 
 /// The client, the kind's marker byte, and the sequence in 8 bytes, high byte first. 24 for a kind that is not 1, 2 or 3:
-/// 24, the client's 2, 5, 6; then 4.
+/// [24](crate::Refusal::BadV2Key), the client's [2](crate::Refusal::NotAscii), [5](crate::Refusal::BadChar), [6](crate::Refusal::BadLength); then [4](crate::Refusal::NoRoom).
 pub fn v2_write(kind: u8, client: &[u8], sequence: u64, out: &mut [u8]) -> Written {
     // SAFETY: each pointer and count are those of one live slice.
     unsafe { c::hp_v2_write(kind, client.as_ptr(), client.len(), sequence, out.as_mut_ptr(), out.len()) }
 }
 
-/// `clients`: 4.
+/// `clients`: [4](crate::Refusal::NoRoom).
 pub fn client_state_prefix(out: &mut [u8]) -> Written {
     // SAFETY: each pointer and count are those of one live slice.
     unsafe { c::hp_client_state_prefix(out.as_mut_ptr(), out.len()) }
 }
 
-/// `clientState`: 4.
+/// `clientState`: [4](crate::Refusal::NoRoom).
 pub fn client_state_leaf(out: &mut [u8]) -> Written {
     // SAFETY: each pointer and count are those of one live slice.
     unsafe { c::hp_client_state_leaf(out.as_mut_ptr(), out.len()) }
 }
 
-/// `clients/C/consensusStates`: the client's 2, 5, 6; then 4.
+/// `clients/C/consensusStates`: the client's [2](crate::Refusal::NotAscii), [5](crate::Refusal::BadChar), [6](crate::Refusal::BadLength); then [4](crate::Refusal::NoRoom).
 pub fn consensus_state_parent(client: &[u8], out: &mut [u8]) -> Written {
     // SAFETY: each pointer and count are those of one live slice.
     unsafe { c::hp_consensus_state_parent(client.as_ptr(), client.len(), out.as_mut_ptr(), out.len()) }
 }
 
-/// `consensusStates/R-h`: 4.
+/// `consensusStates/R-h`: [4](crate::Refusal::NoRoom).
 pub fn consensus_state_leaf(number: u64, height: u64, out: &mut [u8]) -> Written {
     // SAFETY: each pointer and count are those of one live slice.
     unsafe { c::hp_consensus_state_leaf(number, height, out.as_mut_ptr(), out.len()) }
 }
 
-/// `consensusStates/R-h/processedTime`: 4.
+/// `consensusStates/R-h/processedTime`: [4](crate::Refusal::NoRoom).
 pub fn update_time_leaf(number: u64, height: u64, out: &mut [u8]) -> Written {
     // SAFETY: each pointer and count are those of one live slice.
     unsafe { c::hp_update_time_leaf(number, height, out.as_mut_ptr(), out.len()) }
 }
 
-/// `consensusStates/R-h/processedHeight`: 4.
+/// `consensusStates/R-h/processedHeight`: [4](crate::Refusal::NoRoom).
 pub fn update_height_leaf(number: u64, height: u64, out: &mut [u8]) -> Written {
     // SAFETY: each pointer and count are those of one live slice.
     unsafe { c::hp_update_height_leaf(number, height, out.as_mut_ptr(), out.len()) }
 }
 
-/// `connections`: 4.
+/// `connections`: [4](crate::Refusal::NoRoom).
 pub fn connection_prefix(out: &mut [u8]) -> Written {
     // SAFETY: each pointer and count are those of one live slice.
     unsafe { c::hp_connection_prefix(out.as_mut_ptr(), out.len()) }
 }
 
-/// `channelEnds`: 4.
+/// `channelEnds`: [4](crate::Refusal::NoRoom).
 pub fn channel_end_prefix(out: &mut [u8]) -> Written {
     // SAFETY: each pointer and count are those of one live slice.
     unsafe { c::hp_channel_end_prefix(out.as_mut_ptr(), out.len()) }
 }
 
-/// `commitments/ports/P/channels/H/sequences`: the port's 2, 5, 6; the channel's 2, 5, 6, 7, then
-/// 17, 18 or 19; then 4.
+/// `commitments/ports/P/channels/H/sequences`: the port's [2](crate::Refusal::NotAscii), [5](crate::Refusal::BadChar), [6](crate::Refusal::BadLength); the channel's [2](crate::Refusal::NotAscii), [5](crate::Refusal::BadChar), [6](crate::Refusal::BadLength), [7](crate::Refusal::BadPrefix), then
+/// [17](crate::Refusal::NoDigits), [18](crate::Refusal::NotADigit) or [19](crate::Refusal::TooLarge); then [4](crate::Refusal::NoRoom).
 pub fn commitments_path(port: &[u8], channel: &[u8], out: &mut [u8]) -> Written {
     // SAFETY: each pointer and count are those of one live slice.
     unsafe { c::hp_commitments_path(port.as_ptr(), port.len(), channel.as_ptr(), channel.len(), out.as_mut_ptr(), out.len()) }
 }
 
-/// `acks/ports/P/channels/H/sequences`: the port's 2, 5, 6; the channel's 2, 5, 6, 7, then
-/// 17, 18 or 19; then 4.
+/// `acks/ports/P/channels/H/sequences`: the port's [2](crate::Refusal::NotAscii), [5](crate::Refusal::BadChar), [6](crate::Refusal::BadLength); the channel's [2](crate::Refusal::NotAscii), [5](crate::Refusal::BadChar), [6](crate::Refusal::BadLength), [7](crate::Refusal::BadPrefix), then
+/// [17](crate::Refusal::NoDigits), [18](crate::Refusal::NotADigit) or [19](crate::Refusal::TooLarge); then [4](crate::Refusal::NoRoom).
 pub fn acks_path(port: &[u8], channel: &[u8], out: &mut [u8]) -> Written {
     // SAFETY: each pointer and count are those of one live slice.
     unsafe { c::hp_acks_path(port.as_ptr(), port.len(), channel.as_ptr(), channel.len(), out.as_mut_ptr(), out.len()) }
 }
 
-/// `receipts/ports/P/channels/H/sequences`: the port's 2, 5, 6; the channel's 2, 5, 6, 7, then
-/// 17, 18 or 19; then 4.
+/// `receipts/ports/P/channels/H/sequences`: the port's [2](crate::Refusal::NotAscii), [5](crate::Refusal::BadChar), [6](crate::Refusal::BadLength); the channel's [2](crate::Refusal::NotAscii), [5](crate::Refusal::BadChar), [6](crate::Refusal::BadLength), [7](crate::Refusal::BadPrefix), then
+/// [17](crate::Refusal::NoDigits), [18](crate::Refusal::NotADigit) or [19](crate::Refusal::TooLarge); then [4](crate::Refusal::NoRoom).
 pub fn receipts_path(port: &[u8], channel: &[u8], out: &mut [u8]) -> Written {
     // SAFETY: each pointer and count are those of one live slice.
     unsafe { c::hp_receipts_path(port.as_ptr(), port.len(), channel.as_ptr(), channel.len(), out.as_mut_ptr(), out.len()) }
 }
 
-/// `commitments`: 4.
+/// `commitments`: [4](crate::Refusal::NoRoom).
 pub fn commitment_prefix(out: &mut [u8]) -> Written {
     // SAFETY: each pointer and count are those of one live slice.
     unsafe { c::hp_commitment_prefix(out.as_mut_ptr(), out.len()) }
 }
 
-/// `acks`: 4.
+/// `acks`: [4](crate::Refusal::NoRoom).
 pub fn ack_prefix(out: &mut [u8]) -> Written {
     // SAFETY: each pointer and count are those of one live slice.
     unsafe { c::hp_ack_prefix(out.as_mut_ptr(), out.len()) }
 }
 
-/// `receipts`: 4.
+/// `receipts`: [4](crate::Refusal::NoRoom).
 pub fn receipt_prefix(out: &mut [u8]) -> Written {
     // SAFETY: each pointer and count are those of one live slice.
     unsafe { c::hp_receipt_prefix(out.as_mut_ptr(), out.len()) }
 }
 
-/// All characters are letters, numbers or one of `. _ + - # [ ] < >`: 21, 5.
+/// All characters are letters, numbers or one of `. _ + - # [ ] < >`: [21](crate::Refusal::BadUtf8), [5](crate::Refusal::BadChar).
 pub fn wide_validate_identifier_chars(id: &[u8]) -> u8 {
     // SAFETY: each pointer and count are those of one live slice.
     unsafe { c::hp_wide_validate_identifier_chars(id.as_ptr(), id.len()) }
 }
 
-/// As hp_validate_identifier_length: 21, 6.
+/// As hp_validate_identifier_length: [21](crate::Refusal::BadUtf8), [6](crate::Refusal::BadLength).
 pub fn wide_validate_identifier_length(id: &[u8], min: u64, max: u64) -> u8 {
     // SAFETY: each pointer and count are those of one live slice.
     unsafe { c::hp_wide_validate_identifier_length(id.as_ptr(), id.len(), min, max) }
 }
 
-/// As hp_validate_prefix_length: 21, 6.
+/// As hp_validate_prefix_length: [21](crate::Refusal::BadUtf8), [6](crate::Refusal::BadLength).
 pub fn wide_validate_prefix_length(prefix: &[u8], min: u64, max: u64) -> u8 {
     // SAFETY: each pointer and count are those of one live slice.
     unsafe { c::hp_wide_validate_prefix_length(prefix.as_ptr(), prefix.len(), min, max) }
 }
 
-/// As hp_validate_named_u64_index; the digits of an index are ASCII: 21, 7, then 17, 18 or 19.
+/// As hp_validate_named_u64_index; the digits of an index are ASCII: [21](crate::Refusal::BadUtf8), [7](crate::Refusal::BadPrefix), then [17](crate::Refusal::NoDigits), [18](crate::Refusal::NotADigit) or [19](crate::Refusal::TooLarge).
 pub fn wide_validate_named_u64_index(id: &[u8], name: &[u8]) -> Fault {
     // SAFETY: each pointer and count are those of one live slice.
     unsafe { c::hp_wide_validate_named_u64_index(id.as_ptr(), id.len(), name.as_ptr(), name.len()) }
 }
 
-/// As hp_validate_client_type: 21, 5, 6.
+/// As hp_validate_client_type: [21](crate::Refusal::BadUtf8), [5](crate::Refusal::BadChar), [6](crate::Refusal::BadLength).
 pub fn wide_validate_client_type(id: &[u8]) -> u8 {
     // SAFETY: each pointer and count are those of one live slice.
     unsafe { c::hp_wide_validate_client_type(id.as_ptr(), id.len()) }
 }
 
-/// As hp_validate_client_identifier: 21, 5, 6.
+/// As hp_validate_client_identifier: [21](crate::Refusal::BadUtf8), [5](crate::Refusal::BadChar), [6](crate::Refusal::BadLength).
 pub fn wide_validate_client_identifier(id: &[u8]) -> u8 {
     // SAFETY: each pointer and count are those of one live slice.
     unsafe { c::hp_wide_validate_client_identifier(id.as_ptr(), id.len()) }
 }
 
-/// As hp_validate_connection_identifier: 21, 5, 6, 7, then 17, 18 or 19.
+/// As hp_validate_connection_identifier: [21](crate::Refusal::BadUtf8), [5](crate::Refusal::BadChar), [6](crate::Refusal::BadLength), [7](crate::Refusal::BadPrefix), then [17](crate::Refusal::NoDigits), [18](crate::Refusal::NotADigit) or [19](crate::Refusal::TooLarge).
 pub fn wide_validate_connection_identifier(id: &[u8]) -> Fault {
     // SAFETY: each pointer and count are those of one live slice.
     unsafe { c::hp_wide_validate_connection_identifier(id.as_ptr(), id.len()) }
 }
 
-/// As hp_validate_port_identifier: 21, 5, 6.
+/// As hp_validate_port_identifier: [21](crate::Refusal::BadUtf8), [5](crate::Refusal::BadChar), [6](crate::Refusal::BadLength).
 pub fn wide_validate_port_identifier(id: &[u8]) -> u8 {
     // SAFETY: each pointer and count are those of one live slice.
     unsafe { c::hp_wide_validate_port_identifier(id.as_ptr(), id.len()) }
 }
 
-/// As hp_validate_channel_identifier: 21, 5, 6, 7, then 17, 18 or 19.
+/// As hp_validate_channel_identifier: [21](crate::Refusal::BadUtf8), [5](crate::Refusal::BadChar), [6](crate::Refusal::BadLength), [7](crate::Refusal::BadPrefix), then [17](crate::Refusal::NoDigits), [18](crate::Refusal::NotADigit) or [19](crate::Refusal::TooLarge).
 pub fn wide_validate_channel_identifier(id: &[u8]) -> Fault {
     // SAFETY: each pointer and count are those of one live slice.
     unsafe { c::hp_wide_validate_channel_identifier(id.as_ptr(), id.len()) }
 }
 
-/// As hp_client_id_new, without the white space of all scripts at the ends: 21, 5, 6, 4.
+/// As hp_client_id_new, without the white space of all scripts at the ends: [21](crate::Refusal::BadUtf8), [5](crate::Refusal::BadChar), [6](crate::Refusal::BadLength), [4](crate::Refusal::NoRoom).
 pub fn wide_client_id_new(client_type: &[u8], counter: u64, out: &mut [u8]) -> Written {
     // SAFETY: each pointer and count are those of one live slice.
     unsafe { c::hp_wide_client_id_new(client_type.as_ptr(), client_type.len(), counter, out.as_mut_ptr(), out.len()) }
 }
 
-/// As hp_read: 1, 21, 3 (17, 18, 19), 4.
+/// As hp_read: [1](crate::Refusal::TooLong), [21](crate::Refusal::BadUtf8), [3](crate::Refusal::NotAPath) ([17](crate::Refusal::NoDigits), [18](crate::Refusal::NotADigit), [19](crate::Refusal::TooLarge)), [4](crate::Refusal::NoRoom).
 pub fn wide_read(text: &[u8], out: &mut [u8]) -> Fault {
     // SAFETY: each pointer and count are those of one live slice.
     unsafe { c::hp_wide_read(text.as_ptr(), text.len(), out.as_mut_ptr(), out.len()) }
 }
 
-/// As hp_key: 1, 21, 3 (17, 18, 19), 4.
+/// As hp_key: [1](crate::Refusal::TooLong), [21](crate::Refusal::BadUtf8), [3](crate::Refusal::NotAPath) ([17](crate::Refusal::NoDigits), [18](crate::Refusal::NotADigit), [19](crate::Refusal::TooLarge)), [4](crate::Refusal::NoRoom).
 pub fn wide_key(text: &[u8], out: &mut [u8]) -> Written {
     // SAFETY: each pointer and count are those of one live slice.
     unsafe { c::hp_wide_key(text.as_ptr(), text.len(), out.as_mut_ptr(), out.len()) }
 }
 
-/// As hp_render: 14, first, second (an upgrade path: 21, 13), 1, 4.
+/// As hp_render: [14](crate::Refusal::BadKind), first, second (an upgrade path: [21](crate::Refusal::BadUtf8), [13](crate::Refusal::BadSegment)), [1](crate::Refusal::TooLong), [4](crate::Refusal::NoRoom).
 pub fn wide_render(kind: u8, first: &[u8], second: &[u8], a: u64, b: u64, out: &mut [u8]) -> Written {
     // SAFETY: each pointer and count are those of one live slice.
     unsafe { c::hp_wide_render(kind, first.as_ptr(), first.len(), second.as_ptr(), second.len(), a, b, out.as_mut_ptr(), out.len()) }
 }
 
-/// As hp_consensus_state_parent: the client's 21, 5, 6; then 4.
+/// As hp_consensus_state_parent: the client's [21](crate::Refusal::BadUtf8), [5](crate::Refusal::BadChar), [6](crate::Refusal::BadLength); then [4](crate::Refusal::NoRoom).
 pub fn wide_consensus_state_parent(client: &[u8], out: &mut [u8]) -> Written {
     // SAFETY: each pointer and count are those of one live slice.
     unsafe { c::hp_wide_consensus_state_parent(client.as_ptr(), client.len(), out.as_mut_ptr(), out.len()) }
 }
 
-/// As hp_commitments_path: the port's 21, 5, 6; the channel's 21, 5, 6, 7, then
-/// 17, 18 or 19; then 4.
+/// As hp_commitments_path: the port's [21](crate::Refusal::BadUtf8), [5](crate::Refusal::BadChar), [6](crate::Refusal::BadLength); the channel's [21](crate::Refusal::BadUtf8), [5](crate::Refusal::BadChar), [6](crate::Refusal::BadLength), [7](crate::Refusal::BadPrefix), then
+/// [17](crate::Refusal::NoDigits), [18](crate::Refusal::NotADigit) or [19](crate::Refusal::TooLarge); then [4](crate::Refusal::NoRoom).
 pub fn wide_commitments_path(port: &[u8], channel: &[u8], out: &mut [u8]) -> Written {
     // SAFETY: each pointer and count are those of one live slice.
     unsafe { c::hp_wide_commitments_path(port.as_ptr(), port.len(), channel.as_ptr(), channel.len(), out.as_mut_ptr(), out.len()) }
 }
 
-/// As hp_acks_path: the port's 21, 5, 6; the channel's 21, 5, 6, 7, then
-/// 17, 18 or 19; then 4.
+/// As hp_acks_path: the port's [21](crate::Refusal::BadUtf8), [5](crate::Refusal::BadChar), [6](crate::Refusal::BadLength); the channel's [21](crate::Refusal::BadUtf8), [5](crate::Refusal::BadChar), [6](crate::Refusal::BadLength), [7](crate::Refusal::BadPrefix), then
+/// [17](crate::Refusal::NoDigits), [18](crate::Refusal::NotADigit) or [19](crate::Refusal::TooLarge); then [4](crate::Refusal::NoRoom).
 pub fn wide_acks_path(port: &[u8], channel: &[u8], out: &mut [u8]) -> Written {
     // SAFETY: each pointer and count are those of one live slice.
     unsafe { c::hp_wide_acks_path(port.as_ptr(), port.len(), channel.as_ptr(), channel.len(), out.as_mut_ptr(), out.len()) }
 }
 
-/// As hp_receipts_path: the port's 21, 5, 6; the channel's 21, 5, 6, 7, then
-/// 17, 18 or 19; then 4.
+/// As hp_receipts_path: the port's [21](crate::Refusal::BadUtf8), [5](crate::Refusal::BadChar), [6](crate::Refusal::BadLength); the channel's [21](crate::Refusal::BadUtf8), [5](crate::Refusal::BadChar), [6](crate::Refusal::BadLength), [7](crate::Refusal::BadPrefix), then
+/// [17](crate::Refusal::NoDigits), [18](crate::Refusal::NotADigit) or [19](crate::Refusal::TooLarge); then [4](crate::Refusal::NoRoom).
 pub fn wide_receipts_path(port: &[u8], channel: &[u8], out: &mut [u8]) -> Written {
     // SAFETY: each pointer and count are those of one live slice.
     unsafe { c::hp_wide_receipts_path(port.as_ptr(), port.len(), channel.as_ptr(), channel.len(), out.as_mut_ptr(), out.len()) }
 }
 
-/// Makes the buffer, whatever it holds, a book of version 2 without records; its size alone is looked at: 9.
+/// Makes the buffer, whatever it holds, a book of version 2 without records; its size alone is looked at: [9](crate::Refusal::BadBook).
 pub fn book_new(book: &mut [u8]) -> u8 {
     // SAFETY: each pointer and count are those of one live slice.
     unsafe { c::hp_book_new(book.as_mut_ptr(), book.len()) }
 }
 
 /// The text, which is its own rendering, holds the value from now on, anew or in place of what it held:
-/// 9, 1, 2, 3 (17, 18, 19), 20, 10, 6, 11.
+/// [9](crate::Refusal::BadBook), [1](crate::Refusal::TooLong), [2](crate::Refusal::NotAscii), [3](crate::Refusal::NotAPath) ([17](crate::Refusal::NoDigits), [18](crate::Refusal::NotADigit), [19](crate::Refusal::TooLarge)), [20](crate::Refusal::Loose), [10](crate::Refusal::KeyTooLong), [6](crate::Refusal::BadLength), [11](crate::Refusal::Full).
 pub fn book_write(book: &mut [u8], text: &[u8], value: &[u8]) -> u8 {
     // SAFETY: each pointer and count are those of one live slice.
     unsafe { c::hp_book_write(book.as_mut_ptr(), book.len(), text.as_ptr(), text.len(), value.as_ptr(), value.len()) }
 }
 
-/// The text, which is its own rendering, holds nothing from now on: 9, 1, 2, 3 (17, 18, 19), 20, 10, 12.
+/// The text, which is its own rendering, holds nothing from now on: [9](crate::Refusal::BadBook), [1](crate::Refusal::TooLong), [2](crate::Refusal::NotAscii), [3](crate::Refusal::NotAPath) ([17](crate::Refusal::NoDigits), [18](crate::Refusal::NotADigit), [19](crate::Refusal::TooLarge)), [20](crate::Refusal::Loose), [10](crate::Refusal::KeyTooLong), [12](crate::Refusal::Absent).
 pub fn book_remove(book: &mut [u8], text: &[u8]) -> u8 {
     // SAFETY: each pointer and count are those of one live slice.
     unsafe { c::hp_book_remove(book.as_mut_ptr(), book.len(), text.as_ptr(), text.len()) }
 }
 
 /// What the text, which is its own rendering, holds, 1 to 64 bytes; wants room for 64 whatever it holds:
-/// 9, 1, 2, 3 (17, 18, 19), 20, 10, 4, 12.
+/// [9](crate::Refusal::BadBook), [1](crate::Refusal::TooLong), [2](crate::Refusal::NotAscii), [3](crate::Refusal::NotAPath) ([17](crate::Refusal::NoDigits), [18](crate::Refusal::NotADigit), [19](crate::Refusal::TooLarge)), [20](crate::Refusal::Loose), [10](crate::Refusal::KeyTooLong), [4](crate::Refusal::NoRoom), [12](crate::Refusal::Absent).
 pub fn book_lookup(book: &[u8], text: &[u8], out: &mut [u8]) -> Written {
     // SAFETY: each pointer and count are those of one live slice.
     unsafe { c::hp_book_lookup(book.as_ptr(), book.len(), text.as_ptr(), text.len(), out.as_mut_ptr(), out.len()) }
 }
 
-/// As hp_book_write, on the rendering of the text, for importers that pad their heights: 9, 1, 2, 3 (17, 18, 19), 10, 6, 11.
+/// As hp_book_write, on the rendering of the text, for importers that pad their heights: [9](crate::Refusal::BadBook), [1](crate::Refusal::TooLong), [2](crate::Refusal::NotAscii), [3](crate::Refusal::NotAPath) ([17](crate::Refusal::NoDigits), [18](crate::Refusal::NotADigit), [19](crate::Refusal::TooLarge)), [10](crate::Refusal::KeyTooLong), [6](crate::Refusal::BadLength), [11](crate::Refusal::Full).
 pub fn book_write_lenient(book: &mut [u8], text: &[u8], value: &[u8]) -> u8 {
     // SAFETY: each pointer and count are those of one live slice.
     unsafe { c::hp_book_write_lenient(book.as_mut_ptr(), book.len(), text.as_ptr(), text.len(), value.as_ptr(), value.len()) }
 }
 
-/// As hp_book_remove, on the rendering of the text, for importers that pad their heights: 9, 1, 2, 3 (17, 18, 19), 10, 12.
+/// As hp_book_remove, on the rendering of the text, for importers that pad their heights: [9](crate::Refusal::BadBook), [1](crate::Refusal::TooLong), [2](crate::Refusal::NotAscii), [3](crate::Refusal::NotAPath) ([17](crate::Refusal::NoDigits), [18](crate::Refusal::NotADigit), [19](crate::Refusal::TooLarge)), [10](crate::Refusal::KeyTooLong), [12](crate::Refusal::Absent).
 pub fn book_remove_lenient(book: &mut [u8], text: &[u8]) -> u8 {
     // SAFETY: each pointer and count are those of one live slice.
     unsafe { c::hp_book_remove_lenient(book.as_mut_ptr(), book.len(), text.as_ptr(), text.len()) }
 }
 
-/// As hp_book_lookup, on the rendering of the text, for importers that pad their heights: 9, 1, 2, 3 (17, 18, 19), 10, 4, 12.
+/// As hp_book_lookup, on the rendering of the text, for importers that pad their heights: [9](crate::Refusal::BadBook), [1](crate::Refusal::TooLong), [2](crate::Refusal::NotAscii), [3](crate::Refusal::NotAPath) ([17](crate::Refusal::NoDigits), [18](crate::Refusal::NotADigit), [19](crate::Refusal::TooLarge)), [10](crate::Refusal::KeyTooLong), [4](crate::Refusal::NoRoom), [12](crate::Refusal::Absent).
 pub fn book_lookup_lenient(book: &[u8], text: &[u8], out: &mut [u8]) -> Written {
     // SAFETY: each pointer and count are those of one live slice.
     unsafe { c::hp_book_lookup_lenient(book.as_ptr(), book.len(), text.as_ptr(), text.len(), out.as_mut_ptr(), out.len()) }
 }
 
-/// The smallest pair of revision number and height among the client's records `clients/C/consensusStates/R-h`: 9, the
-/// client's 2, 5, 6; then 12.
+/// The smallest pair of revision number and height among the client's records `clients/C/consensusStates/R-h`: [9](crate::Refusal::BadBook), the
+/// client's [2](crate::Refusal::NotAscii), [5](crate::Refusal::BadChar), [6](crate::Refusal::BadLength); then [12](crate::Refusal::Absent).
 pub fn book_oldest(book: &[u8], client: &[u8]) -> Pair {
     // SAFETY: each pointer and count are those of one live slice.
     unsafe { c::hp_book_oldest(book.as_ptr(), book.len(), client.as_ptr(), client.len()) }
 }
 
 /// Makes the second buffer, whatever it holds, the book of version 2 that has the slots and the records of `old`, a book
-/// of version 1: 9 where that is none, then 4 where the second buffer is not of that book's size.
+/// of version 1: [9](crate::Refusal::BadBook) where that is none, then [4](crate::Refusal::NoRoom) where the second buffer is not of that book's size.
 pub fn book_convert(old: &[u8], book: &mut [u8]) -> u8 {
     // SAFETY: each pointer and count are those of one live slice.
     unsafe { c::hp_book_convert(old.as_ptr(), old.len(), book.as_mut_ptr(), book.len()) }
 }
 
-/// Fills the first 512 bytes of the table with the buckets by which the book's records are found: 9, 4.
+/// Fills the first 512 bytes of the table with the buckets by which the book's records are found: [9](crate::Refusal::BadBook), [4](crate::Refusal::NoRoom).
 pub fn book_fill(book: &[u8], table: &mut [u8]) -> u8 {
     // SAFETY: each pointer and count are those of one live slice.
     unsafe { c::hp_book_fill(book.as_ptr(), book.len(), table.as_mut_ptr(), table.len()) }
@@ -606,7 +606,7 @@ pub fn book_fill(book: &[u8], table: &mut [u8]) -> u8 {
 
 /// What hp_book_lookup gives for each text of `texts`, which byte 10 ends, by a table of 512 bytes that was filled from this book
 /// as it is now: 66 bytes a text, its refusal number, the length of its value, and the value filled with zeros to 64. Bytes after
-/// the last 10 are a text if there are any: 9, 22, 4.
+/// the last 10 are a text if there are any: [9](crate::Refusal::BadBook), [22](crate::Refusal::BadTable), [4](crate::Refusal::NoRoom).
 pub fn book_lookup_many(book: &[u8], table: &[u8], texts: &[u8], out: &mut [u8]) -> Written {
     // SAFETY: each pointer and count are those of one live slice.
     unsafe { c::hp_book_lookup_many(book.as_ptr(), book.len(), table.as_ptr(), table.len(), texts.as_ptr(), texts.len(), out.as_mut_ptr(), out.len()) }
