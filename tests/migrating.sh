@@ -1,8 +1,9 @@
 #!/bin/sh
 # Holds docs/MIGRATING.md to both sides: every public item of the original's files has a row, where they are at hand, no row
-# is of anything else, and what takes an item's place is in rust/hostpath. ORACLE_SOURCE names the folder of the original.
-# Last line: 'N passed, M failed'.
+# is of anything else, what takes an item's place is in rust/hostpath, and the two programs are the examples before and after.
+# ORACLE_SOURCE names the folder of the original. Last line: 'N passed, M failed'.
 . "$(dirname "$0")/lib/start.sh"
+. tests/lib/blocks.sh
 source=${ORACLE_SOURCE:-../shared/docs/src}/ibc-core/ics24-host/types/src
 
 fail() {
@@ -40,6 +41,13 @@ column 3 | tr -c 'A-Za-z0-9_\n' '\n' | sort -u | grep . >"$work/words"
 while read -r word; do
     if grep -qw "$word" "$work/crate"; then passed=$((passed + 1)); else fail "$word is not in rust/hostpath"; fi
 done <"$work/words"
+
+number=0
+for example in oracle/host/examples/before.rs rust/hostpath/examples/after.rs; do
+    number=$((number + 1))
+    block docs/MIGRATING.md 'One program, before and after' "$number" >"$work/program"
+    holds "its program $number is not $example" cmp "$work/program" "$example"
+done
 
 echo "$passed passed, $failed failed"
 [ "$failed" -eq 0 ]

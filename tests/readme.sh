@@ -1,16 +1,10 @@
 #!/bin/sh
-# The lines of Rust in README are those of a test of the Rust crate. Last line: 'N passed, M failed'.
+# The program in README is an example of the Rust crate. Last line: 'N passed, M failed'.
 . "$(dirname "$0")/lib/start.sh"
+. tests/lib/blocks.sh
 
-sed -n '/^## Keep records/,/^## /s/^    //p' README.md >"$work/lines"
-while IFS= read -r line; do
-    if grep -qF "    $line" rust/hostpath/tests/readme.rs; then
-        passed=$((passed + 1))
-    else
-        echo "readme: in no test: $line"
-        failed=$((failed + 1))
-    fi
-done <"$work/lines"
+block README.md 'Keep records' 3 >"$work/program"
+holds 'the program of README is not rust/hostpath/examples/records.rs' cmp "$work/program" rust/hostpath/examples/records.rs
 
 echo "$passed passed, $failed failed"
-[ "$failed" -eq 0 ] && [ "$passed" -ne 0 ]
+[ "$failed" -eq 0 ]

@@ -6,16 +6,25 @@ use std::path::PathBuf;
 
 fn main() {
     println!("cargo:rerun-if-env-changed=HOSTPATH_LIB");
-    let folder = env::var_os("HOSTPATH_LIB").map_or_else(beside, PathBuf::from);
+    let folder = env::var_os("HOSTPATH_LIB").map_or_else(beside, |named| from_caller(named.into()));
     let archive = folder.join("libhostpath.a");
     assert!(
         archive.is_file(),
-        "no {}: run `oracle/library` in the repository first",
+        "no {}: HOSTPATH_LIB has to name the folder of libhostpath.a, which `oracle/library` in the \
+         repository builds and prints",
         archive.display()
     );
     println!("cargo:rerun-if-changed={}", archive.display());
     println!("cargo:rustc-link-search=native={}", folder.canonicalize().unwrap().display());
     println!("cargo:rustc-link-lib=static=hostpath");
+}
+
+/// A folder as whoever called cargo names it. This program runs in the crate's own folder, and PWD has the caller's.
+fn from_caller(folder: PathBuf) -> PathBuf {
+    if folder.is_relative() {
+        println!("cargo:rerun-if-env-changed=PWD");
+    }
+    PathBuf::from(env::var_os("PWD").unwrap_or_default()).join(folder)
 }
 
 fn beside() -> PathBuf {
