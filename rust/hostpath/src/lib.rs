@@ -34,8 +34,9 @@
 //!
 //! Every call takes any bytes and any numbers; a text may be given as bytes or as a `str`. A call that can be
 //! refused answers a `Result`: what was asked for, or the [`Refusal`], which has its place in a [`Fault`] where a
-//! text is read or an index is checked. What has been made, an identifier or a path, always renders. A refusal
-//! changes no byte of a lent buffer; a success writes from its byte 0 and leaves the bytes after what was written.
+//! text is read or an index is checked. Its refusals are listed in the order in which they are looked for. What has
+//! been made, an identifier or a path, always renders. A refusal changes no byte of a lent buffer; a success writes
+//! from its byte 0 and leaves the bytes after what was written.
 //!
 //! Nothing is allocated, so what is written is lent room, of a size that has a name. With the feature `alloc`
 //! there are also identifiers and paths that own their text, such as `OwnedPath`.
@@ -96,7 +97,7 @@ macro_rules! refusals {
 /// The section of a call's refusals, in the order in which they are looked for.
 macro_rules! errors {
     ($first:ident $(, $next:ident)*) => {
-        concat!("\n# Errors\n\n", refusals!($first), $(", ", refusals!($next),)* ", looked for in this order.")
+        concat!("\n# Errors\n\n", refusals!($first), $(", ", refusals!($next),)* ".")
     };
 }
 

@@ -56,48 +56,51 @@ fn words_of_paths() {
     }
 }
 
-/// Each room is as large as the longest text that is written there, and no larger.
-#[test]
-fn rooms() {
-    let most = u64::MAX;
-    let client =
-        ClientId::new("t".repeat(43), most, &mut [0; CLIENT_ID_ROOM]).map(|id| id.as_str().len());
-    assert_eq!(client, Ok(CLIENT_ID_ROOM));
-    let mut room = [0; CONNECTION_ID_ROOM];
-    let id = ConnectionId::new(most, &mut room);
-    assert_eq!(
-        (id.as_str(), ConnectionId::try_from(id.as_str())),
-        ("connection-18446744073709551615", Ok(id))
-    );
-    assert_eq!(id.as_str().len(), CONNECTION_ID_ROOM);
-    let mut room = [0; CHANNEL_ID_ROOM];
-    let id = ChannelId::new(most, &mut room);
-    assert_eq!(
-        (id.as_str(), ChannelId::try_from(id.as_str())),
-        ("channel-18446744073709551615", Ok(id))
-    );
-    assert_eq!(id.as_str().len(), CHANNEL_ID_ROOM);
+// Each room is as large as the longest text that is written there, and no larger.
 
+#[test]
+fn rooms_of_identifiers() {
+    let mut room = [0; CLIENT_ID_ROOM];
+    let id = ClientId::new("t".repeat(43), u64::MAX, &mut room).unwrap();
+    assert_eq!((id.as_str().len(), ClientId::try_from(id.as_str())), (CLIENT_ID_ROOM, Ok(id)));
+    let mut room = [0; CONNECTION_ID_ROOM];
+    let id = ConnectionId::new(u64::MAX, &mut room);
+    assert_eq!(id.as_str(), "connection-18446744073709551615");
+    assert_eq!(
+        (id.as_str().len(), ConnectionId::try_from(id.as_str())),
+        (CONNECTION_ID_ROOM, Ok(id))
+    );
+    let mut room = [0; CHANNEL_ID_ROOM];
+    let id = ChannelId::new(u64::MAX, &mut room);
+    assert_eq!(id.as_str(), "channel-18446744073709551615");
+    assert_eq!((id.as_str().len(), ChannelId::try_from(id.as_str())), (CHANNEL_ID_ROOM, Ok(id)));
+}
+
+#[test]
+fn room_of_leaves() {
     let mut room = [0; LEAF_ROOM];
     assert_eq!(consensus_state_leaf(7, 2, &mut room), "consensusStates/7-2");
     assert_eq!(update_time_leaf(7, 2, &mut room), "consensusStates/7-2/processedTime");
     assert_eq!(update_height_leaf(7, 2, &mut room), "consensusStates/7-2/processedHeight");
-    assert_eq!(update_height_leaf(most, most, &mut room).len(), LEAF_ROOM);
+    assert_eq!(update_height_leaf(u64::MAX, u64::MAX, &mut room).len(), LEAF_ROOM);
+}
 
+#[test]
+fn rooms_of_parents_and_packet_keys() {
     let (client, port) = ("c".repeat(64), "p".repeat(128));
-    let client = ClientId::try_from(client.as_str()).unwrap();
-    assert_eq!(consensus_state_parent(client, &mut [0; PARENT_ROOM]).len(), PARENT_ROOM);
-    let channel = format!("channel-{}{}", "+", "0".repeat(55));
-    let channel = ChannelId::try_from(channel.as_str()).unwrap();
-    let port = PortId::try_from(port.as_str()).unwrap();
-    let mut room = [0; PACKETS_ROOM];
-    let least = commitments_path(port, channel, &mut room).len();
-    assert_eq!(least, PACKETS_ROOM);
-    assert!(
-        acks_path(port, channel, &mut room).len()
-            < receipts_path(port, channel, &mut [0; PACKETS_ROOM]).len()
-    );
-    let sequence = Sequence::from(most);
-    let key = PacketKey { kind: PacketKind::Receipt, client_id: client, sequence };
+    let client_id = ClientId::try_from(client.as_str()).unwrap();
+    let parent = format!("clients/{client}/consensusStates");
+    assert_eq!(consensus_state_parent(client_id, &mut [0; PARENT_ROOM]), parent);
+    assert_eq!(parent.len(), PARENT_ROOM);
+    let channel = format!("channel-+{:055}", 7);
+    let channel_id = ChannelId::try_from(channel.as_str()).unwrap();
+    let (port_id, mut room) = (PortId::try_from(port.as_str()).unwrap(), [0; PACKETS_ROOM]);
+    let packets = format!("/ports/{port}/channels/{channel}/sequences");
+    assert_eq!(acks_path(port_id, channel_id, &mut room), format!("acks{packets}"));
+    assert_eq!(receipts_path(port_id, channel_id, &mut room), format!("receipts{packets}"));
+    let commitments = format!("commitments{packets}");
+    assert_eq!(commitments_path(port_id, channel_id, &mut room), commitments);
+    assert_eq!(commitments.len(), PACKETS_ROOM);
+    let key = PacketKey { kind: PacketKind::Receipt, client_id, sequence: u64::MAX.into() };
     assert_eq!(key.write(&mut [0; PACKET_KEY_MOST]).len(), PACKET_KEY_MOST);
 }
