@@ -42,13 +42,14 @@ impl Key {
 
     /// Its text.
     pub fn as_str(&self) -> &str {
-        str_of(sure(self.bytes.get(..self.length)))
+        str_of(self.as_ref())
     }
 }
 
-impl AsRef<str> for Key {
-    fn as_ref(&self) -> &str {
-        self.as_str()
+/// So that a key may be given to every call that takes a text.
+impl AsRef<[u8]> for Key {
+    fn as_ref(&self) -> &[u8] {
+        sure(self.bytes.get(..self.length))
     }
 }
 
@@ -96,7 +97,7 @@ pub struct Held<'a> {
 ///
 /// let client_id = ClientId::try_from("07-tendermint-4")?;
 /// assert_eq!(book.oldest(client_id), Ok((7, 2)));
-/// book.remove(key.as_str())?; // the same path, by its key
+/// book.remove(key)?; // the same path, by its key
 /// assert_eq!(book.oldest(client_id), Err(Refusal::Absent));
 /// # Ok::<(), Refusal>(())
 /// ```

@@ -51,6 +51,7 @@
 #![no_std]
 #![deny(missing_docs)]
 #![deny(clippy::missing_errors_doc)]
+#![deny(clippy::unwrap_used, clippy::expect_used, clippy::panic, clippy::unreachable)] // but in `sure`
 #![allow(clippy::duplicate_mod)] // the files that `wide` has too are compiled over its calls
 
 #[cfg(feature = "alloc")]
@@ -143,6 +144,7 @@ pub const KEY_MOST: usize = 251;
 pub const READING: usize = 26;
 
 /// What the library always gives, as is proved. This is all that the crate does where it does not.
+#[allow(clippy::expect_used)]
 fn sure<T>(given: Option<T>) -> T {
     given.expect("libhostpath.a is of the version of the crate hostpath")
 }

@@ -103,6 +103,13 @@ owned! {
     OwnedPath, Path, Fault, as_path, |key| sure(Path::try_from(key).ok())
 }
 
+/// So that it may be given to every call that takes a text.
+impl AsRef<[u8]> for OwnedPath {
+    fn as_ref(&self) -> &[u8] {
+        self.0.as_bytes()
+    }
+}
+
 impl OwnedClientId {
     /// As [`ClientId::new`], without room.
     #[doc = errors!(id)]

@@ -2,8 +2,8 @@
 #![cfg(feature = "alloc")]
 use std::collections::BTreeSet;
 
+use hostpath::{book_size, Book, Path, Refusal, BOOK_VALUE};
 use hostpath::{wide, OwnedChannelId, OwnedClientId, OwnedConnectionId, OwnedPath, OwnedPortId};
-use hostpath::{Path, Refusal};
 
 /// What is owned outlives the text that it was read from.
 #[test]
@@ -22,6 +22,16 @@ fn kept() {
             (path.as_str().into(), path.clone().into())
         );
     }
+}
+
+/// It is the text of a record.
+#[test]
+fn in_a_book() {
+    let mut buffer = [0; book_size(1)];
+    let mut book = Book::new(&mut buffer).unwrap();
+    let path: OwnedPath = "clients/07-tendermint-4/consensusStates/007-2".parse().unwrap();
+    assert_eq!(book.write(&path, "a digest"), Ok(()));
+    assert_eq!(book.lookup(path, &mut [0; BOOK_VALUE]), Ok(&b"a digest"[..]));
 }
 
 #[test]
