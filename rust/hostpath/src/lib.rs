@@ -86,8 +86,9 @@ macro_rules! refusals {
             refusals!(text),
             ", ",
             refusals!(NotAPath),
-            " or, where a number alone is wrong, ",
-            refusals!(number)
+            " (where a number alone is wrong ",
+            refusals!(number),
+            ")"
         )
     };
     ($name:ident) => {
