@@ -1,7 +1,7 @@
-use hostpath::{ChannelId, ClientId, Path, PortId, CHANNEL_ID_ROOM, CLIENT_ID_ROOM};
+use hostpath::{ChannelId, ClientId, Path, PortId, CHANNEL_ID_MOST, CLIENT_ID_MOST};
 
 fn main() {
-    let (mut room, mut other) = ([0; CLIENT_ID_ROOM], [0; CHANNEL_ID_ROOM]);
+    let (mut room, mut other) = ([0; CLIENT_ID_MOST], [0; CHANNEL_ID_MOST]);
     let client_id = ClientId::new("07-tendermint", 4, &mut room).unwrap();
     let port_id = PortId::try_from("transfer").unwrap();
     let channel_id = ChannelId::new(0, &mut other);

@@ -3,7 +3,7 @@ use core::fmt;
 
 use super::raw;
 use crate::{done, str_of, sure, written, Fault, Refusal};
-use crate::{CHANNEL_ID_ROOM, CLIENT_ID_ROOM, CONNECTION_ID_ROOM};
+use crate::{CHANNEL_ID_MOST, CLIENT_ID_MOST, CONNECTION_ID_MOST};
 
 /// All is letters, digits and `. _ + - # [ ] < >`.
 #[doc = errors!(text, BadChar)]
@@ -159,9 +159,9 @@ impl<'a> ClientId<'a> {
     ///
     /// ```
     #[doc = concat!("use ", here!(), "::ClientId;")]
-    /// use hostpath::{Refusal, CLIENT_ID_ROOM};
+    /// use hostpath::{Refusal, CLIENT_ID_MOST};
     ///
-    /// let mut room = [0; CLIENT_ID_ROOM];
+    /// let mut room = [0; CLIENT_ID_MOST];
     /// assert_eq!(ClientId::new("07-tendermint", 4, &mut room)?.as_str(), "07-tendermint-4");
     /// # Ok::<(), Refusal>(())
     /// ```
@@ -169,7 +169,7 @@ impl<'a> ClientId<'a> {
     pub fn new(
         client_type: impl AsRef<[u8]>,
         counter: u64,
-        room: &'a mut [u8; CLIENT_ID_ROOM],
+        room: &'a mut [u8; CLIENT_ID_MOST],
     ) -> Result<Self, Refusal> {
         written(raw::client_id_new(client_type.as_ref(), counter, room), room).map(Self)
     }
@@ -180,12 +180,12 @@ impl<'a> ConnectionId<'a> {
     ///
     /// ```
     #[doc = concat!("use ", here!(), "::ConnectionId;")]
-    /// use hostpath::CONNECTION_ID_ROOM;
+    /// use hostpath::CONNECTION_ID_MOST;
     ///
-    /// let mut room = [0; CONNECTION_ID_ROOM];
+    /// let mut room = [0; CONNECTION_ID_MOST];
     /// assert_eq!(ConnectionId::new(3, &mut room).as_str(), "connection-3");
     /// ```
-    pub fn new(counter: u64, room: &'a mut [u8; CONNECTION_ID_ROOM]) -> Self {
+    pub fn new(counter: u64, room: &'a mut [u8; CONNECTION_ID_MOST]) -> Self {
         // the word passes for a client type, so it is written as one
         let answer = raw::client_id_new(Self::prefix().as_bytes(), counter, room);
         Self(sure(written(answer, room).ok()))
@@ -202,12 +202,12 @@ impl<'a> ChannelId<'a> {
     ///
     /// ```
     #[doc = concat!("use ", here!(), "::ChannelId;")]
-    /// use hostpath::CHANNEL_ID_ROOM;
+    /// use hostpath::CHANNEL_ID_MOST;
     ///
-    /// let mut room = [0; CHANNEL_ID_ROOM];
+    /// let mut room = [0; CHANNEL_ID_MOST];
     /// assert_eq!(ChannelId::new(7, &mut room).as_str(), "channel-7");
     /// ```
-    pub fn new(counter: u64, room: &'a mut [u8; CHANNEL_ID_ROOM]) -> Self {
+    pub fn new(counter: u64, room: &'a mut [u8; CHANNEL_ID_MOST]) -> Self {
         Self(sure(written(raw::channel_id_new(counter, room), room).ok()))
     }
 

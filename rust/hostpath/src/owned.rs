@@ -5,7 +5,7 @@ use core::str::FromStr;
 
 use super::{ChannelId, ClientId, ConnectionId, Path, PortId};
 use crate::{sure, Fault, Refusal};
-use crate::{CHANNEL_ID_ROOM, CLIENT_ID_ROOM, CONNECTION_ID_ROOM};
+use crate::{CHANNEL_ID_MOST, CLIENT_ID_MOST, CONNECTION_ID_MOST};
 
 /// Declares what owns the text of something borrowed, and gives that back.
 macro_rules! owned {
@@ -114,20 +114,20 @@ impl OwnedClientId {
     /// As [`ClientId::new`], without room.
     #[doc = errors!(id)]
     pub fn new(client_type: impl AsRef<[u8]>, counter: u64) -> Result<Self, Refusal> {
-        ClientId::new(client_type, counter, &mut [0; CLIENT_ID_ROOM]).map(Self::from)
+        ClientId::new(client_type, counter, &mut [0; CLIENT_ID_MOST]).map(Self::from)
     }
 }
 
 impl OwnedConnectionId {
     /// As [`ConnectionId::new`], without room.
     pub fn new(counter: u64) -> Self {
-        ConnectionId::new(counter, &mut [0; CONNECTION_ID_ROOM]).into()
+        ConnectionId::new(counter, &mut [0; CONNECTION_ID_MOST]).into()
     }
 }
 
 impl OwnedChannelId {
     /// As [`ChannelId::new`], without room.
     pub fn new(counter: u64) -> Self {
-        ChannelId::new(counter, &mut [0; CHANNEL_ID_ROOM]).into()
+        ChannelId::new(counter, &mut [0; CHANNEL_ID_MOST]).into()
     }
 }

@@ -1,12 +1,12 @@
 //! Texts above all records of a client or a channel, by the calls of the module around this one.
 use super::raw;
 use super::{ChannelId, ClientId, PortId};
-use crate::{sure, written, PACKETS_ROOM, PARENT_ROOM};
+use crate::{sure, written, PACKETS_PATH_MOST, PARENT_MOST};
 
 /// Writes `clients/C/consensusStates`.
 pub fn consensus_state_parent<'o>(
     client_id: ClientId<'_>,
-    room: &'o mut [u8; PARENT_ROOM],
+    room: &'o mut [u8; PARENT_MOST],
 ) -> &'o str {
     sure(written(raw::consensus_state_parent(client_id.as_bytes(), room), room).ok())
 }
@@ -18,7 +18,7 @@ macro_rules! packets {
         pub fn $name<'o>(
             port_id: PortId<'_>,
             channel_id: ChannelId<'_>,
-            room: &'o mut [u8; PACKETS_ROOM],
+            room: &'o mut [u8; PACKETS_PATH_MOST],
         ) -> &'o str {
             let answer = raw::$name(port_id.as_bytes(), channel_id.as_bytes(), room);
             sure(written(answer, room).ok())

@@ -39,19 +39,19 @@ words! {
 }
 
 /// The bytes of the longest identifier that [`ClientId::new`](crate::ClientId::new) writes.
-pub const CLIENT_ID_ROOM: usize = 64;
+pub const CLIENT_ID_MOST: usize = 64;
 /// The bytes of the longest identifier that [`ConnectionId::new`](crate::ConnectionId::new) writes.
-pub const CONNECTION_ID_ROOM: usize = 31;
+pub const CONNECTION_ID_MOST: usize = 31;
 /// The bytes of the longest identifier that [`ChannelId::new`](crate::ChannelId::new) writes.
-pub const CHANNEL_ID_ROOM: usize = 28;
+pub const CHANNEL_ID_MOST: usize = 28;
 /// The bytes of the longest text that [`consensus_state_parent`](crate::consensus_state_parent) writes.
-pub const PARENT_ROOM: usize = 88;
+pub const PARENT_MOST: usize = 88;
 /// The bytes of the longest text that [`commitments_path`](crate::commitments_path) writes; the texts of
 /// [`acks_path`](crate::acks_path) and [`receipts_path`](crate::receipts_path) are shorter.
-pub const PACKETS_ROOM: usize = 230;
+pub const PACKETS_PATH_MOST: usize = 230;
 /// The bytes of the longest text that [`update_height_leaf`] writes; those of [`consensus_state_leaf`] and
 /// [`update_time_leaf`] are shorter.
-pub const LEAF_ROOM: usize = 73;
+pub const LEAF_MOST: usize = 73;
 
 /// Declares a text below `clients/C` that has a revision number and height.
 macro_rules! leaf {
@@ -60,7 +60,7 @@ macro_rules! leaf {
         pub fn $name(
             revision_number: u64,
             revision_height: u64,
-            room: &mut [u8; LEAF_ROOM],
+            room: &mut [u8; LEAF_MOST],
         ) -> &str {
             sure(written(raw::$name(revision_number, revision_height, room), room).ok())
         }

@@ -3,14 +3,14 @@
 //!
 //! ```
 //! use hostpath::wide::{validate_port_identifier, ClientId, Path, PortId};
-//! use hostpath::{Refusal, CLIENT_ID_ROOM};
+//! use hostpath::{Refusal, CLIENT_ID_MOST};
 //!
 //! let text = "ports/πύλη";
 //! let Path::Ports { port_id } = Path::read(text)?.path else { panic!("it is a port") };
 //! assert_eq!(port_id, PortId::try_from("πύλη")?);
 //! assert_eq!(hostpath::Path::read(text).unwrap_err(), Refusal::NotAscii);
 //!
-//! let mut room = [0; CLIENT_ID_ROOM];
+//! let mut room = [0; CLIENT_ID_MOST];
 //! let client = ClientId::new("\u{3000}07-τέντερμιντ", 4, &mut room)?;
 //! assert_eq!(client.as_str(), "07-τέντερμιντ-4");
 //!

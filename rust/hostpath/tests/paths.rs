@@ -3,7 +3,7 @@
 use hostpath::{
     book_size, key, validate_connection_identifier, validate_identifier_length,
     validate_named_u64_index, Book, ChannelId, ClientId, ConnectionId, Fault, IterationKey, Number,
-    Path, Place, PortId, Reading, Refusal, Sequence, CHANNEL_ID_ROOM, CLIENT_ID_ROOM,
+    Path, Place, PortId, Reading, Refusal, Sequence, CHANNEL_ID_MOST, CLIENT_ID_MOST,
 };
 
 #[test]
@@ -90,12 +90,12 @@ fn rooms() {
 
 #[test]
 fn identifiers() {
-    let mut out = [b'.'; CHANNEL_ID_ROOM];
+    let mut out = [b'.'; CHANNEL_ID_MOST];
     assert_eq!(ChannelId::new(7, &mut out).as_str(), "channel-7");
     assert_eq!(&out, b"channel-7...................");
-    let mut out = [b'.'; CLIENT_ID_ROOM];
+    let mut out = [b'.'; CLIENT_ID_MOST];
     assert_eq!(ClientId::new("07 tendermint", 4, &mut out), Err(Refusal::BadChar));
-    assert_eq!(out, [b'.'; CLIENT_ID_ROOM]);
+    assert_eq!(out, [b'.'; CLIENT_ID_MOST]);
     assert_eq!(PortId::try_from(&b"\xff"[..]), Err(Refusal::NotAscii));
     let port = PortId::try_from("transfer").unwrap();
     assert_eq!((&port, port.to_string().as_str()), (&port, "transfer"));

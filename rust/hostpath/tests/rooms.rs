@@ -60,29 +60,29 @@ fn words_of_paths() {
 
 #[test]
 fn rooms_of_identifiers() {
-    let mut room = [0; CLIENT_ID_ROOM];
+    let mut room = [0; CLIENT_ID_MOST];
     let id = ClientId::new("t".repeat(43), u64::MAX, &mut room).unwrap();
-    assert_eq!((id.as_str().len(), ClientId::try_from(id.as_str())), (CLIENT_ID_ROOM, Ok(id)));
-    let mut room = [0; CONNECTION_ID_ROOM];
+    assert_eq!((id.as_str().len(), ClientId::try_from(id.as_str())), (CLIENT_ID_MOST, Ok(id)));
+    let mut room = [0; CONNECTION_ID_MOST];
     let id = ConnectionId::new(u64::MAX, &mut room);
     assert_eq!(id.as_str(), "connection-18446744073709551615");
     assert_eq!(
         (id.as_str().len(), ConnectionId::try_from(id.as_str())),
-        (CONNECTION_ID_ROOM, Ok(id))
+        (CONNECTION_ID_MOST, Ok(id))
     );
-    let mut room = [0; CHANNEL_ID_ROOM];
+    let mut room = [0; CHANNEL_ID_MOST];
     let id = ChannelId::new(u64::MAX, &mut room);
     assert_eq!(id.as_str(), "channel-18446744073709551615");
-    assert_eq!((id.as_str().len(), ChannelId::try_from(id.as_str())), (CHANNEL_ID_ROOM, Ok(id)));
+    assert_eq!((id.as_str().len(), ChannelId::try_from(id.as_str())), (CHANNEL_ID_MOST, Ok(id)));
 }
 
 #[test]
 fn room_of_leaves() {
-    let mut room = [0; LEAF_ROOM];
+    let mut room = [0; LEAF_MOST];
     assert_eq!(consensus_state_leaf(7, 2, &mut room), "consensusStates/7-2");
     assert_eq!(update_time_leaf(7, 2, &mut room), "consensusStates/7-2/processedTime");
     assert_eq!(update_height_leaf(7, 2, &mut room), "consensusStates/7-2/processedHeight");
-    assert_eq!(update_height_leaf(u64::MAX, u64::MAX, &mut room).len(), LEAF_ROOM);
+    assert_eq!(update_height_leaf(u64::MAX, u64::MAX, &mut room).len(), LEAF_MOST);
 }
 
 #[test]
@@ -90,17 +90,17 @@ fn rooms_of_parents_and_packet_keys() {
     let (client, port) = ("c".repeat(64), "p".repeat(128));
     let client_id = ClientId::try_from(client.as_str()).unwrap();
     let parent = format!("clients/{client}/consensusStates");
-    assert_eq!(consensus_state_parent(client_id, &mut [0; PARENT_ROOM]), parent);
-    assert_eq!(parent.len(), PARENT_ROOM);
+    assert_eq!(consensus_state_parent(client_id, &mut [0; PARENT_MOST]), parent);
+    assert_eq!(parent.len(), PARENT_MOST);
     let channel = format!("channel-+{:055}", 7);
     let channel_id = ChannelId::try_from(channel.as_str()).unwrap();
-    let (port_id, mut room) = (PortId::try_from(port.as_str()).unwrap(), [0; PACKETS_ROOM]);
+    let (port_id, mut room) = (PortId::try_from(port.as_str()).unwrap(), [0; PACKETS_PATH_MOST]);
     let packets = format!("/ports/{port}/channels/{channel}/sequences");
     assert_eq!(acks_path(port_id, channel_id, &mut room), format!("acks{packets}"));
     assert_eq!(receipts_path(port_id, channel_id, &mut room), format!("receipts{packets}"));
     let commitments = format!("commitments{packets}");
     assert_eq!(commitments_path(port_id, channel_id, &mut room), commitments);
-    assert_eq!(commitments.len(), PACKETS_ROOM);
+    assert_eq!(commitments.len(), PACKETS_PATH_MOST);
     let key = PacketKey { kind: PacketKind::Receipt, client_id, sequence: u64::MAX.into() };
     assert_eq!(key.write(&mut [0; PACKET_KEY_MOST]).len(), PACKET_KEY_MOST);
 }

@@ -7,7 +7,7 @@ use hostpath::wide::{
     UpgradeConsensusStatePath,
 };
 use hostpath::{book_size, Book, Fault, Number, Place, Refusal};
-use hostpath::{CHANNEL_ID_ROOM, CLIENT_ID_ROOM, PACKETS_ROOM, PARENT_ROOM, PATH_MOST};
+use hostpath::{CHANNEL_ID_MOST, CLIENT_ID_MOST, PACKETS_PATH_MOST, PARENT_MOST, PATH_MOST};
 
 /// Identifiers are borrowed from the text as they were written, and the rendering is the key.
 #[test]
@@ -86,14 +86,14 @@ fn lengths_are_in_bytes() {
 
 #[test]
 fn texts() {
-    let mut room = [0; CLIENT_ID_ROOM];
+    let mut room = [0; CLIENT_ID_MOST];
     let client = ClientId::new("\u{3000}клиент\u{85}", 4, &mut room);
     assert_eq!(client.map(ClientId::as_str), Ok("клиент-4"));
-    let parent = &mut [0; PARENT_ROOM];
+    let parent = &mut [0; PARENT_MOST];
     let parent = consensus_state_parent(client.unwrap(), parent);
     assert_eq!(parent, "clients/клиент-4/consensusStates");
     let port = PortId::try_from("港口").unwrap();
-    let (mut id, mut room) = ([0; CHANNEL_ID_ROOM], [0; PACKETS_ROOM]);
+    let (mut id, mut room) = ([0; CHANNEL_ID_MOST], [0; PACKETS_PATH_MOST]);
     let channel = ChannelId::new(7, &mut id);
     assert_eq!(
         commitments_path(port, channel, &mut room),
