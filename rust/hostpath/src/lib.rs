@@ -147,7 +147,7 @@ pub const READING: usize = 26;
 /// What the library always gives, as is proved. This is all that the crate does where it does not.
 #[allow(clippy::expect_used)]
 fn sure<T>(given: Option<T>) -> T {
-    given.expect("the crate hostpath and its libhostpath.a are of one version")
+    given.expect("libhostpath.a is of another version than the crate hostpath")
 }
 
 /// A call's number as a result.
