@@ -33,6 +33,8 @@ holds "no word of HOSTPATH_LIB where the archive is missing: $missing" test "${m
 printed=$(block docs/MIGRATING.md 'One program, before and after' 3)
 check 'what the program after prints' "$printed" "$(cargo run --quiet --manifest-path rust/hostpath/Cargo.toml --example after 2>&1)"
 if [ -d "$source" ]; then
+    ORACLE_SOURCE=$(cd "$source" && pwd)
+    export ORACLE_SOURCE
     check 'what the program before prints' "$printed" "$(cargo run --quiet --manifest-path oracle/Cargo.toml -p ibc-core-host-types --example before 2>&1)"
 else
     echo 'program: LEFT OUT, no Rust sources here (ORACLE_SOURCE names their folder): the program before'
