@@ -7,7 +7,7 @@ cd .. || exit 2 # start.sh goes to the folder above this one
 . tests/lib/blocks.sh
 top=$PWD
 source=${ORACLE_SOURCE:-../shared/docs/src}
-HOSTPATH_LIB=$(oracle/library)
+HOSTPATH_LIB=$(cd "$(oracle/library)" && pwd)
 export HOSTPATH_LIB CARGO_NET_OFFLINE=true
 
 # A block of README's section on records.
