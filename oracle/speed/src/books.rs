@@ -69,7 +69,7 @@ pub fn full(records: usize) -> (Vec<Vec<u8>>, Vec<u8>) {
     let mut full = vec![0; book_size(records)];
     let mut book = Book::new(&mut full).expect("a book's size");
     for key in &keys {
-        book.write(key, &VALUE).expect("it has room");
+        book.write(key, VALUE).expect("it has room");
     }
     assert_eq!(full[6], records as u8, "the keys differ");
     (keys, full)
