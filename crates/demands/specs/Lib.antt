@@ -16,6 +16,9 @@ pub mod Told
 pub mod ToldLaws
 pub mod Written
 pub mod Demand2Laws
+pub mod Above
+pub mod Rendered
+pub mod RenderedLaws
 pub mod WideShapeLaws
 pub mod Demand1
 pub mod Demand2
@@ -33,7 +36,6 @@ pub mod Scanned
 pub mod IterationLaws
 pub mod Iteration
 pub mod Cases
-pub mod Above
 pub mod BelowLaws
 pub mod NeighbourLaws
 pub mod Below
