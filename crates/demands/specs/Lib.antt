@@ -19,6 +19,8 @@ pub mod Demand2Laws
 pub mod Above
 pub mod Rendered
 pub mod RenderedLaws
+pub mod ModeLaws
+pub mod KeyedLaws
 pub mod WideShapeLaws
 pub mod Demand1
 pub mod Demand2
@@ -28,6 +30,8 @@ pub mod WideAlikeLaws
 pub mod WideLaws
 pub mod WideBackLaws
 pub mod WideCallLaws
+pub mod WideRendered
+pub mod WideRenderedLaws
 pub mod Wide
 pub mod Faults
 pub mod Walk

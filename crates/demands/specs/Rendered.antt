@@ -20,7 +20,7 @@ use Rattle.path.specs.Number.{NumberWrong}
 use Rattle.path.specs.Read.{nameFault, partsOf, render, renderPath, refusalOf}
 use Rattle.path.specs.Reads.{Reads}
 use Rattle.demands.specs.Above.{Upgrade}
-use Rattle.demands.specs.Written.{NoKind, NoNumber}
+use Rattle.demands.specs.Written.{NoKind}
 
 -- one of the nineteen kinds
 abbrev pub IsKind : ℕ → Type 0
@@ -87,11 +87,17 @@ module _ (takes : List ℕ → Bool) (other : ℕ) (check : Name → List ℕ �
 abbrev pub WhenRendered : ℕ → Carried (List ℕ) → List ℕ → Written → Type 0
 WhenRendered k v out x = WhenRenderedBy ascii notAscii nameFault k v out x
 
--- the answer x to the writing of the key of t into `out`: the order of reading, 1, 2, 3 (or 17, 18, 19), 4, and room is wanted for the rendering
-pub record WhenKeyed (t out : List ℕ) (x : Written) : Type 0 where
-  pub too-long : (x .refusal ≡ tooLong) ↔ (4096 < length t)
-  pub not-ascii : (x .refusal ≡ notAscii) ↔ ((length t ≤ 4096) × (ascii t ≡ false))
-  pub not-a-path : (x .refusal ≡ notAPath) ↔ ((length t ≤ 4096) × (ascii t ≡ true) × NoKind t × NoNumber t)
-  pub bad-number : (r : ℕ) → hasPlace r ≡ true → (x .refusal ≡ r) ↔ ((length t ≤ 4096) × (ascii t ≡ true) × ((w : Refusal) × (refusalOf w ≡ r) × NumberWrong t w))
-  pub no-room : (x .refusal ≡ noRoom) ↔ ((length t ≤ 4096) × (ascii t ≡ true) × ((p : Path) × Reads t p × (length out < length (renderPath t p))))
-  pub done : (x .refusal ≡ 0) ↔ ((length t ≤ 4096) × (ascii t ≡ true) × ((p : Path) × Reads t p × (length (renderPath t p) ≤ length out)))
+-- the answer x to the writing of the key of t into `out`: the order of reading, 1, 2, 3 (or 17, 18, 19), 4, where room is wanted for the rendering. By the
+-- test of the texts that are taken, the refusal of all others, what is seen of a text, that no kind fits it, and that only a number of it is wrong
+module _ (takes : List ℕ → Bool) (other : ℕ) (seen : List ℕ → List ℕ) (Unfit : List ℕ → Type 0) (Wrong : List ℕ → Refusal → Type 0) where
+  pub record WhenKeyedBy (t out : List ℕ) (x : Written) : Type 0 where
+    pub too-long : (x .refusal ≡ tooLong) ↔ (4096 < length t)
+    pub not-taken : (x .refusal ≡ other) ↔ ((length t ≤ 4096) × (takes t ≡ false))
+    pub not-a-path : (x .refusal ≡ notAPath) ↔ ((length t ≤ 4096) × (takes t ≡ true) × Unfit t × ((w : Refusal) → Wrong t w → ⊥))
+    pub bad-number : (r : ℕ) → hasPlace r ≡ true → (x .refusal ≡ r) ↔ ((length t ≤ 4096) × (takes t ≡ true) × ((w : Refusal) × (refusalOf w ≡ r) × Wrong t w))
+    pub no-room : (x .refusal ≡ noRoom) ↔ ((length t ≤ 4096) × (takes t ≡ true) × ((p : Path) × Reads (seen t) p × (length out < length (renderPath t p))))
+    pub done : (x .refusal ≡ 0) ↔ ((length t ≤ 4096) × (takes t ≡ true) × ((p : Path) × Reads (seen t) p × (length (renderPath t p) ≤ length out)))
+
+-- the answer x of `hp_key`
+abbrev pub WhenKeyed : List ℕ → List ℕ → Written → Type 0
+WhenKeyed t out x = WhenKeyedBy ascii notAscii (λ s. s) NoKind NumberWrong t out x
