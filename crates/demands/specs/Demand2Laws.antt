@@ -107,12 +107,10 @@ module _ (t : List ℕ) (p : Path) (e : Bool) (h : readPath t ≡ Read p e) wher
   pub key-again : keyOf (renderPath t p) ≡ text (renderPath t p)
   key-again = key-exact t (renderPath t p) key-is .2
 
-pub reads-back : (k : ℕ) (v : Carried (List ℕ)) → Valid k v → (out : List ℕ) (f : Fault) (out₁ : List ℕ)
-    → f ≡ readFault (render (partsOf k) v) (length out) → out₁ ≡ left (readingBytes (render (partsOf k) v)) out → 26 ≤ length out
-    → (f ≡ record { refusal = 0; place = 0 }) × Back (render (partsOf k) v) (told (take 26 out₁)) k (only (partsOf k) v)
-reads-back k v valid out f out₁ x q room =
-    let w : List ℕ = render (partsOf k) v in
-    let r : ReadsAs w k (only (partsOf k) v) = rendered-back k v valid in
+-- a text that reads so is told so
+pub as-back : (w : List ℕ) (k : ℕ) (v : Carried (List ℕ)) → ReadsAs w k v → (out : List ℕ) (f : Fault) (out₁ : List ℕ) → f ≡ readFault w (length out) → out₁ ≡ left (readingBytes w) out → 26 ≤ length out
+    → (f ≡ record { refusal = 0; place = 0 }) × Back w (told (take 26 out₁)) k v
+as-back w k v r out f out₁ x q room =
     let d = reading-tells w (r .path) true (r .read) out f out₁ x q room in
     let c = r .carried in (
       d .0,
@@ -125,6 +123,11 @@ reads-back k v valid out f out₁ x q room =
         b-is = ap (λ (y : Carried (List ℕ)). y .b) c;
       }),
     )
+
+pub reads-back : (k : ℕ) (v : Carried (List ℕ)) → Valid k v → (out : List ℕ) (f : Fault) (out₁ : List ℕ)
+    → f ≡ readFault (render (partsOf k) v) (length out) → out₁ ≡ left (readingBytes (render (partsOf k) v)) out → 26 ≤ length out
+    → (f ≡ record { refusal = 0; place = 0 }) × Back (render (partsOf k) v) (told (take 26 out₁)) k (only (partsOf k) v)
+reads-back k v valid = as-back (render (partsOf k) v) k (only (partsOf k) v) (rendered-back k v valid)
 
 -- ---- when reading is refused
 clash : {A : Type 0} → _≡_ {A = ℕ} 0 1 → A

@@ -17,7 +17,7 @@ use Rattle.text.specs.declared.Fault.{Fault}
 use Rattle.text.specs.declared.Written.{Written}
 use Rattle.path.specs.declared.Path.{Path}
 use Rattle.path.specs.declared.Refusal.{Refusal}
-use Rattle.path.specs.declared.Refusal.the-variants.{NoDigits as WithoutDigits, NotADigit as WithoutDigit, TooLarge as AboveAll}
+use Rattle.path.specs.declared.Refusal.the-variants.{TooLong, NotAscii, NotAPath, NoDigits as WithoutDigits, NotADigit as WithoutDigit, TooLarge as AboveAll}
 use Rattle.path.specs.declared.Reading.{Reading}
 use Rattle.path.specs.declared.Reading.the-variants.{Read, Refused}
 use Rattle.path.specs.Kinds.{kinds}
@@ -32,6 +32,15 @@ use Rattle.demands.specs.Rendered.{WhenKeyedBy, WhenKeyed}
 
 clash : {A : Type 0} → _≡_ {A = ℕ} 0 1 → A
 clash z = absurd (let y : ⊥ = omega (arith, z) in y)
+
+-- 0 is no refusal of reading
+pub refusal-some : (r : Refusal) → refusalOf r ≡ 0 → ⊥
+refusal-some TooLong h = omega (arith, h)
+refusal-some NotAscii h = omega (arith, h)
+refusal-some NotAPath h = omega (arith, h)
+refusal-some (WithoutDigits i) h = omega (arith, h)
+refusal-some (WithoutDigit i) h = omega (arith, h)
+refusal-some (AboveAll i) h = omega (arith, h)
 
 -- a fault that has a place is a refusal of reading
 as-refusal : (f : Fault) → hasPlace (f .refusal) ≡ true → (w : Refusal) × (f ≡ faultOf w)

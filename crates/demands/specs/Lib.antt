@@ -23,6 +23,7 @@ pub mod ModeLaws
 pub mod KeyedLaws
 pub mod WideShapeLaws
 pub mod Demand1
+pub mod MeetsLaws
 pub mod Demand2
 pub mod WideCalls
 pub mod WideWritten
@@ -35,6 +36,7 @@ pub mod WideRenderedLaws
 pub mod Wide
 pub mod Faults
 pub mod Walk
+pub mod PathExistsLaws
 pub mod KeyCalls
 pub mod Scanned
 pub mod IterationLaws

@@ -11,8 +11,6 @@ use Rattle.text.specs.Put.{answer}
 use Rattle.text.specs.declared.Fault.{Fault}
 use Rattle.text.specs.declared.Written.{Written}
 use Rattle.path.specs.declared.Path.{Path}
-use Rattle.path.specs.declared.Refusal.{Refusal}
-use Rattle.path.specs.declared.Refusal.the-variants.{TooLong, NotAscii, NotAPath, NoDigits as WithoutDigits, NotADigit as WithoutDigit, TooLarge as AboveAll}
 use Rattle.path.specs.declared.Reading.the-variants.{Read, Refused}
 use Rattle.path.specs.Number.{NumberWrong}
 use Rattle.path.specs.Read.{renderPath, refusalOf}
@@ -27,20 +25,12 @@ use Rattle.wide.specs.Read.{readIn, keyIn, readingBytesIn, readFaultIn}
 use Rattle.demands.specs.WideWritten.{NoWideKind, WhenWideRead}
 use Rattle.demands.specs.WideLaws as laws
 use Rattle.demands.specs.WideCallLaws.{opened}
-use Rattle.demands.specs.KeyedLaws.{Reading26, Way, unread, read, when-keyed-by, is-read}
+use Rattle.demands.specs.KeyedLaws.{refusal-some, Reading26, Way, unread, read, when-keyed-by, is-read}
 use Rattle.demands.specs.WideRendered.{WhenWideKeyed}
 
 other-some : wide .other ≡ 0 → ⊥
 unfolding wide
 other-some h = omega (arith, h)
-
-refusal-some : (r : Refusal) → refusalOf r ≡ 0 → ⊥
-refusal-some TooLong h = omega (arith, h)
-refusal-some NotAscii h = omega (arith, h)
-refusal-some NotAPath h = omega (arith, h)
-refusal-some (WithoutDigits i) h = omega (arith, h)
-refusal-some (WithoutDigit i) h = omega (arith, h)
-refusal-some (AboveAll i) h = omega (arith, h)
 
 module _ (t out : List ℕ) (x : Written) (e : x ≡ answer (keyIn wide t) (length out)) where
   abbrev room26 : List ℕ
