@@ -16,7 +16,6 @@ pub mod Told
 pub mod ToldLaws
 pub mod Written
 pub mod Demand2Laws
-pub mod Above
 pub mod Rendered
 pub mod RenderedLaws
 pub mod ModeLaws
@@ -42,6 +41,7 @@ pub mod Scanned
 pub mod IterationLaws
 pub mod Iteration
 pub mod Cases
+pub mod Above
 pub mod BelowLaws
 pub mod NeighbourLaws
 pub mod Below

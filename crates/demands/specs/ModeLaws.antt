@@ -190,6 +190,6 @@ module _ (k : ℕ) (v : Carried (List ℕ)) (out : List ℕ) (x : Written) where
   unfolding renderOf
   when-plain e = when-rendered ascii 2 nameFault checks-plain k v out x (e ∙ rw names-by)
 
-  pub when-wide : x ≡ answer (renderIn wide k v) (length out) → WhenRenderedBy utf8 21 (nameFaultIn wide) k v out x
+  pub when-wide : x ≡ answer (renderIn wide k v) (length out) → WhenRenderedBy (nameFaultIn wide) k v utf8 21 out x
   unfolding renderIn
   when-wide e = when-rendered utf8 21 (nameFaultIn wide) checks-wide k v out x (e ∙ rw wide-names-by)

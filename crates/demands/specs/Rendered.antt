@@ -19,7 +19,6 @@ use Rattle.path.specs.Kinds.{Part, word, name, count, pair, Carried}
 use Rattle.path.specs.Number.{NumberWrong}
 use Rattle.path.specs.Read.{nameFault, partsOf, render, renderPath, refusalOf}
 use Rattle.path.specs.Reads.{Reads}
-use Rattle.demands.specs.Above.{Upgrade}
 use Rattle.demands.specs.Written.{NoKind}
 
 -- one of the nineteen kinds
@@ -52,40 +51,40 @@ pub record OfAName (r : ℕ) : Type 0 where
   pub no-length : r ≡ tooLong → ⊥
   pub no-room : r ≡ noRoom → ⊥
 
--- by the test of the texts that are taken, the refusal of all others, and the checks of identifiers
-module _ (takes : List ℕ → Bool) (other : ℕ) (check : Name → List ℕ → ℕ) where
-  module _ (k : ℕ) (v : Carried (List ℕ)) where
-    -- the check of the first identifier gives r, and that of the second
-    abbrev pub FirstGets : ℕ → Type 0
-    FirstGets r = (n : Name) × FirstOf k n × (check n (v .first) ≡ r)
+-- of kind k with what it is given, by the checks of identifiers
+module _ (check : Name → List ℕ → ℕ) (k : ℕ) (v : Carried (List ℕ)) where
+  -- the check of the first identifier gives r, and that of the second
+  abbrev pub FirstGets : ℕ → Type 0
+  FirstGets r = (n : Name) × FirstOf k n × (check n (v .first) ≡ r)
 
-    abbrev pub SecondGets : ℕ → Type 0
-    SecondGets r = (n : Name) × SecondOf k n × (check n (v .second) ≡ r)
+  abbrev pub SecondGets : ℕ → Type 0
+  SecondGets r = (n : Name) × SecondOf k n × (check n (v .second) ≡ r)
 
-    -- it is accepted, or the kind has none
-    abbrev pub FirstFine : Type 0
-    FirstFine = (n : Name) → FirstOf k n → check n (v .first) ≡ 0
+  -- it is accepted, or the kind has none
+  abbrev pub FirstFine : Type 0
+  FirstFine = (n : Name) → FirstOf k n → check n (v .first) ≡ 0
 
-    abbrev pub SecondFine : Type 0
-    SecondFine = (n : Name) → SecondOf k n → check n (v .second) ≡ 0
+  abbrev pub SecondFine : Type 0
+  SecondFine = (n : Name) → SecondOf k n → check n (v .second) ≡ 0
 
-    -- a kind, with every identifier that it has accepted
-    abbrev pub Fine : Type 0
-    Fine = IsKind k × FirstFine × SecondFine
+  -- a kind, with every identifier that it has accepted
+  abbrev pub Fine : Type 0
+  Fine = IsKind k × FirstFine × SecondFine
 
-    -- the answer x to a rendering into `out`: "14, first identifier, second identifier (for U: 2, 13), 1, 4"
-    pub record WhenRenderedBy (out : List ℕ) (x : Written) : Type 0 where
-      pub bad-kind : (x .refusal ≡ badKind) ↔ (IsKind k → ⊥)
-      pub bad-name : (r : ℕ) → OfAName r → (x .refusal ≡ r) ↔ (IsKind k × (FirstGets r ⊎ (FirstFine × SecondGets r)))
-      pub not-taken : (x .refusal ≡ other) ↔ (IsKind k × (((n : Name) × FirstOf k n × (takes (v .first) ≡ false)) ⊎ (FirstFine × ((n : Name) × SecondOf k n × (takes (v .second) ≡ false)))))
-      pub bad-segment : (x .refusal ≡ badSegment) ↔ (Upgrade k × (takes (v .first) ≡ true) × Slash (v .first))
-      pub too-long : (x .refusal ≡ tooLong) ↔ (Fine × (4096 < length (render (partsOf k) v)))
-      pub no-room : (x .refusal ≡ noRoom) ↔ (Fine × (length (render (partsOf k) v) ≤ 4096) × (length out < length (render (partsOf k) v)))
-      pub done : (x .refusal ≡ 0) ↔ (Fine × (length (render (partsOf k) v) ≤ 4096) × (length (render (partsOf k) v) ≤ length out))
+  -- the answer x to a rendering into `out`: "14, first identifier, second identifier (for U: 2, 13), 1, 4". By the test of the texts that are taken, and
+  -- the refusal of all others
+  pub record WhenRenderedBy (takes : List ℕ → Bool) (other : ℕ) (out : List ℕ) (x : Written) : Type 0 where
+    pub bad-kind : (x .refusal ≡ badKind) ↔ (IsKind k → ⊥)
+    pub bad-name : (r : ℕ) → OfAName r → (x .refusal ≡ r) ↔ (IsKind k × (FirstGets r ⊎ (FirstFine × SecondGets r)))
+    pub not-taken : (x .refusal ≡ other) ↔ (IsKind k × (((n : Name) × FirstOf k n × (takes (v .first) ≡ false)) ⊎ (FirstFine × ((n : Name) × SecondOf k n × (takes (v .second) ≡ false)))))
+    pub bad-segment : (x .refusal ≡ badSegment) ↔ (((k ≡ 18) ⊎ (k ≡ 19)) × (takes (v .first) ≡ true) × Slash (v .first))
+    pub too-long : (x .refusal ≡ tooLong) ↔ (Fine × (4096 < length (render (partsOf k) v)))
+    pub no-room : (x .refusal ≡ noRoom) ↔ (Fine × (length (render (partsOf k) v) ≤ 4096) × (length out < length (render (partsOf k) v)))
+    pub done : (x .refusal ≡ 0) ↔ (Fine × (length (render (partsOf k) v) ≤ 4096) × (length (render (partsOf k) v) ≤ length out))
 
 -- the answer x of `hp_render`
 abbrev pub WhenRendered : ℕ → Carried (List ℕ) → List ℕ → Written → Type 0
-WhenRendered k v out x = WhenRenderedBy ascii notAscii nameFault k v out x
+WhenRendered k v out x = WhenRenderedBy nameFault k v ascii notAscii out x
 
 -- the answer x to the writing of the key of t into `out`: the order of reading, 1, 2, 3 (or 17, 18, 19), 4, where room is wanted for the rendering. By the
 -- test of the texts that are taken, the refusal of all others, what is seen of a text, that no kind fits it, and that only a number of it is wrong

@@ -25,7 +25,6 @@ use Rattle.path.specs.Read.{partsOf, render}
 use Rattle.path.specs.Reads.{kindAt}
 use Rattle.path.specs.ReadLaws.{has-both, kind-has, kind-parts, made-kind}
 use Rattle.path.specs.View.{kindOf}
-use Rattle.demands.specs.Above.{Upgrade}
 use Rattle.demands.specs.Demand2Laws.{iff-yes, iff-no}
 use Rattle.demands.specs.Rendered.{IsKind, named, FirstOf, SecondOf, Slash, OfAName, FirstGets, SecondGets, FirstFine, SecondFine, Fine, WhenRenderedBy}
 
@@ -68,6 +67,9 @@ first-upgrade = refl
 second-upgrade : map (λ e. isUpgrade (getElem? (named (e .parts)) 1)) kinds ≡ map (λ e. false) kinds
 unfolding kinds isUpgrade
 second-upgrade = refl
+
+abbrev Upgrade : ℕ → Type 0
+Upgrade k = (k ≡ 18) ⊎ (k ≡ 19)
 
 module _ (k : ℕ) (i : IsKind k) where
   is-upgrade : FirstOf k UpgradePath → Upgrade k
@@ -184,10 +186,10 @@ module _ (takes : List ℕ → Bool) (other : ℕ) (check : Name → List ℕ �
     -- the rows that say all: the two of 2 and of 13 are of `names`
     record Rows (x : Written) : Type 0 where
       pub kind : (x .refusal ≡ 14) ↔ (IsKind k → ⊥)
-      pub names : (r : ℕ) → OfAName r → (x .refusal ≡ r) ↔ (IsKind k × (FirstGets takes other check k v r ⊎ (FirstFine takes other check k v × SecondGets takes other check k v r)))
-      pub long : (x .refusal ≡ 1) ↔ (Fine takes other check k v × (4096 < length whole))
-      pub room : (x .refusal ≡ 4) ↔ (Fine takes other check k v × (length whole ≤ 4096) × (length out < length whole))
-      pub done : (x .refusal ≡ 0) ↔ (Fine takes other check k v × (length whole ≤ 4096) × (length whole ≤ length out))
+      pub names : (r : ℕ) → OfAName r → (x .refusal ≡ r) ↔ (IsKind k × (FirstGets check k v r ⊎ (FirstFine check k v × SecondGets check k v r)))
+      pub long : (x .refusal ≡ 1) ↔ (Fine check k v × (4096 < length whole))
+      pub room : (x .refusal ≡ 4) ↔ (Fine check k v × (length whole ≤ 4096) × (length out < length whole))
+      pub done : (x .refusal ≡ 0) ↔ (Fine check k v × (length whole ≤ 4096) × (length whole ≤ length out))
 
     kind-is : (leb 1 k && leb k 19) ≡ true → IsKind k
     kind-is h = (leb-true 1 k (and-left (leb 1 k) (leb k 19) h), leb-true k 19 (and-right (leb 1 k) (leb k 19) h))
@@ -212,7 +214,7 @@ module _ (takes : List ℕ → Bool) (other : ℕ) (check : Name → List ℕ �
             let f : refusals ≡ a = ap (λ (y : ℕ). first y u) (names-are i ∙ first-some a (first b 0) nz) ∙ first-some a u nz in
             let m : x .refusal ≡ a = refused-way x e h (λ z. nz (sym f ∙ z)) ∙ f in
             let far : Apart a = apart-at (v .first) (getElem? (named (partsOf k)) 0) in
-            let bad : FirstFine takes other check k v → ⊥ = λ g. nz (fined (v .first) (getElem? (named (partsOf k)) 0) g) in
+            let bad : FirstFine check k v → ⊥ = λ g. nz (fined (v .first) (getElem? (named (partsOf k)) 0) g) in
             record {
               kind = iff-no (λ q. far .kind (sym m ∙ q)) (λ q. q i);
               names = λ r o. (λ q. (i, inl (gets (v .first) (getElem? (named (partsOf k)) 0) r (o .no-zero) (sym m ∙ q))), λ q. m ∙ ⊎-elim (λ g. got (v .first) (getElem? (named (partsOf k)) 0) r g) (λ g. absurd (bad (g .0))) (q .1));
@@ -228,7 +230,7 @@ module _ (takes : List ℕ → Bool) (other : ℕ) (check : Name → List ℕ �
               let f : refusals ≡ b = ap (λ (y : ℕ). first y u) (names-are i ∙ first-none a (first b 0) za ∙ first-some b 0 nz) ∙ first-some b u nz in
               let m : x .refusal ≡ b = refused-way x e h (λ z. nz (sym f ∙ z)) ∙ f in
               let far : Apart b = apart-at (v .second) (getElem? (named (partsOf k)) 1) in
-              let bad : SecondFine takes other check k v → ⊥ = λ g. nz (fined (v .second) (getElem? (named (partsOf k)) 1) g) in
+              let bad : SecondFine check k v → ⊥ = λ g. nz (fined (v .second) (getElem? (named (partsOf k)) 1) g) in
               record {
                 kind = iff-no (λ q. far .kind (sym m ∙ q)) (λ q. q i);
                 names = λ r o. (
@@ -242,10 +244,10 @@ module _ (takes : List ℕ → Bool) (other : ℕ) (check : Name → List ℕ �
 
           -- every identifier is accepted
           module _ (zb : b ≡ 0) where
-            all-fine : Fine takes other check k v
+            all-fine : Fine check k v
             all-fine = (i, fine (v .first) (getElem? (named (partsOf k)) 0) za, fine (v .second) (getElem? (named (partsOf k)) 1) zb)
 
-            none-gets : (r : ℕ) → OfAName r → FirstGets takes other check k v r ⊎ (FirstFine takes other check k v × SecondGets takes other check k v r) → ⊥
+            none-gets : (r : ℕ) → OfAName r → FirstGets check k v r ⊎ (FirstFine check k v × SecondGets check k v r) → ⊥
             none-gets r o q =
                 ⊎-elim (λ g. o .no-zero (sym (got (v .first) (getElem? (named (partsOf k)) 0) r g) ∙ za)) (λ g. o .no-zero (sym (got (v .second) (getElem? (named (partsOf k)) 1) r (g .1)) ∙ zb)) q
 
@@ -306,12 +308,12 @@ module _ (takes : List ℕ → Bool) (other : ℕ) (check : Name → List ℕ �
           let g = rows .names 13 (record { no-zero = λ e. omega (arith, e); no-kind = λ e. omega (arith, e); no-length = λ e. omega (arith, e); no-room = λ e. omega (arith, e) }) .0 q in
           ⊎-elim (λ f. by-first (g .0) f) (λ f. absurd (by-second (g .0) (f .1))) (g .1)
         where
-          by-first : IsKind k → FirstGets takes other check k v 13 → Upgrade k × (takes (v .first) ≡ true) × Slash (v .first)
+          by-first : IsKind k → FirstGets check k v 13 → Upgrade k × (takes (v .first) ≡ true) × Slash (v .first)
           by-first i f =
               let s = is .slash-only (f .0) (v .first) (f .2) in
               (is-upgrade k i (f .1 ∙ ap some (s .0)), s .1, slash-found (v .first) (s .2))
 
-          by-second : IsKind k → SecondGets takes other check k v 13 → ⊥
+          by-second : IsKind k → SecondGets check k v 13 → ⊥
           by-second i f = no-second k i (f .1 ∙ ap some (is .slash-only (f .0) (v .second) (f .2) .0))
 
       segment-back : Upgrade k × (takes (v .first) ≡ true) × Slash (v .first) → x .refusal ≡ 13
@@ -320,7 +322,7 @@ module _ (takes : List ℕ → Bool) (other : ℕ) (check : Name → List ℕ �
           rows .names 13 (record { no-zero = λ e. omega (arith, e); no-kind = λ e. omega (arith, e); no-length = λ e. omega (arith, e); no-room = λ e. omega (arith, e) }) .1
           (u .0, inl (UpgradePath, u .1, is .slash-is (v .first) (q .1) (found-slash (v .first) (q .2 .0) (q .2 .1))))
 
-      pub when-rendered : WhenRenderedBy takes other check k v out x
+      pub when-rendered : WhenRenderedBy check k v takes other out x
       when-rendered =
           let w = rows .names other (is .other-name) in
           record {

@@ -10,7 +10,6 @@ use mathlib.Core.Option.{Option, none, some}
 use native.Mathlib.Omega.{arith}
 use lib.ListN.{length, getD, take}
 use Rattle.text.specs.Bytes.{bytes}
-use Rattle.text.specs.Part.{ascii}
 use Rattle.text.specs.Put.{text}
 use Rattle.text.specs.declared.Fault.{Fault}
 use Rattle.text.specs.declared.Written.{Written}
@@ -285,7 +284,7 @@ Counter k = (k ≡ 1) ⊎ (k ≡ 2)
 nameless : (n : Name) → _≡_ {A = Option Name} none (some n) → ⊥
 nameless n e = let z : _≡_ {A = ℕ} 0 1 = cc in omega (arith, z)
 
-counter-fine : (k : ℕ) → Counter k → Fine ascii 2 nameFault k (carried [] [] 0 0)
+counter-fine : (k : ℕ) → Counter k → Fine nameFault k (carried [] [] 0 0)
 unfolding partsOf kinds
 counter-fine k i = ⊎-elim (λ e. rw e ((omega arith, omega arith), λ n q. absurd (nameless n q), λ n q. absurd (nameless n q))) (λ e. rw e ((omega arith, omega arith), λ n q. absurd (nameless n q), λ n q. absurd (nameless n q))) i
 

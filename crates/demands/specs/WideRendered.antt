@@ -15,7 +15,7 @@ use Rattle.demands.specs.WideWritten.{NoWideKind}
 
 -- the answer x of `hp_wide_render`
 abbrev pub WhenWideRendered : ℕ → Carried (List ℕ) → List ℕ → Written → Type 0
-WhenWideRendered k v out x = WhenRenderedBy utf8 badUtf8 (nameFaultIn wide) k v out x
+WhenWideRendered k v out x = WhenRenderedBy (nameFaultIn wide) k v utf8 badUtf8 out x
 
 -- the answer x of `hp_wide_key`
 abbrev pub WhenWideKeyed : List ℕ → List ℕ → Written → Type 0
