@@ -3,27 +3,26 @@
 -- of its reading. Then the theorem that the generated contracts of `hp_read` and `hp_walk`, `hp_render` and `hp_key` meet it, with names for their
 -- arguments and buffers (PathCalls, Walk), and what holds of the functions below them.
 -- Assumes nothing.
-use Prim.Native.Nat.{ℕ, _+_, _≤_, _<_, _^_, compare}
-use mathlib.Core.Path.{_≡_, refl, sym, ap, subst, _∙_}
+use Prim.Native.Nat.{ℕ, _≤_, _<_, _^_, compare}
+use mathlib.Core.Path.{_≡_, sym, ap, subst, _∙_}
 use mathlib.Core.Logic.{_↔_}
-use mathlib.Core.Bool.{Bool, true, false, cond}
+use mathlib.Core.Bool.{Bool, true}
 use mathlib.Core.List.{List}
 use lib.ListN.{length, take}
 use denote.Ref.{now}
 use Rattle.text.specs.Bytes.{bytes}
-use Rattle.text.specs.Refusal.{notAPath, noRoom}
+use Rattle.text.specs.Refusal.{notAscii, notAPath, noRoom}
 use Rattle.text.specs.declared.Fault.{Fault}
 use Rattle.text.specs.declared.Written.{Written}
 use Rattle.text.specs.Order.{then, cmp}
 use Rattle.text.specs.Part.{ascii}
 use Rattle.text.specs.Put.{text, done, answer, left}
-use Rattle.identifiers.specs.Check.{checkOf, faultOf, client, clientType, connection, port, channel, first, charsOf, prefixLengthOf, generalOf}
+use Rattle.identifiers.specs.Check.{faultOf, client, connection, port, channel, first, charsOf, prefixLengthOf, generalOf}
 use Rattle.path.specs.declared.Path.{Path}
 use Rattle.path.specs.declared.PathAnswer.the-variants.{Found}
 use Rattle.path.specs.declared.Reading.the-variants.{Read}
-use Rattle.path.specs.Kinds.{Carried, carried, Kind, kinds}
-use Rattle.path.specs.Text.{partOf}
-use Rattle.path.specs.Read.{fitsKind, partsOf, textsOf, renderPath, renderOf, readPath, keyOf, readingBytes, readFault}
+use Rattle.path.specs.Kinds.{Carried, carried, kinds}
+use Rattle.path.specs.Read.{nameFault, fitsKind, partsOf, textsOf, renderPath, renderOf, readPath, keyOf, readingBytes, readFault}
 use Rattle.path.specs.Read as paths
 use Rattle.path.specs.View.{kindOf, carriedOf}
 use Rattle.path.specs.Valid.{Valid, only, ReadsAs}
@@ -36,12 +35,13 @@ use Rattle.iteration.specs.Key.{iterationKey}
 use Rattle.iteration.specs.KeyLaws.{key-compare}
 use Rattle.demands.specs.PathCalls.{ReadCall, KeyCall, RenderCall, IterationKeyCall, reading, keying, rendering, iterating}
 use Rattle.demands.specs.Walk.{WalkCall, walking}
-use Rattle.demands.specs.Told.{Told, told, toldOf}
+use Rattle.demands.specs.Told.{told}
 use Rattle.demands.specs.Demand2Laws as laws
 use Rattle.demands.specs.ModeLaws as modes
 use Rattle.demands.specs.KeyedLaws as keyed
 use Rattle.demands.specs.MeetsLaws as meet
 use Rattle.demands.specs.PathExistsLaws as exist
+use Rattle.demands.specs.OneAnswerLaws as sole
 use Rattle.demands.specs.Written.{Done, Back, Says, Leaves, readLength, WhenRead}
 use Rattle.demands.specs.Rendered.{WhenRendered, WhenKeyed}
 use Rattle.hostpath.proofs.hp_validate_client_type.Reads as hp-validate-client-type
@@ -151,6 +151,29 @@ iteration-demand2 =
           let u = laws.iteration-keys n k buffer y buffer₁ (g .0) (g .1) (meet.iteration-done n k buffer y (g .0) .0 w) .1 in
           rw (s .shown, u .shown) (key-compare m h n k a b c d);
     }
+
+-- ---- and nothing is left open: what meets the demand answers as the calls do
+module _ (Reads : List ℕ → List ℕ → Fault → List ℕ → Type 0) (Renders : ℕ → List ℕ → List ℕ → ℕ → ℕ → List ℕ → Written → List ℕ → Type 0) (Keys : List ℕ → List ℕ → Written → List ℕ → Type 0)
+    (d : Demand2 Reads Renders Keys) where
+  pub reads-alike : (t out : List ℕ) (f g : Fault) (out₁ out₂ : List ℕ) → Reads t out f out₁ → ReadCall t out g out₂ → f ≡ g
+  reads-alike t out f g out₁ out₂ c e = sole.one-fault t out f g (d .when-read t out f out₁ c) (reading e .0)
+
+  pub tells-alike : (t out : List ℕ) (f g : Fault) (out₁ out₂ : List ℕ) → Reads t out f out₁ → ReadCall t out g out₂ → f .refusal ≡ 0 → told (take 26 out₁) ≡ told (take 26 out₂)
+  tells-alike t out f g out₁ out₂ c e z =
+      let p = d .told-so t out f out₁ c z in
+      let q = demand2 .told-so t out g out₂ e (ap (λ (y : Fault). y .refusal) (sym (reads-alike t out f g out₁ out₂ c e)) ∙ z) in
+      sole.one-told t (p .0) (q .0) (told (take 26 out₁)) (told (take 26 out₂)) (p .1) (q .1) (p .2) (q .2)
+
+  pub renders-alike : (kind : ℕ) (one two : List ℕ) (a b : ℕ) (out : List ℕ) (x y : Written) (out₁ out₂ : List ℕ) → Renders kind one two a b out x out₁ → RenderCall kind one two a b out y out₂ → (x ≡ y) × (out₁ ≡ out₂)
+  renders-alike kind one two a b out x y out₁ out₂ c e =
+      sole.one-outcome x y out out₁ out₂ (sole.one-rendering nameFault kind (carried one two a b) ascii notAscii out x y (d .when-rendered kind one two a b out x out₁ c) (demand2 .when-rendered kind one two a b out y out₂ e))
+      (d .render-leaves kind one two a b out x out₁ c) (demand2 .render-leaves kind one two a b out y out₂ e) (paths.render (partsOf kind) (carried one two a b))
+      (d .rendered-so kind one two a b out x out₁ c) (demand2 .rendered-so kind one two a b out y out₂ e)
+
+  pub keys-alike : (t out : List ℕ) (x y : Written) (out₁ out₂ : List ℕ) → Keys t out x out₁ → KeyCall t out y out₂ → (x ≡ y) × (out₁ ≡ out₂)
+  keys-alike t out x y out₁ out₂ c e =
+      sole.key-outcome x y out out₁ out₂ (sole.one-key t out x y (d .when-keyed t out x out₁ c) (keying e .0)) (d .key-leaves t out x out₁ c) (demand2 .key-leaves t out y out₂ e) t
+      (d .keyed-so t out x out₁ c) (demand2 .keyed-so t out y out₂ e)
 
 -- ---- rendering: a valid typed path, wherever there is room, and no other
 module _ (kind : ℕ) (one two : List ℕ) (a b : ℕ) where

@@ -12,7 +12,7 @@ use lib.Seq.{take-at}
 use borrow.Author.Tests.{le-leb, lt-leb, ltb-true, ltb-false, leb-true, leb-false}
 use Rattle.text.specs.declared.Written.{Written}
 use Rattle.text.specs.Part.{every, ascii, same}
-use Rattle.text.specs.Put.{put, Wanted, text, refused, done, refusal, answer, left}
+use Rattle.text.specs.Put.{put, Wanted, text, done, refusal, answer, left}
 use Rattle.text.specs.PutLaws.{put-zero}
 use Rattle.identifiers.specs.Check.{checkOf, client, clientType, connection, port, channel, first, charsOf, prefixLengthOf, generalOf}
 use Rattle.identifiers.specs.CheckLaws.{check-general, client-type-general}
@@ -21,21 +21,18 @@ use Rattle.path.specs.declared.PathAnswer.{PathAnswer}
 use Rattle.path.specs.declared.PathAnswer.the-variants.{Found, Nothing}
 use Rattle.path.specs.declared.Refusal.{Refusal}
 use Rattle.path.specs.declared.Refusal.the-variants.{TooLong, NotAscii, NotAPath, NoDigits as WithoutDigits, NotADigit as WithoutDigit, TooLarge as AboveAll}
-use Rattle.path.specs.declared.Reading.{Reading}
 use Rattle.path.specs.declared.Reading.the-variants.{Read, Refused}
-use Rattle.path.specs.Kinds.{Carried, Kind, kinds}
-use Rattle.path.specs.Text.{partOf}
+use Rattle.path.specs.Kinds.{Carried, kinds}
 use Rattle.path.specs.Read.{fitsKind, readFirst, partsOf, textsOf, render, renderPath, renderOf, readPath, keyBy, keyOf, bytesBy, readingBytes, refusalOf, whyNot, placeOf, faultOf, readFault}
 use Rattle.path.specs.View.{kindOf, carriedOf}
 use Rattle.path.specs.Valid.{Valid, only, ReadsAs}
-use Rattle.path.specs.Reads.{Has}
 use Rattle.path.specs.ReadLaws.{kinds-apart, read-has, is-reads}
 use Rattle.path.specs.BackLaws.{valid-rendered, rendered-back, read-again, key-exact}
 use Rattle.path.specs.BackLaws as back
 use Rattle.path.specs.LengthLaws.{rendering-short}
 use Rattle.iteration.specs.Key.{iterationKey}
 use Rattle.iteration.specs.KeyLaws.{key-length}
-use Rattle.demands.specs.Told.{Told, told, toldOf}
+use Rattle.demands.specs.Told.{told, toldOf}
 use Rattle.demands.specs.ToldLaws.{bytes26, told-back, length26}
 use Rattle.text.specs.declared.Fault.{Fault}
 use Rattle.text.specs.Fault.{hasPlace}

@@ -3,16 +3,16 @@
 use Prim.Native.Nat.{ℕ, _≤_, _<_}
 use mathlib.Core.Path.{_≡_, refl, sym, ap, subst, _∙_}
 use mathlib.Core.Logic.{_↔_}
-use mathlib.Core.Bool.{Bool, true, false, cond}
+use mathlib.Core.Bool.{Bool, true, false}
 use mathlib.Core.List.{List}
 use native.Mathlib.Omega.{arith}
-use lib.Dec.{eqb, ltb, leb}
+use lib.Dec.{eqb, leb}
 use lib.ListN.{length, replicate}
-use borrow.Author.Tests.{le-ltb, ltb-true, ltb-false, le-leb, lt-leb, leb-true, leb-false, eqb-true, eqb-false}
+use borrow.Author.Tests.{le-ltb, leb-true, leb-false, eqb-true, eqb-false}
 use Rattle.text.specs.Fault.{hasPlace}
 use Rattle.text.specs.Part.{ascii, same}
 use Rattle.text.specs.PartLaws.{and-left, and-right}
-use Rattle.text.specs.Put.{Wanted, text, answer}
+use Rattle.text.specs.Put.{text, answer}
 use Rattle.text.specs.declared.Fault.{Fault}
 use Rattle.text.specs.declared.Written.{Written}
 use Rattle.path.specs.declared.Path.{Path}
@@ -20,7 +20,6 @@ use Rattle.path.specs.declared.Refusal.{Refusal}
 use Rattle.path.specs.declared.Refusal.the-variants.{TooLong, NotAscii, NotAPath, NoDigits as WithoutDigits, NotADigit as WithoutDigit, TooLarge as AboveAll}
 use Rattle.path.specs.declared.Reading.{Reading}
 use Rattle.path.specs.declared.Reading.the-variants.{Read, Refused}
-use Rattle.path.specs.Kinds.{kinds}
 use Rattle.path.specs.Number.{NumberWrong}
 use Rattle.path.specs.Read.{readPath, keyOf, renderPath, refusalOf, faultOf, readingBytes, readFault}
 use Rattle.path.specs.Reads.{Reads}

@@ -23,6 +23,7 @@ pub mod KeyedLaws
 pub mod WideShapeLaws
 pub mod Demand1
 pub mod MeetsLaws
+pub mod OneAnswerLaws
 pub mod Demand2
 pub mod WideCalls
 pub mod WideWritten

@@ -1,18 +1,17 @@
 -- The lines of demand 2, of functions that answer as `path` says.
 -- Assumes nothing.
-use Prim.Native.Nat.{ℕ, _≤_, _<_, _^_, compare}
+use Prim.Native.Nat.{ℕ, _≤_, _<_}
 use mathlib.Core.Path.{_≡_, refl, sym, ap, subst, _∙_}
 use mathlib.Core.Logic.{_↔_}
 use mathlib.Core.Bool.{Bool, true, false, cond, _&&_}
-use mathlib.Core.List.{List, [], _∷_, _++_}
+use mathlib.Core.List.{List}
 use native.Mathlib.Omega.{arith}
 use lib.Dec.{eqb, leb}
 use lib.ListN.{length, take, drop, getD}
 use lib.Seq.{drop-at}
 use borrow.Author.Tests.{ne-eqb, eqb-false, le-leb, lt-leb, leb-true, leb-false}
 use Rattle.text.specs.Bytes.{bytes}
-use Rattle.text.specs.Order.{then, cmp}
-use Rattle.text.specs.Part.{ascii, same}
+use Rattle.text.specs.Part.{same}
 use Rattle.text.specs.PartLaws.{same-is, same-refl}
 use Rattle.text.specs.Put.{Wanted, refused, text, done, refusal, answer, left, put}
 use Rattle.text.specs.PutLaws.{put-zero}
@@ -32,9 +31,9 @@ use Rattle.path.specs.Valid.{Valid, only, ReadsAs}
 use Rattle.path.specs.BackLaws.{read-reads, read-exact, rendered-back, read-again}
 use Rattle.iteration.specs.Key.{iterationKey}
 use Rattle.iteration.specs.KeyLaws.{key-length}
-use Rattle.demands.specs.Told.{Told, told, toldOf}
+use Rattle.demands.specs.Told.{told, toldOf}
 use Rattle.demands.specs.ToldLaws.{bytes26, length26}
-use Rattle.demands.specs.Written.{Done, Back, Says, Leaves, readLength, WhenRead}
+use Rattle.demands.specs.Written.{Done, Back, Says, Leaves, readLength}
 use Rattle.demands.specs.Demand2Laws.{iff-yes, iff-no, wrote, renders, as-back, reading-tells, keys, when-read}
 use Rattle.demands.specs.ModeLaws.{when-plain}
 use Rattle.demands.specs.KeyedLaws.{refusal-some, is-read, when-keyed}

@@ -1,9 +1,9 @@
 -- What the checks of identifiers give in either mode: each number of theirs, and when it is the refusal of what the mode does not take or of a slash.
 -- Assumes nothing.
 use Prim.Native.Nat.{ℕ}
-use mathlib.Core.Path.{_≡_, refl, sym, ap, subst, _∙_}
+use mathlib.Core.Path.{_≡_, refl, sym, subst, _∙_}
 use mathlib.Core.Logic.{_↔_}
-use mathlib.Core.Bool.{Bool, true, false, cond, not, _&&_}
+use mathlib.Core.Bool.{Bool, true, false, not, _&&_}
 use mathlib.Core.List.{List, [], _∷_}
 use native.Mathlib.Omega.{arith}
 use lib.Dec.{eqb, leb}
@@ -12,12 +12,12 @@ use borrow.Author.Tests.{eqb-false}
 use Rattle.text.specs.Part.{every, ascii}
 use Rattle.text.specs.Put.{answer}
 use Rattle.text.specs.declared.Written.{Written}
-use Rattle.identifiers.specs.Check.{first, unless, identifierByte, within, namedOf, Rule, Form, plain as free, indexed, formOf}
+use Rattle.identifiers.specs.Check.{first, unless, identifierByte, within, Rule, Form, plain as free, indexed, formOf}
 use Rattle.identifiers.specs.Check as check
 use Rattle.identifiers.specs.CheckLaws.{first-some}
 use Rattle.path.specs.declared.name.Name.{Name}
 use Rattle.path.specs.declared.name.Name.the-variants.{Client, Connection, Port, Channel, Upgrade}
-use Rattle.path.specs.Kinds.{Part, word, name, count, pair, Carried, nameIn}
+use Rattle.path.specs.Kinds.{Part, word, name, count, pair, Carried}
 use Rattle.path.specs.Read.{nameFault, namesFault, renderOf}
 use Rattle.letters.specs.Character.{utf8}
 use Rattle.wide.specs.Mode.{Mode, plain, wide}

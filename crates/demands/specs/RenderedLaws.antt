@@ -1,7 +1,7 @@
 -- When rendering and the writing of a key are refused. Of rendering there is one law, over any checks of identifiers.
 -- Assumes nothing.
 use Prim.Native.Nat.{ℕ, zero, suc, _≤_, _<_}
-use mathlib.Core.Path.{_≡_, refl, sym, ap, subst, _∙_}
+use mathlib.Core.Path.{_≡_, refl, sym, ap, _∙_}
 use mathlib.Core.Logic.{_↔_, _⊎_, inl, inr, ⊎-elim}
 use mathlib.Core.Bool.{Bool, true, false, cond, not, _&&_}
 use mathlib.Core.List.{List, [], _∷_, map}
@@ -16,7 +16,6 @@ use Rattle.text.specs.Put.{Wanted, refused, text, accepted, answer}
 use Rattle.text.specs.declared.Written.{Written}
 use Rattle.identifiers.specs.Check.{first, unless}
 use Rattle.identifiers.specs.CheckLaws.{first-some, first-none}
-use Rattle.path.specs.declared.Place.{Place}
 use Rattle.path.specs.declared.name.Name.{Name}
 use Rattle.path.specs.declared.name.Name.the-variants.{Client, Connection, Port, Channel, Upgrade as UpgradePath}
 use Rattle.path.specs.Text.{nowhere}
