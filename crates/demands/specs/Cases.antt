@@ -10,7 +10,9 @@ use Rattle.text.specs.Bytes.{bytes}
 use Rattle.text.specs.Number.{numeralOf, digitsAt, digitsFrom, decimal, digits, width, widthBy}
 use Rattle.text.specs.Part.{every, ascii, startsWith, same}
 use Rattle.identifiers.specs.Check.{Rule, client, clientType, connection, port, channel, among, identifierByte, charsOf, within, indexOf, namedOf, checkOf, faultOf}
+use Rattle.text.specs.Put.{answer}
 use Rattle.text.specs.declared.Fault.{Fault}
+use Rattle.text.specs.declared.Written.{Written}
 use Rattle.path.specs.declared.Place.{Place}
 use Rattle.path.specs.declared.ConsensusPlaces.{ConsensusPlaces}
 use Rattle.path.specs.declared.Path.{Path}
@@ -19,31 +21,33 @@ use Rattle.path.specs.declared.Refusal.the-variants.{NotAPath, NoDigits, NotADi
 use Rattle.path.specs.declared.Reading.{Reading}
 use Rattle.path.specs.declared.Reading.the-variants.{Read, Refused}
 use Rattle.path.specs.Text.{cutAt, joinBy, placesFrom, shownOf}
-use Rattle.path.specs.Kinds.{kinds}
+use Rattle.path.specs.Kinds.{Carried, carried, kinds}
 use Rattle.path.specs.declared.Pair.{Pair}
 use Rattle.path.specs.Pair.{pair}
 use Rattle.oldest.specs.Oldest.{stateOf, oldestState, oldestIn}
 use Rattle.text.specs.Order.{cmp}
-use Rattle.path.specs.Read.{nameFault, fits, fitsKind, suits, suitsKind, partFaults, kindFaults, faultsAs, whyNot, readKind, readFirst, readPath, show, render, partsOf, renderPath, keyOf}
+use Rattle.path.specs.Read.{nameFault, fits, fitsKind, suits, suitsKind, partFaults, kindFaults, faultsAs, whyNot, readKind, readFirst, readPath, show, render, partsOf, renderPath, namesFault, renderOf, keyOf}
 use Rattle.keys.specs.declared.Manner.{Manner}
 use Rattle.keys.specs.declared.Manner.the-variants.{Plain, Lenient}
 use Rattle.keys.specs.Calls.{keyFor, keyAnswer}
 
 -- what is asked: to read a text, to check an identifier, for the oldest state of a client in a book with these keys, for the key of a text
--- in a call on a book, or whether one text stands above another
+-- in a call on a book, whether one text stands above another, or to render by kind, identifiers and numbers into that much room
 pub data Question : Type 0 where
   reading : List ℕ → Question
   checking : Rule → List ℕ → Question
   seeking : List ℕ → List (List ℕ) → Question
   keying : Manner → List ℕ → Question
   standing : List ℕ → List ℕ → Question
+  rendering : ℕ → Carried (List ℕ) → ℕ → Question
 
--- what is answered: a reading, a refusal and its place, a pair, or whether it stands so, with the readings of both
+-- what is answered: a reading, a refusal and its place, a pair, whether it stands so, with the readings of both, or a refusal and a length
 pub data Outcome : Type 0 where
   gives : Reading → Outcome
   says : Fault → Outcome
   finds : Pair → Outcome
   stands : Bool → Reading → Reading → Outcome
+  writes : Written → Outcome
 
 abbrev pub answerOf : Question → Outcome
 answerOf (reading t) = gives (readPath t)
@@ -51,6 +55,7 @@ answerOf (checking r s) = says (faultOf r s)
 answerOf (seeking c ks) = finds (oldestIn c (map (λ k. (k, [])) ks))
 answerOf (keying m t) = says (record { refusal = keyAnswer (keyFor m t) .refusal; place = 0 })
 answerOf (standing t u) = stands (startsWith (t ++ bytes "/") u) (readPath t) (readPath u)
+answerOf (rendering k v room) = writes (answer (renderOf k v) room)
 
 pub record Case : Type 0 where
   pub question : Question
@@ -75,6 +80,10 @@ key m t n = record { question = keying m t; outcome = says (record { refusal = n
 -- the path p, of the text t, stands above q, of the text u, and both are exact
 abbrev above : List ℕ → Path → List ℕ → Path → Case
 above t p u q = record { question = standing t u; outcome = stands true (Read p true) (Read q true) }
+
+-- a rendering with the number a: its refusal, and its length
+abbrev shows : ℕ → List ℕ → List ℕ → ℕ → ℕ → ℕ → ℕ → Case
+shows k one two a room n l = record { question = rendering k (carried one two a 0) room; outcome = writes (record { refusal = n; length = l }) }
 
 abbrev at : ℕ → ℕ → Place
 at s n = record { start = s; len = n }
@@ -175,8 +184,20 @@ cases =
     -- what comes between `ports/55` and what lies below it in key order, and the same of a counter
     ∷ read (bytes "ports/55+a") (Read (Ports (record { port = at 6 4 })) true)
     ∷ read (bytes "nextClientSequence./5/upgradedClient") (Read (client5 19) true)
+    -- rendering: 14, first identifier, second identifier (for U: 2, 13), 1, 4
+    ∷ shows 0 (bytes "/") (bytes "/") 5 0 14 0
+    ∷ shows 20 (bytes "/") (bytes "/") 5 0 14 0
+    ∷ shows 11 (bytes "a") (bytes "channel-01") 0 0 6 0
+    ∷ shows 11 (bytes "ab") (bytes "channel-01") 0 0 7 0
+    ∷ shows 18 (bytes "/") (bytes "") 5 64 13 0
+    ∷ shows 19 (bytes "/") (bytes "") 5 64 13 0
+    ∷ shows 18 (200 ∷ 47 ∷ []) (bytes "") 5 64 2 0
+    ∷ shows 18 (replicate 4080 117) (bytes "") 5 0 1 0
+    ∷ shows 18 (replicate 4079 117) (bytes "") 5 4096 0 4096
+    ∷ shows 18 (replicate 4079 117) (bytes "") 5 4095 4 0
+    ∷ shows 10 (bytes "ab") (bytes "/") 5 8 0 8
     ∷ []
 
 pub cases-hold : map (λ c. answerOf (c .question)) cases ≡ map (λ c. c .outcome) cases
-unfolding numeralOf digitsAt digitsFrom decimal digits width widthBy every ascii startsWith same among identifierByte charsOf within indexOf namedOf checkOf faultOf cutAt joinBy placesFrom kinds nameFault fits fitsKind suits suitsKind partFaults kindFaults faultsAs whyNot readKind readFirst readPath show render partsOf renderPath cmp shownOf stateOf oldestState oldestIn keyOf keyFor keyAnswer
+unfolding numeralOf digitsAt digitsFrom decimal digits width widthBy every ascii startsWith same among identifierByte charsOf within indexOf namedOf checkOf faultOf cutAt joinBy placesFrom kinds nameFault fits fitsKind suits suitsKind partFaults kindFaults faultsAs whyNot readKind readFirst readPath show render partsOf renderPath cmp shownOf stateOf oldestState oldestIn keyOf keyFor keyAnswer namesFault renderOf answer
 cases-hold = refl

@@ -12,7 +12,7 @@ use lib.Seq.{take-at}
 use borrow.Author.Tests.{le-leb, lt-leb, ltb-true, ltb-false, leb-true, leb-false}
 use Rattle.text.specs.declared.Written.{Written}
 use Rattle.text.specs.Part.{every, ascii, same}
-use Rattle.text.specs.Put.{put, Wanted, text, refused, done, refusal, answer, left}
+use Rattle.text.specs.Put.{put, Wanted, text, done, refusal, answer, left}
 use Rattle.text.specs.PutLaws.{put-zero}
 use Rattle.identifiers.specs.Check.{checkOf, client, clientType, connection, port, channel, first, charsOf, prefixLengthOf, generalOf}
 use Rattle.identifiers.specs.CheckLaws.{check-general, client-type-general}
@@ -21,21 +21,18 @@ use Rattle.path.specs.declared.PathAnswer.{PathAnswer}
 use Rattle.path.specs.declared.PathAnswer.the-variants.{Found, Nothing}
 use Rattle.path.specs.declared.Refusal.{Refusal}
 use Rattle.path.specs.declared.Refusal.the-variants.{TooLong, NotAscii, NotAPath, NoDigits as WithoutDigits, NotADigit as WithoutDigit, TooLarge as AboveAll}
-use Rattle.path.specs.declared.Reading.{Reading}
 use Rattle.path.specs.declared.Reading.the-variants.{Read, Refused}
-use Rattle.path.specs.Kinds.{Carried, Kind, kinds}
-use Rattle.path.specs.Text.{partOf}
+use Rattle.path.specs.Kinds.{Carried, kinds}
 use Rattle.path.specs.Read.{fits, fitsKind, readFirst, partsOf, textsOf, render, renderPath, renderOf, readPath, keyBy, keyOf, bytesBy, readingBytes, refusalOf, whyNot, placeOf, faultOf, readFault}
 use Rattle.path.specs.View.{kindOf, carriedOf}
 use Rattle.path.specs.Valid.{Valid, only, ReadsAs}
-use Rattle.path.specs.Reads.{Has}
 use Rattle.path.specs.ReadLaws.{kinds-apart, read-has, is-reads}
 use Rattle.path.specs.BackLaws.{valid-rendered, rendered-back, read-again, key-exact}
 use Rattle.path.specs.BackLaws as back
 use Rattle.path.specs.LengthLaws.{rendering-short}
 use Rattle.iteration.specs.Key.{iterationKey}
 use Rattle.iteration.specs.KeyLaws.{key-length}
-use Rattle.demands.specs.Told.{Told, told, toldOf}
+use Rattle.demands.specs.Told.{told, toldOf}
 use Rattle.demands.specs.ToldLaws.{bytes26, told-back, length26}
 use Rattle.text.specs.declared.Fault.{Fault}
 use Rattle.text.specs.Fault.{hasPlace}
@@ -107,12 +104,10 @@ module _ (t : List ℕ) (p : Path) (e : Bool) (h : readPath t ≡ Read p e) wher
   pub key-again : keyOf (renderPath t p) ≡ text (renderPath t p)
   key-again = key-exact t (renderPath t p) key-is .2
 
-pub reads-back : (k : ℕ) (v : Carried (List ℕ)) → Valid k v → (out : List ℕ) (f : Fault) (out₁ : List ℕ)
-    → f ≡ readFault (render (partsOf k) v) (length out) → out₁ ≡ left (readingBytes (render (partsOf k) v)) out → 26 ≤ length out
-    → (f ≡ record { refusal = 0; place = 0 }) × Back (render (partsOf k) v) (told (take 26 out₁)) k (only (partsOf k) v)
-reads-back k v valid out f out₁ x q room =
-    let w : List ℕ = render (partsOf k) v in
-    let r : ReadsAs w k (only (partsOf k) v) = rendered-back k v valid in
+-- a text that reads so is told so
+pub as-back : (w : List ℕ) (k : ℕ) (v : Carried (List ℕ)) → ReadsAs w k v → (out : List ℕ) (f : Fault) (out₁ : List ℕ) → f ≡ readFault w (length out) → out₁ ≡ left (readingBytes w) out → 26 ≤ length out
+    → (f ≡ record { refusal = 0; place = 0 }) × Back w (told (take 26 out₁)) k v
+as-back w k v r out f out₁ x q room =
     let d = reading-tells w (r .path) true (r .read) out f out₁ x q room in
     let c = r .carried in (
       d .0,
@@ -125,6 +120,11 @@ reads-back k v valid out f out₁ x q room =
         b-is = ap (λ (y : Carried (List ℕ)). y .b) c;
       }),
     )
+
+pub reads-back : (k : ℕ) (v : Carried (List ℕ)) → Valid k v → (out : List ℕ) (f : Fault) (out₁ : List ℕ)
+    → f ≡ readFault (render (partsOf k) v) (length out) → out₁ ≡ left (readingBytes (render (partsOf k) v)) out → 26 ≤ length out
+    → (f ≡ record { refusal = 0; place = 0 }) × Back (render (partsOf k) v) (told (take 26 out₁)) k (only (partsOf k) v)
+reads-back k v valid = as-back (render (partsOf k) v) k (only (partsOf k) v) (rendered-back k v valid)
 
 -- ---- when reading is refused
 clash : {A : Type 0} → _≡_ {A = ℕ} 0 1 → A

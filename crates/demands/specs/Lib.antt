@@ -1,10 +1,10 @@
 -- The demands as theorems over the contracts that the sources have. Demand 1 is `Demand1`, by `Shape`; demand 2 is `Demand2`, in the words of
--- `PathCalls`, `Told` and `Written`; what the place of a bad number tells, request L3, is in `Faults`; that the two
+-- `PathCalls`, `Told`, `Written` and `Rendered`; what the place of a bad number tells, request L3, is in `Faults`; that the two
 -- readers answer the same, request L7, is in `Walk`; the keys of request L1 are in `Iteration`,
 -- in the words of `KeyCalls` and `Scanned`; demand 3 is `Demand3`, in the words of `Held`, `Refusals` and `BookCalls`; what plain and lenient calls
--- share, request L6, is in `Manners`; the wide calls of request L8 are in `Wide`, in the words of `WideCalls` and `WideWritten`; the packet keys of
+-- share, request L6, is in `Manners`; the wide calls of request L8 are in `Wide`, in the words of `WideCalls`, `WideWritten` and `WideRendered`; the packet keys of
 -- request L11 are in `Packets`, in the words of `PacketCalls` and `Packeted`; what lies below a path, request L12, is `Below`, in the words of
--- `Above`; filling a table and many lookups, request L9, are in `ManyCall`; `Useless` shows which line each useless book breaks. Files that end in `Laws` may be skipped.
+-- `Above`; filling a table and many lookups, request L9, are in `ManyCall`; `Useless` shows which line each useless build breaks. Files that end in `Laws` may be skipped.
 pub mod Shape
 pub mod ShapeLaws
 pub mod KeepsLaws
@@ -16,8 +16,14 @@ pub mod Told
 pub mod ToldLaws
 pub mod Written
 pub mod Demand2Laws
+pub mod Rendered
+pub mod RenderedLaws
+pub mod ModeLaws
+pub mod KeyedLaws
 pub mod WideShapeLaws
 pub mod Demand1
+pub mod MeetsLaws
+pub mod OneAnswerLaws
 pub mod Demand2
 pub mod WideCalls
 pub mod WideWritten
@@ -25,9 +31,12 @@ pub mod WideAlikeLaws
 pub mod WideLaws
 pub mod WideBackLaws
 pub mod WideCallLaws
+pub mod WideRendered
+pub mod WideRenderedLaws
 pub mod Wide
 pub mod Faults
 pub mod Walk
+pub mod PathExistsLaws
 pub mod KeyCalls
 pub mod Scanned
 pub mod IterationLaws

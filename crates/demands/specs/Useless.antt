@@ -1,20 +1,29 @@
--- What demand 3 refuses: useless books, each with the line that it breaks. And that it is not empty: every list has a run.
+-- What demands 2 and 3 refuse: useless readers, renderers and writers of keys, and useless books, each with the line that it breaks. And that demand 3
+-- is not empty: every list has a run.
 -- Assumes nothing.
 use Prim.Native.Nat.{ℕ, zero, suc, _-_, _*_, _≤_, _<_}
 use mathlib.Core.Path.{_≡_, refl, sym, ap, subst, _∙_}
 use mathlib.Core.Bool.{true}
+use mathlib.Core.Logic.{_⊎_, inl, inr, ⊎-elim}
 use mathlib.Core.List.{List, [], _∷_, _++_}
-use mathlib.Core.Option.{none, some}
+use mathlib.Core.Option.{Option, none, some}
 use native.Mathlib.Omega.{arith}
-use lib.ListN.{length, getD}
+use lib.ListN.{length, getD, take}
 use Rattle.text.specs.Bytes.{bytes}
 use Rattle.text.specs.Put.{text}
+use Rattle.text.specs.declared.Fault.{Fault}
+use Rattle.text.specs.declared.Written.{Written}
 use Rattle.path.specs.declared.Path.{Path}
-use Rattle.path.specs.declared.Path.the-variants.{Ports}
+use Rattle.path.specs.declared.Path.the-variants.{Ports, UpgradeClientState}
 use Rattle.path.specs.declared.Reading.the-variants.{Read, Refused as Unread}
 use Rattle.path.specs.declared.Refusal.the-variants.{NotAPath}
-use Rattle.path.specs.Read.{readPath, keyOf}
-use Rattle.path.specs.BackLaws.{exact-renders}
+use Rattle.path.specs.declared.name.Name.{Name}
+use Rattle.path.specs.Text.{joinBy}
+use Rattle.path.specs.Kinds.{carried, kinds}
+use Rattle.path.specs.Read.{readPath, keyOf, nameFault, partsOf, show, render, renderPath}
+use Rattle.path.specs.View.{kindOf}
+use Rattle.path.specs.ReadLaws.{reads-one}
+use Rattle.path.specs.BackLaws.{exact-renders, read-short, read-ascii, read-reads}
 use Rattle.demands.specs.Cases.{Outcome, gives, cases-hold}
 use Rattle.runs.specs.Runs.{Runs, stop, next, before}
 use Rattle.form.specs.Form.{layout, slots, zeros}
@@ -32,6 +41,9 @@ use Rattle.demands.specs.HeldLaws.{one-held}
 use Rattle.demands.specs.CountLaws.{count-right}
 use Rattle.demands.specs.PermittedLaws.{permitted-book, permitted-exists, row-says}
 use Rattle.demands.specs.MachineLaws.{keeps-book}
+use Rattle.demands.specs.Told.{told}
+use Rattle.demands.specs.Rendered.{Fine}
+use Rattle.demands.specs.Demand2.{Demand2}
 use Rattle.demands.specs.Demand3.{Taken, AcceptedAt, Demand3}
 
 -- every list of calls on every book has a run
@@ -255,3 +267,102 @@ pub miscounts-refused : ((x : Taken Miscounts) → Demand3 Miscounts x) → ⊥
 miscounts-refused h =
     let e = count-right (suc (length (one-record .records))) (Current .width * (one-record .slots - length (one-record .records))) (one-record .records) (one-record .fit) (one-record .exact) (h miscounted .stays-a-book) in
     omega (arith, e)
+
+-- ---- a second text that reads, and two kinds without identifiers
+abbrev upgrade : List ℕ
+upgrade = bytes "/5/upgradedClient"
+
+abbrev upgrade-path : Path
+upgrade-path = UpgradeClientState (record { upgrade = record { start = 0; len = 0 }; height = record { 0 = 5 } })
+
+upgrade-read : readPath upgrade ≡ Read upgrade-path true
+upgrade-read = let q : gives (readPath upgrade) ≡ gives (Read upgrade-path true) = ap (λ (l : List Outcome). getD l 12 (gives (Unread NotAPath))) cases-hold in cc
+
+abbrev Counter : ℕ → Type 0
+Counter k = (k ≡ 1) ⊎ (k ≡ 2)
+
+nameless : (n : Name) → _≡_ {A = Option Name} none (some n) → ⊥
+nameless n e = let z : _≡_ {A = ℕ} 0 1 = cc in omega (arith, z)
+
+counter-fine : (k : ℕ) → Counter k → Fine nameFault k (carried [] [] 0 0)
+unfolding partsOf kinds
+counter-fine k i = ⊎-elim (λ e. rw e ((omega arith, omega arith), λ n q. absurd (nameless n q), λ n q. absurd (nameless n q))) (λ e. rw e ((omega arith, omega arith), λ n q. absurd (nameless n q), λ n q. absurd (nameless n q))) i
+
+counter-short : (k : ℕ) → Counter k → (length (render (partsOf k) (carried [] [] 0 0)) ≤ 4096) × (length (render (partsOf k) (carried [] [] 0 0)) ≤ length (zeros 64))
+unfolding partsOf kinds render show joinBy
+counter-short k i = ⊎-elim (λ e. rw e (omega arith, omega (arith, length-zeros 64))) (λ e. rw e (omega arith, omega (arith, length-zeros 64))) i
+
+counters-differ : render (partsOf 1) (carried [] [] 0 0) ≡ render (partsOf 2) (carried [] [] 0 0) → ⊥
+unfolding partsOf kinds render show joinBy
+counters-differ e = let l = ap length e in omega (arith, l)
+
+-- ---- demand 2: whatever the other functions are, these do not meet it
+module _ (Reads : List ℕ → List ℕ → Fault → List ℕ → Type 0) (Renders : ℕ → List ℕ → List ℕ → ℕ → ℕ → List ℕ → Written → List ℕ → Type 0) (Keys : List ℕ → List ℕ → Written → List ℕ → Type 0) where
+  -- a reader that refuses all texts, with whatever numbers. It breaks `when-read`, which has `done` for `ports/ab`
+  abbrev pub RefusesTexts : Type 0
+  RefusesTexts = (t out : List ℕ) (f : Fault) (out₁ : List ℕ) → Reads t out f out₁ → f .refusal ≡ 0 → ⊥
+
+  port-done : Demand2 Reads Renders Keys → (f : Fault) (out₁ : List ℕ) → Reads port (zeros 26) f out₁ → f .refusal ≡ 0
+  port-done d f out₁ c = d .when-read port (zeros 26) f out₁ c .done .1 ((port-path, true, port-read), omega (arith, length-zeros 26))
+
+  pub refuses-texts-refused : RefusesTexts → Demand2 Reads Renders Keys → ⊥
+  refuses-texts-refused h d = let c = d .read-answers port (zeros 26) in h port (zeros 26) (c .0) (c .1) (c .2) (port-done d (c .0) (c .1) (c .2))
+
+  -- one with a single fixed answer, whatever bytes it leaves. It breaks `when-read` or `clients`
+  abbrev pub AnswersOne : Fault → Type 0
+  AnswersOne one = (t out : List ℕ) (f : Fault) (out₁ : List ℕ) → Reads t out f out₁ → f ≡ one
+
+  pub answers-one-refused : (one : Fault) → AnswersOne one → Demand2 Reads Renders Keys → ⊥
+  answers-one-refused one h d =
+      let c = d .read-answers port (zeros 26) in
+      let e = d .read-answers (bytes "clients") (zeros 26) in
+      let p : one .refusal ≡ 0 = ap (λ (f : Fault). f .refusal) (sym (h port (zeros 26) (c .0) (c .1) (c .2))) ∙ port-done d (c .0) (c .1) (c .2) in
+      let q : one .refusal ≡ 3 = ap (λ (f : Fault). f .refusal) (sym (h (bytes "clients") (zeros 26) (e .0) (e .1) (e .2)) ∙ d .clients (zeros 26) (e .0) (e .1) (e .2)) in
+      omega (arith, p, q)
+
+  -- one that refuses what it has to, and tells the same 26 bytes of every text that it reads. It breaks `told-so`
+  abbrev pub TellsOne : List ℕ → Type 0
+  TellsOne w = (t out : List ℕ) (f : Fault) (out₁ : List ℕ) → Reads t out f out₁ → f .refusal ≡ 0 → take 26 out₁ ≡ w
+
+  kind-told : (w : List ℕ) → TellsOne w → Demand2 Reads Renders Keys → (t : List ℕ) (p : Path) → readPath t ≡ Read p true → told w .kind ≡ kindOf p
+  kind-told w h d t p r =
+      let c = d .read-answers t (zeros 26) in
+      let z : c .0 .refusal ≡ 0 = d .when-read t (zeros 26) (c .0) (c .1) (c .2) .done .1 ((p, true, r), omega (arith, length-zeros 26)) in
+      let s = d .told-so t (zeros 26) (c .0) (c .1) (c .2) z in
+      ap (λ (b : List ℕ). told b .kind) (sym (h t (zeros 26) (c .0) (c .1) (c .2) z)) ∙ s .2 .kind-is ∙ ap kindOf (reads-one (s .1) (read-reads t p true r))
+
+  pub tells-one-refused : (w : List ℕ) → TellsOne w → Demand2 Reads Renders Keys → ⊥
+  tells-one-refused w h d = omega (arith, kind-told w h d port port-path port-read, kind-told w h d upgrade upgrade-path upgrade-read)
+
+  -- a renderer that refuses everything. It breaks `when-rendered`, which has `done` for kind 1
+  abbrev pub RendersNothing : Type 0
+  RendersNothing = (kind : ℕ) (one two : List ℕ) (a b : ℕ) (out : List ℕ) (x : Written) (out₁ : List ℕ) → Renders kind one two a b out x out₁ → x .refusal ≡ 0 → ⊥
+
+  counter-done : (k : ℕ) → Counter k → Demand2 Reads Renders Keys → (x : Written) (out₁ : List ℕ) → Renders k [] [] 0 0 (zeros 64) x out₁ → x .refusal ≡ 0
+  counter-done k i d x out₁ c = d .when-rendered k [] [] 0 0 (zeros 64) x out₁ c .done .1 (counter-fine k i, counter-short k i .0, counter-short k i .1)
+
+  pub renders-nothing-refused : RendersNothing → Demand2 Reads Renders Keys → ⊥
+  renders-nothing-refused h d = let c = d .render-answers 1 [] [] 0 0 (zeros 64) in h 1 [] [] 0 0 (zeros 64) (c .0) (c .1) (c .2) (counter-done 1 (inl refl) d (c .0) (c .1) (c .2))
+
+  -- one that writes the same text for every path. It breaks `rendered-so`
+  abbrev pub RendersOne : List ℕ → Type 0
+  RendersOne w = (kind : ℕ) (one two : List ℕ) (a b : ℕ) (out : List ℕ) (x : Written) (out₁ : List ℕ) → Renders kind one two a b out x out₁ → x .refusal ≡ 0 → take (x .length) out₁ ≡ w
+
+  text-written : (w : List ℕ) → RendersOne w → Demand2 Reads Renders Keys → (k : ℕ) → Counter k → w ≡ render (partsOf k) (carried [] [] 0 0)
+  text-written w h d k i =
+      let c = d .render-answers k [] [] 0 0 (zeros 64) in
+      let z = counter-done k i d (c .0) (c .1) (c .2) in
+      sym (h k [] [] 0 0 (zeros 64) (c .0) (c .1) (c .2) z) ∙ d .rendered-so k [] [] 0 0 (zeros 64) (c .0) (c .1) (c .2) z .shown
+
+  pub renders-one-refused : (w : List ℕ) → RendersOne w → Demand2 Reads Renders Keys → ⊥
+  renders-one-refused w h d = counters-differ (sym (text-written w h d 1 (inl refl)) ∙ text-written w h d 2 (inr refl))
+
+  -- a writer of keys that refuses every text. It breaks `when-keyed`, which has `done` for `ports/ab`
+  abbrev pub KeysNothing : Type 0
+  KeysNothing = (t out : List ℕ) (x : Written) (out₁ : List ℕ) → Keys t out x out₁ → x .refusal ≡ 0 → ⊥
+
+  pub keys-nothing-refused : KeysNothing → Demand2 Reads Renders Keys → ⊥
+  keys-nothing-refused h d =
+      let c = d .key-answers port (zeros 64) in
+      let fits : length (renderPath port port-path) ≤ length (zeros 64) = omega (arith, length-zeros 64, ap length (exact-renders port port-path port-read)) in
+      h port (zeros 64) (c .0) (c .1) (c .2) (d .when-keyed port (zeros 64) (c .0) (c .1) (c .2) .done .1 (read-short port port-path true port-read, read-ascii port port-path true port-read, (port-path, read-reads port port-path true port-read, fits)))

@@ -32,7 +32,7 @@ pub record WalkCall (t out : List ℕ) (f : Fault) (out₁ : List ℕ) : Type 0 
   pub out-out : now (exits .1 .0) ≡ out₁
   pub ensures : wr.Post lifetimes args result exits
 
-walking : {t out : List ℕ} {f : Fault} {out₁ : List ℕ} → WalkCall t out f out₁ → (f ≡ readFault t (length out)) × (out₁ ≡ left (readingBytes t) out)
+pub walking : {t out : List ℕ} {f : Fault} {out₁ : List ℕ} → WalkCall t out f out₁ → (f ≡ readFault t (length out)) × (out₁ ≡ left (readingBytes t) out)
 walking x =
     let p : (x .result ≡ readFault (now (x .args .0)) (length (now (x .args .1 .0)))) × (now (x .exits .1 .0) ≡ left (readingBytes (now (x .args .0))) (now (x .args .1 .0))) = x .ensures in
     rw (x .text-in, x .out-in, x .fault-out, x .out-out) at p

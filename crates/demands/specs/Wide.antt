@@ -1,5 +1,5 @@
 -- Request L8, over the wide calls of the C interface: on ASCII texts each is the plain call of its name; an identifier is accepted by its characters;
--- a wide path that is rendered reads back; exact is that the key is the text; each refusal of a reading exactly when.
+-- a wide path that is rendered reads back; exact is that the key is the text; each refusal of reading, rendering and keys exactly when.
 -- Assumes nothing.
 use Prim.Native.Nat.{ℕ, _≤_}
 use mathlib.Core.Path.{_≡_, refl, sym, ap, _∙_}
@@ -37,10 +37,13 @@ use Rattle.demands.specs.Told.{told}
 use Rattle.demands.specs.Written.{Done, Back}
 use Rattle.demands.specs.WideCalls.{WideReadCall, WideKeyCall, WideRenderCall, wide-reading, wide-keying, wide-rendering}
 use Rattle.demands.specs.WideWritten.{Fine, WideValid, WideReadsAs, fitsKindWide, WhenWideRead}
+use Rattle.demands.specs.WideRendered.{WhenWideRendered, WhenWideKeyed}
 use Rattle.demands.specs.WideAlikeLaws as alikes
 use Rattle.demands.specs.WideLaws as laws
 use Rattle.demands.specs.WideBackLaws as back
 use Rattle.demands.specs.WideCallLaws as more
+use Rattle.demands.specs.ModeLaws as modes
+use Rattle.demands.specs.WideRenderedLaws as refusals
 use Rattle.hostpath.proofs.hp_wide_validate_identifier_chars.Reads as hp-wide-validate-identifier-chars
 use Rattle.hostpath.proofs.hp_wide_validate_identifier_length.Reads as hp-wide-validate-identifier-length
 use Rattle.hostpath.proofs.hp_wide_validate_prefix_length.Reads as hp-wide-validate-prefix-length
@@ -188,3 +191,11 @@ module _ (t : List ℕ) (p : Path) (e : Bool) (h : readIn wide t ≡ Of (Read p 
 -- ---- when a reading gives 1, 21, 3, 17, 18, 19 and 4
 pub when-wide-read : (t out : List ℕ) (f : Fault) (out₁ : List ℕ) → WideReadCall t out f out₁ → WhenWideRead t out f
 when-wide-read t out f out₁ call = laws.when-wide t out f (wide-reading call .0)
+
+-- ---- when rendering gives 14, an identifier's refusal, 13, 1 and 4, and when a key gives 1, 21, 3, 17, 18, 19 and 4
+pub when-wide-rendered : (kind : ℕ) (one two : List ℕ) (a b : ℕ) (out : List ℕ) (x : Written) (out₁ : List ℕ) → WideRenderCall kind one two a b out x out₁
+    → WhenWideRendered kind (carried one two a b) out x
+when-wide-rendered kind one two a b out x out₁ call = modes.when-wide kind (carried one two a b) out x (wide-rendering call .0)
+
+pub when-wide-keyed : (t out : List ℕ) (x : Written) (out₁ : List ℕ) → WideKeyCall t out x out₁ → WhenWideKeyed t out x
+when-wide-keyed t out x out₁ call = refusals.when-wide-keyed t out x (wide-keying call .0)

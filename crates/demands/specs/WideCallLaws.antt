@@ -38,7 +38,7 @@ renders k v valid out x out₁ p q room = wrote (render (partsOf k) v) out room 
 
 -- ---- a text that reads is UTF-8, and its picture reads so
 module _ (t : List ℕ) (p : Path) (e : Bool) (h : readIn wide t ≡ Of (Read p e)) where
-  opened : (length t ≤ 4096) × (utf8 t ≡ true) × (readPath (narrow t) ≡ Read p e)
+  pub opened : (length t ≤ 4096) × (utf8 t ≡ true) × (readPath (narrow t) ≡ Read p e)
   unfolding wide readIn
   opened = go (ltb 4096 (length t)) refl (utf8 t) refl h
     where

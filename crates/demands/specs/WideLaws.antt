@@ -63,7 +63,7 @@ letters-allowed s = every-narrow identifierByte s ∙ each-same (λ c. identifie
 
 -- ---- the picture is read exactly where some kind fits the text itself
 module _ (t : List ℕ) (u : utf8 t ≡ true) where
-  read-kind : ((p : Path) × (e : Bool) × (readPath (narrow t) ≡ Read p e)) → WideKind t
+  pub read-kind : ((p : Path) × (e : Bool) × (readPath (narrow t) ≡ Read p e)) → WideKind t
   read-kind x = let r = read-reads (narrow t) (x .0) (x .1) (x .2) in (r .kind, r .listed, sym (fits-itself t u (r .listed)) ∙ r .fitting)
 
   kind-read : length t ≤ 4096 → WideKind t → (p : Path) × (e : Bool) × (readPath (narrow t) ≡ Read p e)

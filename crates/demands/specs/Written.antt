@@ -3,9 +3,10 @@
 use Prim.Native.Nat.{ℕ, _≤_, _<_}
 use mathlib.Core.Path.{_≡_}
 use mathlib.Core.Logic.{_↔_}
-use mathlib.Core.Bool.{Bool, true, false}
+use mathlib.Core.Bool.{Bool, true, false, cond}
 use mathlib.Core.List.{List}
-use lib.ListN.{length, take}
+use lib.Dec.{eqb}
+use lib.ListN.{length, take, drop}
 use Rattle.text.specs.declared.Fault.{Fault}
 use Rattle.text.specs.declared.Written.{Written}
 use Rattle.text.specs.Fault.{hasPlace}
@@ -18,8 +19,9 @@ use Rattle.path.specs.declared.Refusal.{Refusal}
 use Rattle.path.specs.Kinds.{Part, Carried, Kind, kinds}
 use Rattle.path.specs.Text.{partOf}
 use Rattle.path.specs.Number.{NumberWrong}
-use Rattle.path.specs.Read.{fits, fitsKind, readPath, refusalOf, faultOf}
+use Rattle.path.specs.Read.{fits, fitsKind, readPath, renderPath, refusalOf, faultOf}
 use Rattle.path.specs.Reads.{Has}
+use Rattle.path.specs.View.{kindOf, carriedOf}
 use Rattle.demands.specs.Told.{Told}
 
 -- a call that wrote w: it answers 0 and its length, and w stands at the start of the buffer
@@ -35,6 +37,26 @@ pub record Back (w : List ℕ) (said : Told) (kind : ℕ) (v : Carried (List ℕ
   pub second-is : partOf w (said .second) ≡ v .second
   pub a-is : said .a ≡ v .a
   pub b-is : said .b ≡ v .b
+
+-- the 26 bytes say of the text t what its typed path p is: its kind, the places of its identifiers, its numbers. The mark is 1 where the rendering is
+-- the text, and 0 where it is not
+pub record Says (t : List ℕ) (p : Path) (said : Told) : Type 0 where
+  pub kind-is : said .kind ≡ kindOf p
+  pub exact : (said .mark ≡ 1) ↔ (renderPath t p ≡ t)
+  pub loose : (said .mark ≡ 0) ↔ (renderPath t p ≡ t → ⊥)
+  pub first-is : said .first ≡ carriedOf p .first
+  pub second-is : said .second ≡ carriedOf p .second
+  pub a-is : said .a ≡ carriedOf p .a
+  pub b-is : said .b ≡ carriedOf p .b
+
+-- a call with this refusal and this length leaves the rest of its buffer: bytes behind what it wrote stay, and a refusal writes none
+pub record Leaves (refusal n : ℕ) (out out₁ : List ℕ) : Type 0 where
+  pub later : drop n out₁ ≡ drop n out
+  pub nothing : (refusal ≡ 0 → ⊥) → (n ≡ 0) × (out₁ ≡ out)
+
+-- a reading has 26 bytes, and a refusal none
+abbrev pub readLength : Fault → ℕ
+readLength f = cond (eqb (f .refusal) 0) 26 0
 
 -- no kind of the table fits
 abbrev pub NoKind : List ℕ → Type 0
