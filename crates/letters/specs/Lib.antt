@@ -10,3 +10,5 @@ pub mod TableLaws
 pub mod Text
 pub mod TextLaws
 pub mod TrimLaws
+pub mod Trimmed
+pub mod WhiteLaws

@@ -16,11 +16,13 @@ use Rattle.identifiers.specs.Check.{identifierByte, charsOf}
 use Rattle.identifiers.specs.CheckLaws.{bytes-chars, chars-bytes}
 use Rattle.identifiers.specs.Owned.{blank, trimStart, keep, trimEnd, trim}
 use Rattle.letters.specs.declared.Character.{Character}
-use Rattle.letters.specs.Character.{characterOf, sizeOf, whole, utf8}
-use Rattle.letters.specs.CharacterLaws.{rest, walk, size-within, utf8-step, ascii-utf8, Turn, turn, characters-next}
+use Rattle.letters.specs.Character.{characterOf, sizeOf, whole, characters, utf8}
+use Rattle.letters.specs.CharacterLaws.{rest, walk, size-within, characters-none, characters-step, utf8-step, ascii-utf8, Turn, turn, characters-next}
 use Rattle.letters.specs.Narrow.{seenAs, pictures, narrow}
 use Rattle.letters.specs.NarrowLaws.{narrow-none, ascii-narrow, length-narrow, every-run}
 use Rattle.letters.specs.Text.{wideChars, leading, wideTrim}
+use Rattle.letters.specs.Trimmed.{white, trimFront}
+use Rattle.letters.specs.WhiteLaws.{white-seen}
 
 -- ---- the characters of an identifier
 module _ (t : List ℕ) where
@@ -149,15 +151,29 @@ pub end-end : (end i : ℕ) (s : List ℕ) → length s ≤ i → endAt end i (l
 unfolding trimEnd
 end-end end i s h = rw (narrow-end s i h)
 
+-- ---- the same of the characters
+front-none : characters [] ≡ trimFront (characters [])
+unfolding trimFront
+front-none = rw characters-none
+
+front-white : (t : List ℕ) → 0 < length t → white (characterOf t) ≡ true → trimFront (characters (rest t)) ≡ trimFront (characters t)
+unfolding trimFront
+front-white t l h = rw (characters-step t l, h)
+
+front-other : (t : List ℕ) → 0 < length t → white (characterOf t) ≡ false → characters t ≡ trimFront (characters t)
+unfolding trimFront
+front-other t l h = rw (characters-step t l, h)
+
 -- ---- both: what is left after the white space at the start has the picture that is left of the text's
 pub record Led (t : List ℕ) : Type 0 where
   pub k : ℕ
   pub inside : k ≤ length t
   pub left : trimStart (narrow t) ≡ narrow (drop k t)
   pub well : utf8 t ≡ true → utf8 (drop k t) ≡ true
+  pub chars : characters (drop k t) ≡ trimFront (characters t)
 
 lead : (t : List ℕ) → Led t
-lead = walk Led (record { k = 0; inside = omega arith; left = white-none [] 0 (omega arith); well = λ h. h }) more
+lead = walk Led (record { k = 0; inside = omega arith; left = white-none [] 0 (omega arith); well = λ h. h; chars = front-none }) more
   where
     more : (t : List ℕ) → 0 < length t → Led (rest t) → Led t
     more t l x = go (blank (seenAs (characterOf t))) refl
@@ -173,11 +189,15 @@ lead = walk Led (record { k = 0; inside = omega arith; left = white-none [] 0 (o
               inside = omega (arith, size-within t l);
               left = white-next (turn t 0 l refl refl) e ∙ rw zero-add (x .left ∙ ap narrow (drop-drop (x .k) n t));
               well = λ u. rw (drop-drop (x .k) n t) at (x .well (and-right (whole (characterOf t)) _ (sym (utf8-step t l) ∙ u)));
+              chars = rw (drop-drop (x .k) n t) at (x .chars ∙ front-white t l (sym (white-seen (characterOf t)) ∙ e));
             }
-        go false e = record { k = 0; inside = omega arith; left = white-stop (turn t 0 l refl refl) e; well = λ h. h }
+        go false e = record { k = 0; inside = omega arith; left = white-stop (turn t 0 l refl refl) e; well = λ h. h; chars = front-other t l (sym (white-seen (characterOf t)) ∙ e) }
 
 pub leading-narrow : (t : List ℕ) → (leading t ≤ length t) × (trimStart (narrow t) ≡ narrow (drop (leading t) t)) × (utf8 t ≡ true → utf8 (drop (leading t) t) ≡ true)
 leading-narrow t = let x = lead t in rw (← leading-at t (x .k) (x .inside) (x .left)) (x .inside, x .left, x .well)
+
+pub leading-chars : (t : List ℕ) → characters (drop (leading t) t) ≡ trimFront (characters t)
+leading-chars t = let x = lead t in rw (← leading-at t (x .k) (x .inside) (x .left)) (x .chars)
 
 end-length : (p : List ℕ) → length (trimEnd p) ≤ length p
 unfolding trimEnd

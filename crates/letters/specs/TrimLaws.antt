@@ -12,11 +12,13 @@ use Rattle.identifiers.specs.Owned.{blank, trimEnd, trim}
 use Rattle.letters.specs.declared.Character.{Character}
 use Rattle.letters.specs.declared.Character.the-variants.{Scalar, Broken}
 use Rattle.letters.specs.Character.{goesOn, characterOf, sizeOf, whole, characters, each, utf8}
-use Rattle.letters.specs.CharacterLaws.{Goes, stops, ends, goes, Begins, alone, nothing, longer, begins, size-within, characters-none, characters-step, rest, walk, utf8-none, utf8-step, utf8-append}
+use Rattle.letters.specs.CharacterLaws.{Goes, stops, ends, goes, Begins, alone, nothing, longer, begins, size-within, characters-none, characters-step, rest, walk, utf8-none, utf8-step, utf8-append, characters-append}
 use Rattle.letters.specs.Narrow.{seenAs, picture, pictures, narrow}
 use Rattle.letters.specs.NarrowLaws.{narrow-none, narrow-step, narrow-append, length-narrow}
 use Rattle.letters.specs.Text.{leading, wideTrim}
-use Rattle.letters.specs.TextLaws.{end-some, end-white, end-other, leading-narrow}
+use Rattle.letters.specs.TextLaws.{end-some, end-white, end-other, leading-narrow, leading-chars}
+use Rattle.letters.specs.Trimmed.{white, keepFirst, trimFront, trimBack}
+use Rattle.letters.specs.WhiteLaws.{white-seen}
 
 -- ---- a character by itself
 -- only its own bytes are looked at
@@ -79,16 +81,38 @@ record Ended (t : List ℕ) : Type 0 where
   inside : k ≤ length t
   left : trimEnd (narrow t) ≡ narrow (take k t)
   well : utf8 (take k t) ≡ true
+  chars : characters (take k t) ≡ trimBack (characters t)
 
-ended-none : (t : List ℕ) → trimEnd (narrow t) ≡ [] → Ended t
-ended-none t e = record { k = 0; inside = omega arith; left = e ∙ sym narrow-none; well = utf8-none }
+ended-none : (t : List ℕ) → trimEnd (narrow t) ≡ [] → trimBack (characters t) ≡ [] → Ended t
+ended-none t e d = record { k = 0; inside = omega arith; left = e ∙ sym narrow-none; well = utf8-none; chars = characters-none ∙ sym d }
 
 end-nothing : trimEnd (narrow []) ≡ []
 unfolding trimEnd
 end-nothing = rw narrow-none
 
+back-nothing : trimBack (characters []) ≡ []
+unfolding trimBack
+back-nothing = rw characters-none
+
+-- a text without a picture has no characters, and none without characters has one
+no-picture : (s : List ℕ) → narrow s ≡ [] → characters s ≡ []
+no-picture [] e = characters-none
+no-picture (b ∷ s) e = absurd (omega (arith, length-narrow (b ∷ s), ap length e))
+
+back-white : (t : List ℕ) → 0 < length t → white (characterOf t) ≡ true → trimBack (characters (rest t)) ≡ [] → trimBack (characters t) ≡ []
+unfolding trimBack
+back-white t l h e = rw (characters-step t l, e, h)
+
+back-kept : (t : List ℕ) → 0 < length t → (s : List ℕ) → characters s ≡ trimBack (characters (rest t)) → (narrow s ≡ [] → white (characterOf t) ≡ false) → characterOf t ∷ characters s ≡ trimBack (characters t)
+unfolding trimBack narrow pictures
+back-kept t l s e w = rw (characters-step t l, ← e) (go (characters s) refl)
+  where
+    go : (cs : List Character) → characters s ≡ cs → characterOf t ∷ cs ≡ keepFirst (characterOf t) cs
+    go [] d = rw (w (rw d))
+    go (c ∷ cs) d = refl
+
 ended : (t : List ℕ) → utf8 t ≡ true → Ended t
-ended = walk (λ t. utf8 t ≡ true → Ended t) (λ h. ended-none [] end-nothing) more
+ended = walk (λ t. utf8 t ≡ true → Ended t) (λ h. ended-none [] end-nothing back-nothing) more
   where
     more : (t : List ℕ) → 0 < length t → (utf8 (rest t) ≡ true → Ended (rest t)) → utf8 t ≡ true → Ended t
     more t l ih h = go (trimEnd (narrow (rest t))) refl (blank m) refl
@@ -106,20 +130,25 @@ ended = walk (λ t. utf8 t ≡ true → Ended t) (λ h. ended-none [] end-nothin
         x = ih (and-right (whole (characterOf t)) _ both)
 
         -- the first character stays
-        kept : trimEnd (narrow t) ≡ replicate n m ++ trimEnd (narrow (rest t)) → Ended t
-        kept e =
+        kept : trimEnd (narrow t) ≡ replicate n m ++ trimEnd (narrow (rest t)) → (narrow (take (x .k) (rest t)) ≡ [] → white (characterOf t) ≡ false) → Ended t
+        kept e d =
             let w = and-left (whole (characterOf t)) _ both in
             record {
               k = n + x .k;
               inside = omega (arith, size-within t l, x .inside, length-drop n t);
               left = e ∙ rw (take-add n (x .k) t, narrow-append (take n t) (take (x .k) (rest t)) (own-utf8 t l w), own-narrow t l w, x .left);
               well = rw (take-add n (x .k) t, utf8-append (take n t) (take (x .k) (rest t)) (own-utf8 t l w)) (x .well);
+              chars = rw (take-add n (x .k) t, characters-append (take n t) (take (x .k) (rest t)) (own-utf8 t l w), own-characters t l w) (back-kept t l (take (x .k) (rest t)) (x .chars) d);
             }
 
         go : (q : List ℕ) → trimEnd (narrow (rest t)) ≡ q → (p : Bool) → blank m ≡ p → Ended t
-        go [] e true f = ended-none t (ap trimEnd (narrow-step t l) ∙ end-white n m (narrow (rest t)) e f)
-        go [] e false f = kept (ap trimEnd (narrow-step t l) ∙ end-other n m (narrow (rest t)) e f ∙ rw e (sym (append-nil (replicate n m))))
-        go (y ∷ q) e p f = kept (ap trimEnd (narrow-step t l) ∙ end-some n m (narrow (rest t)) y q e ∙ rw e)
+        go [] e true f =
+            ended-none t (ap trimEnd (narrow-step t l) ∙ end-white n m (narrow (rest t)) e f)
+            (back-white t l (sym (white-seen (characterOf t)) ∙ f) (sym (x .chars) ∙ no-picture (take (x .k) (rest t)) (sym (x .left) ∙ e)))
+        go [] e false f = kept (ap trimEnd (narrow-step t l) ∙ end-other n m (narrow (rest t)) e f ∙ rw e (sym (append-nil (replicate n m)))) (λ d. sym (white-seen (characterOf t)) ∙ f)
+        go (y ∷ q) e p f =
+            kept (ap trimEnd (narrow-step t l) ∙ end-some n m (narrow (rest t)) y q e ∙ rw e)
+            (λ d. let c : y ∷ q ≡ [] = sym e ∙ x .left ∙ d in let z : _≡_ {A = ℕ} 0 1 = cc in absurd (omega (arith, z)))
 
 -- ---- at both ends
 module _ (t : List ℕ) (h : utf8 t ≡ true) where
@@ -133,6 +162,15 @@ module _ (t : List ℕ) (h : utf8 t ≡ true) where
 
   pub trim-narrow : narrow (wideTrim t) ≡ trim (narrow t)
   trim-narrow = let x = trim-at in ap narrow (x .2) ∙ sym (x .3)
+
+  -- what is trimmed, in characters
+  pub trim-chars : characters (wideTrim t) ≡ trimBack (trimFront (characters t))
+  unfolding wideTrim trim
+  trim-chars =
+      let x = leading-narrow t in
+      let y = ended (drop (leading t) t) (x .2 h) in
+      let size : length (trimEnd (narrow (drop (leading t) t))) ≡ y .k = ap length (y .left) ∙ length-narrow (take (y .k) (drop (leading t) t)) ∙ length-take-le (y .k) (drop (leading t) t) (y .inside) in
+      rw (x .1, size) (y .chars ∙ ap trimBack (leading-chars t))
 
   pub trim-utf8 : utf8 (wideTrim t) ≡ true
   trim-utf8 = let x = trim-at in ap utf8 (x .2) ∙ x .4
