@@ -1,7 +1,8 @@
 -- The demands as theorems over the contracts that the sources have. Demand 1 is `Demand1`, by `Shape`; demand 2 is `Demand2`, in the words of
 -- `PathCalls`, `Told` and `Written`; what the place of a bad number tells, request L3, is in `Faults`; that the two
 -- readers answer the same, request L7, is in `Walk`; the keys of request L1 are in `Iteration`,
--- in the words of `KeyCalls` and `Scanned`; demand 3 is `Demand3`, in the words of `Held`, `Refusals` and `BookCalls`; what plain and lenient calls
+-- in the words of `KeyCalls` and `Scanned`; demand 3 is `Demand3`, in the words of `Held`, `Refusals` and `BookCalls`; what each
+-- call of a book does on all bytes is in `EachCall`, `NewCall`, `OldestCall` and `ConvertCall`; what plain and lenient calls
 -- share, request L6, is in `Manners`; the wide calls of request L8 are in `Wide`, in the words of `WideCalls` and `WideWritten`; the packet keys of
 -- request L11 are in `Packets`, in the words of `PacketCalls` and `Packeted`; what lies below a path, request L12, is `Below`, in the words of
 -- `Above`; filling a table and many lookups, request L9, are in `ManyCall`; `Useless` shows which line each useless book breaks. Files that end in `Laws` may be skipped.
@@ -48,6 +49,8 @@ pub mod MachineLaws
 pub mod Demand3
 pub mod Demand3Laws
 pub mod Useless
+pub mod EachCall
+pub mod EachCallLaws
 pub mod BookCalls
 pub mod ExistsLaws
 pub mod Manners
@@ -55,6 +58,8 @@ pub mod PacketCalls
 pub mod Packeted
 pub mod PacketLaws
 pub mod Packets
+pub mod NewCall
+pub mod NewCallLaws
 pub mod OldestCall
 pub mod OldestCallLaws
 pub mod ConvertCall
