@@ -18,6 +18,7 @@ pub mod ToldLaws
 pub mod Written
 pub mod Demand2Laws
 pub mod WideShapeLaws
+pub mod FunctionShapeLaws
 pub mod Demand1
 pub mod Demand2
 pub mod WideCalls
