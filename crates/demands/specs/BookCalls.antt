@@ -1,5 +1,5 @@
--- Demand 3 of the generated contracts of `hp_book_write`, `hp_book_remove` and `hp_book_lookup` and of the lenient three: what they may do,
--- as their sources have it, is what `Permitted` allows.
+-- Demand 3 of the generated contracts of `hp_book_write`, `hp_book_remove` and `hp_book_lookup` and of the lenient three, and what each of them
+-- does on all bytes: what they may do, as their sources have it, is what `Permitted` has.
 -- Assumes nothing.
 use mathlib.Core.Path.{_≡_, subst}
 use mathlib.Core.List.{List, []}
@@ -20,6 +20,8 @@ use Rattle.book.specs.Outcome.{Found, Wrote, Removed, Looked}
 use Rattle.demands.specs.Permitted.{Permitted}
 use Rattle.demands.specs.Demand3.{Taken, Demand3}
 use Rattle.demands.specs.Demand3Laws as laws
+use Rattle.demands.specs.EachCall.{EachCall}
+use Rattle.demands.specs.EachCallLaws as each
 use Rattle.hostpath.proofs.hp_book_write as w
 use Rattle.hostpath.proofs.hp_book_write.Kinds as wk
 use Rattle.hostpath.proofs.hp_book_write.Reads as wr
@@ -132,6 +134,10 @@ permits-to m (to-look room) b t a b₁ x =
     let y = x .0 in
     let f : Looked Current m b t (y .out) (y .written) (y .out₁) = looked m b t (y .out) (y .written) (y .out₁) (y .looks) in
     (record { out = y .out; out₁ = y .out₁; size = y .size; written = y .written; found = subst (λ (n : ℕ). Found Current b (meaning (look m t n)) (y .out) (y .written) (y .out₁)) (y .size) f; number = y .number; gives = y .gives }, x .1)
+
+-- what each of the six functions does on all bytes
+pub each-call : EachCall Does
+each-call = each.each-call Does (λ b c a b₁ y. permits-to (c .manner) (c .asked) b (c .text) a b₁ y)
 
 -- THE THEOREM: demand 3 of the six functions, in one list
 pub demand3 : (x : Taken Does) → Demand3 Does x

@@ -65,7 +65,7 @@ module _ (P : ℕ → Type 0) (zero : P 0) (c : Call) (own : (n : ℕ) → Decli
   outcome-of nine (this-book x e f) = subst (λ (y : Answer). P (seen y .number)) (sym e) (act-of (means c) (fullIn x) (x .records))
 
 -- the number of a text that is not read
-unread-of : (P : ℕ → Type 0) → P 1 → P 2 → P 3 → P 17 → P 18 → P 19 → (w : Refusal) → P (refusalOf w)
+pub unread-of : (P : ℕ → Type 0) → P 1 → P 2 → P 3 → P 17 → P 18 → P 19 → (w : Refusal) → P (refusalOf w)
 unread-of P a b c d e f TooLong = a
 unread-of P a b c d e f NotAscii = b
 unread-of P a b c d e f NotAPath = c
@@ -85,6 +85,11 @@ also Plain ns n h = go (eqb n 20)
     go : (b : Bool) → (b || oneOf ns n) ≡ true
     go true = refl
     go false = h
+
+-- what a call of either manner may give, a plain one may
+pub in-plain : (m : Manner) (ns : List ℕ) (n : ℕ) → Listed (inManner m ns) n → Listed (inManner Plain ns) n
+in-plain Plain ns n h = h
+in-plain Lenient ns n h = also Plain ns n h
 
 loose-too : (m : Manner) (t : List ℕ) (ns : List ℕ) → (Spelled m t → ⊥) → Listed (inManner m ns) 20
 loose-too Plain t ns s = refl
@@ -208,13 +213,15 @@ module _ {L : Type 0} {A R S : L → Type 0} {Pre : (κs : L) → A κs → Type
         go (other-size x n e f) = rw e
         go (converted x n e f) = rw e
 
-  pub found-demand : (m : Manner) (written : (κs : L) → R κs → Written) (book text before : (κs : L) → A κs → List ℕ) (after : (κs : L) → S κs → List ℕ)
-      → ((κs : L) (a : A κs) (r : R κs) (s : S κs) → Post κs a r s → Looked Current m (book κs a) (text κs a) (before κs a) (written κs r) (after κs s))
-      → Demand1 Pre Post (lookNumbers m) (λ κs r. written κs r .refusal) (λ κs r. written κs r .length ∷ []) before after
-  found-demand m written book text before after says =
+  pub found-demand : (listed : List ℕ) (manner : (κs : L) → A κs → Manner)
+      → ((κs : L) (a : A κs) (n : ℕ) → Listed (lookNumbers (manner κs a)) n → Listed listed n)
+      → (written : (κs : L) → R κs → Written) (book text before : (κs : L) → A κs → List ℕ) (after : (κs : L) → S κs → List ℕ)
+      → ((κs : L) (a : A κs) (r : R κs) (s : S κs) → Post κs a r s → Looked Current (manner κs a) (book κs a) (text κs a) (before κs a) (written κs r) (after κs s))
+      → Demand1 Pre Post listed (λ κs r. written κs r .refusal) (λ κs r. written κs r .length ∷ []) before after
+  found-demand listed manner in-list written book text before after says =
       record {
         accepts = accepts;
-        numbered = λ κs a r s p. let c = says κs a r s p in subst (Listed (lookNumbers m)) (sym (ap (λ (w : Written). w .refusal) (c .written) ∙ written-number (c .answer))) (look-listed m (text κs a) (length (before κs a)) (c .outcome));
+        numbered = λ κs a r s p. let c = says κs a r s p in subst (Listed listed) (sym (ap (λ (w : Written). w .refusal) (c .written) ∙ written-number (c .answer))) (in-list κs a _ (look-listed (manner κs a) (text κs a) (length (before κs a)) (c .outcome)));
         nothing-else = λ κs a r s p h. let c = says κs a r s p in (ap (λ (w : Written). w .length) (c .written) ∙ written-zero (c .answer) (λ e. h (ap (λ (w : Written). w .refusal) (c .written) ∙ e)), tt);
         keeps = λ κs a r s p. found-keeps (says κs a r s p);
       }

@@ -1,20 +1,31 @@
--- Demand 1, of each exported call: it accepts all bytes and numbers, comes back with an answer or a refusal whose number document 01 lists for
+-- Demand 1, of each exported call, and of each public function below them that asks nothing of its caller and is lent a buffer to write or answers
+-- a refusal number: it accepts all bytes and numbers, comes back with an answer or a refusal whose number document 01 lists for
 -- the call, with length, numbers and value 0, and a refusal changes no byte of a lent buffer. What is said of each is `Demand1` in `Shape`; a
 -- line here has the numbers listed, where the refusal and the other numbers stand in the answer, and where the buffer stands. The place that
 -- stands beside 17, 18 and 19 is told in `Faults`.
 -- Assumes nothing.
 use Prim.Native.Nat.{ℕ}
 use mathlib.Core.Path.{_≡_, refl, ap, subst, sym}
-use mathlib.Core.List.{List, [], _∷_}
+use mathlib.Core.List.{List, [], _∷_, _++_}
+use native.Mathlib.Omega.{arith}
 use denote.Ref.{now}
 use Rattle.text.specs.Bytes.{bytes}
+use Rattle.text.specs.Number.{decimal}
 use Rattle.text.specs.Put.{text}
 use Rattle.text.specs.declared.Fault.{Fault}
 use Rattle.identifiers.specs.Check.{namedIndexFault, faultOf}
-use Rattle.identifiers.specs.Owned.{newClient, newChannel}
+use Rattle.identifiers.specs.Check as check
+use Rattle.identifiers.specs.Owned.{asWritten, newClient, newChannel, madeClient, madeConnection, madeChannel, madePort}
+use Rattle.identifiers.specs.declared.client_id.MadeClientId.{MadeClientId}
+use Rattle.identifiers.specs.declared.connection_id.MadeConnectionId.{MadeConnectionId}
+use Rattle.identifiers.specs.declared.channel_id.MadeChannelId.{MadeChannelId}
+use Rattle.identifiers.specs.declared.port_id.MadePortId.{MadePortId}
 use Rattle.path.specs.Kinds.{word, carried}
-use Rattle.path.specs.Read.{renderOf, keyOf, readingBytes, readFault}
+use Rattle.path.specs.Read.{renderOf, keyOf, bytesBy, readingBytes, readFault}
 use Rattle.path.specs.Parents.{textOf, consensusParent, consensusLeaf, packetsPath}
+use Rattle.writers.specs.Texts.{parentText}
+use Rattle.reader.specs.Encode.{viewBytes, answerBy}
+use Rattle.key.specs.Key.{shownBy}
 use Rattle.wide.specs.Mode.{wide}
 use Rattle.wide.specs.Check.{namedIndexFaultIn, faultIn, newClientIn}
 use Rattle.wide.specs.Read.{readFaultIn, readingBytesIn, keyIn as wideKeyIn}
@@ -22,14 +33,15 @@ use Rattle.wide.specs.Render.{renderIn, textIn}
 use Rattle.keys.specs.declared.Manner.the-variants.{Plain, Lenient}
 use Rattle.keys.specs.Calls.{write, remove}
 use Rattle.iteration.specs.Block.{blockOf, firstAbove, lastBelow, scanned}
-use Rattle.iteration.specs.Key.{iterationKey, revision, keyIn, answered}
-use Rattle.packet.specs.Key.{packetWanted}
+use Rattle.iteration.specs.Key.{iterationKey, revision, keyIn, answered, pairOf}
+use Rattle.packet.specs.Key.{packetWanted, packetOf}
 use Rattle.demands.specs.Shape.{Listed, Demand1}
-use Rattle.demands.specs.ShapeLaws.{writes, writes-number, checks, readings, key-wants, reading-wants, renderings, render-wants, clients, client-wants, channel-wants, leaf-wants, update-wants, parent-wants, ends, packets-wants, plain-of, indexed-of, chars-number, length-number, prefix-number, named-index-number}
+use Rattle.demands.specs.ShapeLaws.{writes, writes-number, checks, readings, key-wants, reading-wants, renderings, render-wants, clients, client-wants, channel-wants, leaf-wants, update-wants, parent-wants, ends, packets-wants, plain-of, indexed-of, name-of, named-number, chars-number, length-number, prefix-number, named-index-number, bytes-wants, answer-listed}
+use Rattle.demands.specs.FunctionShapeLaws.{within-number, wide-chars-number, reading-number, shown-wants, written-listed, owned}
 use Rattle.demands.specs.WideShapeLaws as wides
 use Rattle.demands.specs.IterationLaws.{pairs, key-refuses, scan-refuses}
 use Rattle.demands.specs.PacketLaws.{packetReads, packetWrites, packet-wants, packets}
-use Rattle.demands.specs.BookNumberLaws.{writeNumbers, removeNumbers, lookNumbers, write-listed, remove-listed, provable-demand, made-demand, changed-demand, found-demand, converted-demand, oldest-demand}
+use Rattle.demands.specs.BookNumberLaws.{unread-of, in-plain, writeNumbers, removeNumbers, lookNumbers, write-listed, remove-listed, provable-demand, made-demand, changed-demand, found-demand, converted-demand, oldest-demand}
 use Rattle.demands.specs.TableNumberLaws.{filled-demand, looked-many-demand}
 use Rattle.hostpath.proofs.hp_client_id_new.Reads as hp-client-id-new
 use Rattle.hostpath.proofs.hp_channel_id_new.Reads as hp-channel-id-new
@@ -126,6 +138,54 @@ use Rattle.wide.proofs.rendering.commitments_path.Reads as wide-commitments-pat
 use Rattle.wide.proofs.rendering.acks_path.Reads as wide-acks-path
 use Rattle.wide.proofs.rendering.receipts_path.Reads as wide-receipts-path
 use Rattle.text.proofs.put.give.Reads as give
+use Rattle.identifiers.proofs.validate.validate_identifier_chars.Reads as validate-identifier-chars
+use Rattle.identifiers.proofs.validate.length_within.Reads as length-within
+use Rattle.identifiers.proofs.validate.check_named.Reads as check-named
+use Rattle.identifiers.proofs.validate.validate_identifier_length.Reads as validate-identifier-length
+use Rattle.identifiers.proofs.validate.validate_prefix_length.Reads as validate-prefix-length
+use Rattle.identifiers.proofs.validate.validate_named_u64_index.Reads as validate-named-u64-index
+use Rattle.identifiers.proofs.validate.validate_client_type.Reads as validate-client-type
+use Rattle.identifiers.proofs.validate.validate_client_identifier.Reads as validate-client-identifier
+use Rattle.identifiers.proofs.validate.validate_connection_identifier.Reads as validate-connection-identifier
+use Rattle.identifiers.proofs.validate.validate_port_identifier.Reads as validate-port-identifier
+use Rattle.identifiers.proofs.validate.validate_channel_identifier.Reads as validate-channel-identifier
+use Rattle.identifiers.proofs.write_named.Reads as write-named
+use Rattle.identifiers.proofs.client_id.ClientId.from_str.Reads as client-id-from-str
+use Rattle.identifiers.proofs.client_id.ClientId.new.Reads as client-id-new
+use Rattle.identifiers.proofs.connection_id.ConnectionId.from_str.Reads as connection-id-from-str
+use Rattle.identifiers.proofs.channel_id.ChannelId.from_str.Reads as channel-id-from-str
+use Rattle.identifiers.proofs.port_id.PortId.from_str.Reads as port-id-from-str
+use Rattle.letters.proofs.check.wide_chars.Reads as wide-chars
+use Rattle.wide.proofs.validate.validate_identifier_chars.Reads as wide-validate-identifier-chars
+use Rattle.wide.proofs.validate.validate_identifier_length.Reads as wide-validate-identifier-length
+use Rattle.wide.proofs.validate.validate_prefix_length.Reads as wide-validate-prefix-length
+use Rattle.wide.proofs.validate.validate_named_u64_index.Reads as wide-validate-named-u64-index
+use Rattle.wide.proofs.validate.validate_client_type.Reads as wide-validate-client-type
+use Rattle.wide.proofs.validate.validate_client_identifier.Reads as wide-validate-client-identifier
+use Rattle.wide.proofs.validate.validate_connection_identifier.Reads as wide-validate-connection-identifier
+use Rattle.wide.proofs.validate.validate_port_identifier.Reads as wide-validate-port-identifier
+use Rattle.wide.proofs.validate.validate_channel_identifier.Reads as wide-validate-channel-identifier
+use Rattle.wide.proofs.rendering.name_fault.Reads as wide-name-fault
+use Rattle.path.proofs.name.name_fault.Reads as name-fault
+use Rattle.path.proofs.fault_of.Reads as fault-of
+use Rattle.path.proofs.refusal_of.Reads as refusal-of
+use Rattle.path.proofs.provable.kind_is_provable.Reads as kind-is-provable
+use Rattle.reader.proofs.write_answer.Reads as write-answer
+use Rattle.reader.proofs.encode.write_view.Reads as write-view
+use Rattle.render.proofs.texts.fit_parent.Reads as fit-parent
+use Rattle.key.proofs.write_shown.Reads as write-shown
+use Rattle.iteration.proofs.read_iteration_key.Reads as read-iteration-key
+use Rattle.iteration.proofs.block.first_above.Reads as first-above
+use Rattle.iteration.proofs.block.last_below.Reads as last-below
+use Rattle.packet.proofs.read_packet_key.Reads as read-packet-key
+use Rattle.book.proofs.new_book.Reads as new-book
+use Rattle.book.proofs.write.Reads as book-write
+use Rattle.book.proofs.remove.Reads as book-remove
+use Rattle.book.proofs.lookup.Reads as book-lookup
+use Rattle.oldest.proofs.oldest.Reads as oldest
+use Rattle.convert.proofs.convert.Reads as convert
+use Rattle.table.proofs.many.fill.Reads as fill
+use Rattle.table.proofs.many.look_many.Reads as look-many
 
 -- the check of a name and an index, and that of an identifier that is such
 abbrev named : List ℕ
@@ -139,6 +199,16 @@ wideNamed = 21 ∷ 7 ∷ 17 ∷ 18 ∷ 19 ∷ []
 
 abbrev wideIndexes : List ℕ
 wideIndexes = 21 ∷ 5 ∷ 6 ∷ 7 ∷ 17 ∷ 18 ∷ 19 ∷ []
+
+-- an identifier of a path, and why a text is not read
+abbrev names : List ℕ
+names = 2 ∷ 5 ∷ 6 ∷ 7 ∷ 17 ∷ 18 ∷ 19 ∷ 13 ∷ []
+
+abbrev wideNames : List ℕ
+wideNames = 21 ∷ 5 ∷ 6 ∷ 7 ∷ 17 ∷ 18 ∷ 19 ∷ 13 ∷ []
+
+abbrev unread : List ℕ
+unread = 1 ∷ 2 ∷ 3 ∷ 17 ∷ 18 ∷ 19 ∷ []
 
 -- a text that is always there: only the room can lack
 abbrev room : List ℕ
@@ -258,7 +328,7 @@ pub hp-book-remove-holds : Demand1 hp-book-remove.Pre hp-book-remove.Post (remov
 hp-book-remove-holds = changed-demand (λ κs a. tt) (λ κs r. r) (λ κs a. now (a .0)) (λ κs s. now (s .0)) (removeNumbers Plain) (λ κs a. remove Plain (now (a .1 .0))) (λ κs a b x b₁ o. remove-listed Plain _ o) (λ κs a r s p. p)
 
 pub hp-book-lookup-holds : Demand1 hp-book-lookup.Pre hp-book-lookup.Post (lookNumbers Plain) (λ κs r. r .refusal) (λ κs r. r .length ∷ []) (λ κs a. now (a .1 .1 .0)) (λ κs s. now (s .1 .1 .0))
-hp-book-lookup-holds = found-demand (λ κs a. tt) Plain (λ κs r. r) (λ κs a. now (a .0)) (λ κs a. now (a .1 .0)) (λ κs a. now (a .1 .1 .0)) (λ κs s. now (s .1 .1 .0)) (λ κs a r s p. p)
+hp-book-lookup-holds = found-demand (λ κs a. tt) (lookNumbers Plain) (λ κs a. Plain) (λ κs a n h. h) (λ κs r. r) (λ κs a. now (a .0)) (λ κs a. now (a .1 .0)) (λ κs a. now (a .1 .1 .0)) (λ κs s. now (s .1 .1 .0)) (λ κs a r s p. p)
 
 pub hp-book-write-lenient-holds : Demand1 hp-book-write-lenient.Pre hp-book-write-lenient.Post (writeNumbers Lenient) (λ κs r. r) (λ κs r. []) (λ κs a. now (a .0)) (λ κs s. now (s .0))
 hp-book-write-lenient-holds = changed-demand (λ κs a. tt) (λ κs r. r) (λ κs a. now (a .0)) (λ κs s. now (s .0)) (writeNumbers Lenient) (λ κs a. write Lenient (now (a .1 .0)) (now (a .1 .1 .0))) (λ κs a b x b₁ o. write-listed Lenient _ _ o) (λ κs a r s p. p)
@@ -267,7 +337,7 @@ pub hp-book-remove-lenient-holds : Demand1 hp-book-remove-lenient.Pre hp-book-re
 hp-book-remove-lenient-holds = changed-demand (λ κs a. tt) (λ κs r. r) (λ κs a. now (a .0)) (λ κs s. now (s .0)) (removeNumbers Lenient) (λ κs a. remove Lenient (now (a .1 .0))) (λ κs a b x b₁ o. remove-listed Lenient _ o) (λ κs a r s p. p)
 
 pub hp-book-lookup-lenient-holds : Demand1 hp-book-lookup-lenient.Pre hp-book-lookup-lenient.Post (lookNumbers Lenient) (λ κs r. r .refusal) (λ κs r. r .length ∷ []) (λ κs a. now (a .1 .1 .0)) (λ κs s. now (s .1 .1 .0))
-hp-book-lookup-lenient-holds = found-demand (λ κs a. tt) Lenient (λ κs r. r) (λ κs a. now (a .0)) (λ κs a. now (a .1 .0)) (λ κs a. now (a .1 .1 .0)) (λ κs s. now (s .1 .1 .0)) (λ κs a r s p. p)
+hp-book-lookup-lenient-holds = found-demand (λ κs a. tt) (lookNumbers Lenient) (λ κs a. Lenient) (λ κs a n h. h) (λ κs r. r) (λ κs a. now (a .0)) (λ κs a. now (a .1 .0)) (λ κs a. now (a .1 .1 .0)) (λ κs s. now (s .1 .1 .0)) (λ κs a r s p. p)
 
 pub hp-book-convert-holds : Demand1 hp-book-convert.Pre hp-book-convert.Post (9 ∷ 4 ∷ []) (λ κs r. r) (λ κs r. []) (λ κs a. now (a .1 .0)) (λ κs s. now (s .1 .0))
 hp-book-convert-holds = converted-demand (λ κs a. tt) (λ κs r. r) (λ κs a. now (a .1 .0)) (λ κs s. now (s .1 .0)) (λ κs a. now (a .0)) (λ κs a r s p. p)
@@ -447,3 +517,164 @@ wide-acks-path-holds = writes wides.wideEnds _ _ (λ κs a. tt) (λ κs r. r) (�
 
 pub wide-receipts-path-holds : Demand1 wide-receipts-path.Pre wide-receipts-path.Post wides.wideEnds (λ κs r. r .refusal) (λ κs r. r .length ∷ []) (λ κs a. now (a .1 .1 .0)) (λ κs s. now (s .1 .1 .0))
 wide-receipts-path-holds = writes wides.wideEnds _ _ (λ κs a. tt) (λ κs r. r) (λ κs a. textIn wide (packetsPath (bytes "receipts")) (carried (now (a .0)) (now (a .1 .0)) 0 0)) refl refl (λ κs a. wides.packets-wants _ _) (λ κs a r s p. p)
+
+-- ---- the functions that a Rattle caller checks with
+pub validate-identifier-chars-holds : Demand1 validate-identifier-chars.Pre validate-identifier-chars.Post (2 ∷ 5 ∷ []) (λ κs r. r) (λ κs r. []) (λ κs a. []) (λ κs s. [])
+validate-identifier-chars-holds = checks (2 ∷ 5 ∷ []) (λ κs a. tt) (λ κs r. r) (λ κs a r s p. subst (Listed (2 ∷ 5 ∷ [])) (sym p) (chars-number (Listed (2 ∷ 5 ∷ [])) refl refl refl _))
+
+pub validate-identifier-length-holds : Demand1 validate-identifier-length.Pre validate-identifier-length.Post (2 ∷ 6 ∷ []) (λ κs r. r) (λ κs r. []) (λ κs a. []) (λ κs s. [])
+validate-identifier-length-holds = checks (2 ∷ 6 ∷ []) (λ κs a. tt) (λ κs r. r) (λ κs a r s p. subst (Listed (2 ∷ 6 ∷ [])) (sym p) (length-number (Listed (2 ∷ 6 ∷ [])) refl refl refl _ _ _))
+
+pub validate-prefix-length-holds : Demand1 validate-prefix-length.Pre validate-prefix-length.Post (2 ∷ 6 ∷ []) (λ κs r. r) (λ κs r. []) (λ κs a. []) (λ κs s. [])
+validate-prefix-length-holds = checks (2 ∷ 6 ∷ []) (λ κs a. tt) (λ κs r. r) (λ κs a r s p. subst (Listed (2 ∷ 6 ∷ [])) (sym p) (prefix-number (Listed (2 ∷ 6 ∷ [])) refl refl refl _ _ _))
+
+pub validate-named-u64-index-holds : Demand1 validate-named-u64-index.Pre validate-named-u64-index.Post named (λ κs r. r .refusal) (λ κs r. []) (λ κs a. []) (λ κs s. [])
+unfolding namedIndexFault
+validate-named-u64-index-holds = checks named (λ κs a. tt) (λ κs r. r .refusal) (λ κs a r s p. subst (Listed named) (sym (ap (λ (f : Fault). f .refusal) p)) (named-index-number (Listed named) refl refl refl refl refl refl _ _))
+
+pub validate-client-type-holds : Demand1 validate-client-type.Pre validate-client-type.Post (2 ∷ 5 ∷ 6 ∷ []) (λ κs r. r) (λ κs r. []) (λ κs a. []) (λ κs s. [])
+validate-client-type-holds = checks (2 ∷ 5 ∷ 6 ∷ []) (λ κs a. tt) (λ κs r. r) (λ κs a r s p. subst (Listed (2 ∷ 5 ∷ 6 ∷ [])) (sym p) (plain-of (Listed (2 ∷ 5 ∷ 6 ∷ [])) refl refl refl refl 7 43 _))
+
+pub validate-client-identifier-holds : Demand1 validate-client-identifier.Pre validate-client-identifier.Post (2 ∷ 5 ∷ 6 ∷ []) (λ κs r. r) (λ κs r. []) (λ κs a. []) (λ κs s. [])
+validate-client-identifier-holds = checks (2 ∷ 5 ∷ 6 ∷ []) (λ κs a. tt) (λ κs r. r) (λ κs a r s p. subst (Listed (2 ∷ 5 ∷ 6 ∷ [])) (sym p) (plain-of (Listed (2 ∷ 5 ∷ 6 ∷ [])) refl refl refl refl 9 64 _))
+
+pub validate-connection-identifier-holds : Demand1 validate-connection-identifier.Pre validate-connection-identifier.Post indexes (λ κs r. r .refusal) (λ κs r. []) (λ κs a. []) (λ κs s. [])
+unfolding faultOf
+validate-connection-identifier-holds = checks indexes (λ κs a. tt) (λ κs r. r .refusal) (λ κs a r s p. subst (Listed indexes) (sym (ap (λ (f : Fault). f .refusal) p)) (indexed-of (Listed indexes) refl refl refl refl refl refl refl refl 10 64 _ _))
+
+pub validate-port-identifier-holds : Demand1 validate-port-identifier.Pre validate-port-identifier.Post (2 ∷ 5 ∷ 6 ∷ []) (λ κs r. r) (λ κs r. []) (λ κs a. []) (λ κs s. [])
+validate-port-identifier-holds = checks (2 ∷ 5 ∷ 6 ∷ []) (λ κs a. tt) (λ κs r. r) (λ κs a r s p. subst (Listed (2 ∷ 5 ∷ 6 ∷ [])) (sym p) (plain-of (Listed (2 ∷ 5 ∷ 6 ∷ [])) refl refl refl refl 2 128 _))
+
+pub validate-channel-identifier-holds : Demand1 validate-channel-identifier.Pre validate-channel-identifier.Post indexes (λ κs r. r .refusal) (λ κs r. []) (λ κs a. []) (λ κs s. [])
+unfolding faultOf
+validate-channel-identifier-holds = checks indexes (λ κs a. tt) (λ κs r. r .refusal) (λ κs a r s p. subst (Listed indexes) (sym (ap (λ (f : Fault). f .refusal) p)) (indexed-of (Listed indexes) refl refl refl refl refl refl refl refl 8 64 _ _))
+
+pub length-within-holds : Demand1 length-within.Pre length-within.Post (6 ∷ []) (λ κs r. r) (λ κs r. []) (λ κs a. []) (λ κs s. [])
+length-within-holds = checks (6 ∷ []) (λ κs a. tt) (λ κs r. r) (λ κs a r s p. subst (Listed (6 ∷ [])) (sym p) (within-number (Listed (6 ∷ [])) refl refl _ _ _))
+
+pub check-named-holds : Demand1 check-named.Pre check-named.Post (7 ∷ 17 ∷ 18 ∷ 19 ∷ []) (λ κs r. r .refusal) (λ κs r. []) (λ κs a. []) (λ κs s. [])
+check-named-holds = checks (7 ∷ 17 ∷ 18 ∷ 19 ∷ []) (λ κs a. tt) (λ κs r. r .refusal) (λ κs a r s p. subst (Listed (7 ∷ 17 ∷ 18 ∷ 19 ∷ [])) (sym (ap (λ (f : Fault). f .refusal) p)) (named-number (Listed (7 ∷ 17 ∷ 18 ∷ 19 ∷ [])) refl refl refl refl refl _ _))
+
+pub name-fault-holds : Demand1 name-fault.Pre name-fault.Post names (λ κs r. r) (λ κs r. []) (λ κs a. []) (λ κs s. [])
+name-fault-holds = checks names (λ κs a. tt) (λ κs r. r) (λ κs a r s p. subst (Listed names) (sym p) (name-of (Listed names) refl refl refl refl refl refl refl refl refl _ _))
+
+pub fault-of-holds : Demand1 fault-of.Pre fault-of.Post unread (λ κs r. r .refusal) (λ κs r. []) (λ κs a. []) (λ κs s. [])
+fault-of-holds = checks unread (λ κs a. tt) (λ κs r. r .refusal) (λ κs a r s p. subst (Listed unread) (sym (ap (λ (f : Fault). f .refusal) p)) (unread-of (Listed unread) refl refl refl refl refl refl (a .0)))
+
+pub refusal-of-holds : Demand1 refusal-of.Pre refusal-of.Post unread (λ κs r. r) (λ κs r. []) (λ κs a. []) (λ κs s. [])
+refusal-of-holds = checks unread (λ κs a. tt) (λ κs r. r) (λ κs a r s p. subst (Listed unread) (sym p) (reading-number (Listed unread) refl refl refl refl refl refl refl (a .0)))
+
+pub kind-is-provable-holds : Demand1 kind-is-provable.Pre kind-is-provable.Post (14 ∷ []) (λ κs r. r .refusal) (λ κs r. r .value ∷ []) (λ κs a. []) (λ κs s. [])
+kind-is-provable-holds = provable-demand (λ κs a. tt) (λ κs a. a .0) (λ κs r. r) (λ κs a r s p. p)
+
+pub wide-chars-holds : Demand1 wide-chars.Pre wide-chars.Post (21 ∷ 5 ∷ []) (λ κs r. r) (λ κs r. []) (λ κs a. []) (λ κs s. [])
+wide-chars-holds = checks (21 ∷ 5 ∷ []) (λ κs a. tt) (λ κs r. r) (λ κs a r s p. subst (Listed (21 ∷ 5 ∷ [])) (sym p) (wide-chars-number (Listed (21 ∷ 5 ∷ [])) refl refl refl _))
+
+pub wide-validate-identifier-chars-holds : Demand1 wide-validate-identifier-chars.Pre wide-validate-identifier-chars.Post (21 ∷ 5 ∷ []) (λ κs r. r) (λ κs r. []) (λ κs a. []) (λ κs s. [])
+wide-validate-identifier-chars-holds = checks (21 ∷ 5 ∷ []) (λ κs a. tt) (λ κs r. r) (λ κs a r s p. subst (Listed (21 ∷ 5 ∷ [])) (sym p) (wides.chars-number (Listed (21 ∷ 5 ∷ [])) refl refl refl _))
+
+pub wide-validate-identifier-length-holds : Demand1 wide-validate-identifier-length.Pre wide-validate-identifier-length.Post (21 ∷ 6 ∷ []) (λ κs r. r) (λ κs r. []) (λ κs a. []) (λ κs s. [])
+wide-validate-identifier-length-holds = checks (21 ∷ 6 ∷ []) (λ κs a. tt) (λ κs r. r) (λ κs a r s p. subst (Listed (21 ∷ 6 ∷ [])) (sym p) (wides.length-number (Listed (21 ∷ 6 ∷ [])) refl refl refl _ _ _))
+
+pub wide-validate-prefix-length-holds : Demand1 wide-validate-prefix-length.Pre wide-validate-prefix-length.Post (21 ∷ 6 ∷ []) (λ κs r. r) (λ κs r. []) (λ κs a. []) (λ κs s. [])
+wide-validate-prefix-length-holds = checks (21 ∷ 6 ∷ []) (λ κs a. tt) (λ κs r. r) (λ κs a r s p. subst (Listed (21 ∷ 6 ∷ [])) (sym p) (wides.prefix-number (Listed (21 ∷ 6 ∷ [])) refl refl refl _ _ _))
+
+pub wide-validate-named-u64-index-holds : Demand1 wide-validate-named-u64-index.Pre wide-validate-named-u64-index.Post wideNamed (λ κs r. r .refusal) (λ κs r. []) (λ κs a. []) (λ κs s. [])
+unfolding namedIndexFaultIn
+wide-validate-named-u64-index-holds = checks wideNamed (λ κs a. tt) (λ κs r. r .refusal) (λ κs a r s p. subst (Listed wideNamed) (sym (ap (λ (f : Fault). f .refusal) p)) (wides.named-index-number (Listed wideNamed) refl refl refl refl refl refl _ _))
+
+pub wide-validate-client-type-holds : Demand1 wide-validate-client-type.Pre wide-validate-client-type.Post (21 ∷ 5 ∷ 6 ∷ []) (λ κs r. r) (λ κs r. []) (λ κs a. []) (λ κs s. [])
+wide-validate-client-type-holds = checks (21 ∷ 5 ∷ 6 ∷ []) (λ κs a. tt) (λ κs r. r) (λ κs a r s p. subst (Listed (21 ∷ 5 ∷ 6 ∷ [])) (sym p) (wides.plain-of (Listed (21 ∷ 5 ∷ 6 ∷ [])) refl refl refl refl 7 43 _))
+
+pub wide-validate-client-identifier-holds : Demand1 wide-validate-client-identifier.Pre wide-validate-client-identifier.Post (21 ∷ 5 ∷ 6 ∷ []) (λ κs r. r) (λ κs r. []) (λ κs a. []) (λ κs s. [])
+wide-validate-client-identifier-holds = checks (21 ∷ 5 ∷ 6 ∷ []) (λ κs a. tt) (λ κs r. r) (λ κs a r s p. subst (Listed (21 ∷ 5 ∷ 6 ∷ [])) (sym p) (wides.plain-of (Listed (21 ∷ 5 ∷ 6 ∷ [])) refl refl refl refl 9 64 _))
+
+pub wide-validate-connection-identifier-holds : Demand1 wide-validate-connection-identifier.Pre wide-validate-connection-identifier.Post wideIndexes (λ κs r. r .refusal) (λ κs r. []) (λ κs a. []) (λ κs s. [])
+unfolding faultIn
+wide-validate-connection-identifier-holds = checks wideIndexes (λ κs a. tt) (λ κs r. r .refusal) (λ κs a r s p. subst (Listed wideIndexes) (sym (ap (λ (f : Fault). f .refusal) p)) (wides.indexed-of (Listed wideIndexes) refl refl refl refl refl refl refl refl 10 64 _ _))
+
+pub wide-validate-port-identifier-holds : Demand1 wide-validate-port-identifier.Pre wide-validate-port-identifier.Post (21 ∷ 5 ∷ 6 ∷ []) (λ κs r. r) (λ κs r. []) (λ κs a. []) (λ κs s. [])
+wide-validate-port-identifier-holds = checks (21 ∷ 5 ∷ 6 ∷ []) (λ κs a. tt) (λ κs r. r) (λ κs a r s p. subst (Listed (21 ∷ 5 ∷ 6 ∷ [])) (sym p) (wides.plain-of (Listed (21 ∷ 5 ∷ 6 ∷ [])) refl refl refl refl 2 128 _))
+
+pub wide-validate-channel-identifier-holds : Demand1 wide-validate-channel-identifier.Pre wide-validate-channel-identifier.Post wideIndexes (λ κs r. r .refusal) (λ κs r. []) (λ κs a. []) (λ κs s. [])
+unfolding faultIn
+wide-validate-channel-identifier-holds = checks wideIndexes (λ κs a. tt) (λ κs r. r .refusal) (λ κs a r s p. subst (Listed wideIndexes) (sym (ap (λ (f : Fault). f .refusal) p)) (wides.indexed-of (Listed wideIndexes) refl refl refl refl refl refl refl refl 8 64 _ _))
+
+pub wide-name-fault-holds : Demand1 wide-name-fault.Pre wide-name-fault.Post wideNames (λ κs r. r) (λ κs r. []) (λ κs a. []) (λ κs s. [])
+wide-name-fault-holds = checks wideNames (λ κs a. tt) (λ κs r. r) (λ κs a r s p. subst (Listed wideNames) (sym p) (wides.name-of (Listed wideNames) refl refl refl refl refl refl refl refl refl _ _))
+
+-- ---- owned identifiers: a refusal has length 0 and an array of zeros beside it
+pub client-id-from-str-holds : Demand1 client-id-from-str.Pre client-id-from-str.Post (2 ∷ 5 ∷ 6 ∷ []) (λ κs r. r .refusal) (λ κs r. r .id .len ∷ r .id .bytes) (λ κs a. []) (λ κs s. [])
+unfolding madeClient
+client-id-from-str-holds = owned (2 ∷ 5 ∷ 6 ∷ []) 64 (λ κs a. tt) _ _ (λ κs a. asWritten check.client (now (a .0))) (λ κs a. written-listed (2 ∷ 5 ∷ 6 ∷ []) check.client _ 64 (omega arith) refl (plain-of (Listed (2 ∷ 5 ∷ 6 ∷ [])) refl refl refl refl 9 64 _)) (λ κs a r s p. (ap (λ (m : MadeClientId). m .refusal) p, ap (λ (m : MadeClientId). m .id .len ∷ m .id .bytes) p))
+
+pub client-id-new-holds : Demand1 client-id-new.Pre client-id-new.Post clients (λ κs r. r .refusal) (λ κs r. r .id .len ∷ r .id .bytes) (λ κs a. []) (λ κs s. [])
+unfolding madeClient
+client-id-new-holds = owned clients 64 (λ κs a. tt) _ _ (λ κs a. newClient (now (a .0)) (a .1 .0)) (λ κs a. answer-listed clients refl _ 64 (client-wants _ _) refl) (λ κs a r s p. (ap (λ (m : MadeClientId). m .refusal) p, ap (λ (m : MadeClientId). m .id .len ∷ m .id .bytes) p))
+
+pub connection-id-from-str-holds : Demand1 connection-id-from-str.Pre connection-id-from-str.Post indexes (λ κs r. r .refusal) (λ κs r. r .id .len ∷ r .id .bytes) (λ κs a. []) (λ κs s. [])
+unfolding madeConnection
+connection-id-from-str-holds = owned indexes 64 (λ κs a. tt) _ _ (λ κs a. asWritten check.connection (now (a .0))) (λ κs a. written-listed indexes check.connection _ 64 (omega arith) refl (indexed-of (Listed indexes) refl refl refl refl refl refl refl refl 10 64 _ _)) (λ κs a r s p. (ap (λ (m : MadeConnectionId). m .refusal) p, ap (λ (m : MadeConnectionId). m .id .len ∷ m .id .bytes) p))
+
+pub channel-id-from-str-holds : Demand1 channel-id-from-str.Pre channel-id-from-str.Post indexes (λ κs r. r .refusal) (λ κs r. r .id .len ∷ r .id .bytes) (λ κs a. []) (λ κs s. [])
+unfolding madeChannel
+channel-id-from-str-holds = owned indexes 64 (λ κs a. tt) _ _ (λ κs a. asWritten check.channel (now (a .0))) (λ κs a. written-listed indexes check.channel _ 64 (omega arith) refl (indexed-of (Listed indexes) refl refl refl refl refl refl refl refl 8 64 _ _)) (λ κs a r s p. (ap (λ (m : MadeChannelId). m .refusal) p, ap (λ (m : MadeChannelId). m .id .len ∷ m .id .bytes) p))
+
+pub port-id-from-str-holds : Demand1 port-id-from-str.Pre port-id-from-str.Post (2 ∷ 5 ∷ 6 ∷ []) (λ κs r. r .refusal) (λ κs r. r .id .len ∷ r .id .bytes) (λ κs a. []) (λ κs s. [])
+unfolding madePort
+port-id-from-str-holds = owned (2 ∷ 5 ∷ 6 ∷ []) 128 (λ κs a. tt) _ _ (λ κs a. asWritten check.port (now (a .0))) (λ κs a. written-listed (2 ∷ 5 ∷ 6 ∷ []) check.port _ 128 (omega arith) refl (plain-of (Listed (2 ∷ 5 ∷ 6 ∷ [])) refl refl refl refl 2 128 _)) (λ κs a r s p. (ap (λ (m : MadePortId). m .refusal) p, ap (λ (m : MadePortId). m .id .len ∷ m .id .bytes) p))
+
+-- ---- what a Rattle caller reads with: the answer's number, and its values, as `pairOf` and `packetOf` have them
+pub read-iteration-key-holds : Demand1 read-iteration-key.Pre read-iteration-key.Post (15 ∷ []) (λ κs r. pairOf r .refusal) (λ κs r. pairOf r .number ∷ pairOf r .height ∷ []) (λ κs a. []) (λ κs s. [])
+read-iteration-key-holds = pairs (15 ∷ []) refl (λ κs a. tt) (λ κs r. pairOf r) (λ κs a. answered 15 (keyIn (now (a .0)))) (λ κs a. key-refuses (keyIn (now (a .0)))) (λ κs a r s p. ap pairOf p)
+
+pub first-above-holds : Demand1 first-above.Pre first-above.Post (16 ∷ 12 ∷ []) (λ κs r. pairOf r .refusal) (λ κs r. pairOf r .number ∷ pairOf r .height ∷ []) (λ κs a. []) (λ κs s. [])
+first-above-holds = pairs (16 ∷ 12 ∷ []) refl (λ κs a. tt) (λ κs r. pairOf r) (λ κs a. scanned (firstAbove (a .1 .0)) (blockOf (now (a .0)))) (λ κs a. scan-refuses (firstAbove (a .1 .0)) (blockOf (now (a .0)))) (λ κs a r s p. ap pairOf p)
+
+pub last-below-holds : Demand1 last-below.Pre last-below.Post (16 ∷ 12 ∷ []) (λ κs r. pairOf r .refusal) (λ κs r. pairOf r .number ∷ pairOf r .height ∷ []) (λ κs a. []) (λ κs s. [])
+last-below-holds = pairs (16 ∷ 12 ∷ []) refl (λ κs a. tt) (λ κs r. pairOf r) (λ κs a. scanned (lastBelow (a .1 .0)) (blockOf (now (a .0)))) (λ κs a. scan-refuses (lastBelow (a .1 .0)) (blockOf (now (a .0)))) (λ κs a r s p. ap pairOf p)
+
+pub read-packet-key-holds : Demand1 read-packet-key.Pre read-packet-key.Post packetReads (λ κs r. packetOf r .refusal) (λ κs r. packetOf r .kind ∷ packetOf r .length ∷ packetOf r .sequence ∷ []) (λ κs a. []) (λ κs s. [])
+read-packet-key-holds = packets (λ κs a. tt) (λ κs r. packetOf r) (λ κs a. now (a .0)) (λ κs a r s p. ap packetOf p)
+
+-- ---- the texts that are written of what is accepted or read already
+pub write-named-holds : Demand1 write-named.Pre write-named.Post room (λ κs r. r .refusal) (λ κs r. r .length ∷ []) (λ κs a. now (a .1 .1 .0)) (λ κs s. now (s .1 .1 .0))
+write-named-holds = writes room _ _ (λ κs a. tt) (λ κs r. r) (λ κs a. text (now (a .0) ++ (bytes "-" ++ decimal (a .1 .0)))) refl refl (λ κs a. tt) (λ κs a r s p. p)
+
+pub fit-parent-holds : Demand1 fit-parent.Pre fit-parent.Post room (λ κs r. r .refusal) (λ κs r. r .length ∷ []) (λ κs a. now (a .1 .0)) (λ κs s. now (s .1 .0))
+fit-parent-holds = writes room _ _ (λ κs a. tt) (λ κs r. r) (λ κs a. text (parentText (now (a .0)))) refl refl (λ κs a. tt) (λ κs a r s p. p)
+
+pub write-shown-holds : Demand1 write-shown.Pre write-shown.Post readings (λ κs r. r .refusal) (λ κs r. r .length ∷ []) (λ κs a. now (a .1 .1 .0)) (λ κs s. now (s .1 .1 .0))
+write-shown-holds = writes readings _ _ (λ κs a. tt) (λ κs r. r) (λ κs a. shownBy (now (a .0)) (a .1 .0)) refl refl (λ κs a. shown-wants _ _) (λ κs a r s p. p)
+
+pub write-view-holds : Demand1 write-view.Pre write-view.Post room (λ κs r. r .refusal) (λ κs r. r .length ∷ []) (λ κs a. now (a .1 .1 .0)) (λ κs s. now (s .1 .1 .0))
+write-view-holds = writes room _ _ (λ κs a. tt) (λ κs r. r) (λ κs a. text (viewBytes (a .0) (a .1 .0))) refl refl (λ κs a. tt) (λ κs a r s p. p)
+
+pub write-answer-holds : Demand1 write-answer.Pre write-answer.Post readings (λ κs r. r .refusal) (λ κs r. []) (λ κs a. now (a .1 .0)) (λ κs s. now (s .1 .0))
+unfolding answerBy
+write-answer-holds = writes-number readings _ _ (λ κs a. tt) (λ κs r. r .refusal) (λ κs a. bytesBy (a .0)) refl refl (λ κs a. bytes-wants (a .0)) (λ κs a r s p. (ap (λ (f : Fault). f .refusal) (p .0), p .1))
+
+-- ---- the book's functions; the manner of a write, a removal and a lookup is an argument
+pub new-book-holds : Demand1 new-book.Pre new-book.Post (9 ∷ []) (λ κs r. r) (λ κs r. []) (λ κs a. now (a .0)) (λ κs s. now (s .0))
+new-book-holds = made-demand (λ κs a. tt) (λ κs r. r) (λ κs a. now (a .0)) (λ κs s. now (s .0)) (λ κs a r s p. p)
+
+pub book-write-holds : Demand1 book-write.Pre book-write.Post (writeNumbers Plain) (λ κs r. r) (λ κs r. []) (λ κs a. now (a .1 .0)) (λ κs s. now (s .1 .0))
+book-write-holds = changed-demand (λ κs a. tt) (λ κs r. r) (λ κs a. now (a .1 .0)) (λ κs s. now (s .1 .0)) (writeNumbers Plain) (λ κs a. write (a .0) (now (a .1 .1 .0)) (now (a .1 .1 .1 .0))) (λ κs a b x b₁ o. in-plain (a .0) _ _ (write-listed (a .0) _ _ o)) (λ κs a r s p. p)
+
+pub book-remove-holds : Demand1 book-remove.Pre book-remove.Post (removeNumbers Plain) (λ κs r. r) (λ κs r. []) (λ κs a. now (a .1 .0)) (λ κs s. now (s .1 .0))
+book-remove-holds = changed-demand (λ κs a. tt) (λ κs r. r) (λ κs a. now (a .1 .0)) (λ κs s. now (s .1 .0)) (removeNumbers Plain) (λ κs a. remove (a .0) (now (a .1 .1 .0))) (λ κs a b x b₁ o. in-plain (a .0) _ _ (remove-listed (a .0) _ o)) (λ κs a r s p. p)
+
+pub book-lookup-holds : Demand1 book-lookup.Pre book-lookup.Post (lookNumbers Plain) (λ κs r. r .refusal) (λ κs r. r .length ∷ []) (λ κs a. now (a .1 .1 .1 .0)) (λ κs s. now (s .1 .1 .1 .0))
+book-lookup-holds = found-demand (λ κs a. tt) (lookNumbers Plain) (λ κs a. a .0) (λ κs a n h. in-plain (a .0) _ _ h) (λ κs r. r) (λ κs a. now (a .1 .0)) (λ κs a. now (a .1 .1 .0)) (λ κs a. now (a .1 .1 .1 .0)) (λ κs s. now (s .1 .1 .1 .0)) (λ κs a r s p. p)
+
+pub oldest-holds : Demand1 oldest.Pre oldest.Post (9 ∷ 2 ∷ 5 ∷ 6 ∷ 12 ∷ []) (λ κs r. r .refusal) (λ κs r. r .number ∷ r .height ∷ []) (λ κs a. []) (λ κs s. [])
+oldest-holds = oldest-demand (λ κs a. tt) (λ κs r. r) (λ κs a. now (a .0)) (λ κs a. now (a .1 .0)) (λ κs a r s p. p)
+
+pub convert-holds : Demand1 convert.Pre convert.Post (9 ∷ 4 ∷ []) (λ κs r. r) (λ κs r. []) (λ κs a. now (a .1 .0)) (λ κs s. now (s .1 .0))
+convert-holds = converted-demand (λ κs a. tt) (λ κs r. r) (λ κs a. now (a .1 .0)) (λ κs s. now (s .1 .0)) (λ κs a. now (a .0)) (λ κs a r s p. p)
+
+pub fill-holds : Demand1 fill.Pre fill.Post (9 ∷ 4 ∷ []) (λ κs r. r) (λ κs r. []) (λ κs a. now (a .1 .0)) (λ κs s. now (s .1 .0))
+fill-holds = filled-demand (λ κs a. tt) (λ κs r. r) (λ κs a. now (a .0)) (λ κs a. now (a .1 .0)) (λ κs s. now (s .1 .0)) (λ κs a r s p. p)
+
+pub look-many-holds : Demand1 look-many.Pre look-many.Post (9 ∷ 22 ∷ 4 ∷ []) (λ κs r. r .refusal) (λ κs r. r .length ∷ []) (λ κs a. now (a .1 .1 .1 .0)) (λ κs s. now (s .1 .1 .1 .0))
+look-many-holds = looked-many-demand (λ κs a. tt) (λ κs r. r) (λ κs a. now (a .0)) (λ κs a. now (a .1 .0)) (λ κs a. now (a .1 .1 .0)) (λ κs a. now (a .1 .1 .1 .0)) (λ κs s. now (s .1 .1 .1 .0)) (λ κs a r s p. p)

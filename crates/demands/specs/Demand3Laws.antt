@@ -60,7 +60,7 @@ not-eleven (looking ok) none e = omega arith
 not-eleven (looking ok) (some u) e = omega arith
 
 -- a lookup's answer
-look-gives : {b : List ℕ} (x : ProperBook b) {c : Call} {m : Meaning} → Means c m → Looks c → (a : Seen) → a ≡ seen (acts x m .0) → a .number ≡ 0
+pub look-gives : {b : List ℕ} (x : ProperBook b) {c : Call} {m : Meaning} → Means c m → Looks c → (a : Seen) → a ≡ seen (acts x m .0) → a .number ≡ 0
     → (k : Key) × PathOf c k × Holds b k (some (a .value))
 unfolding act
 look-gives x (declines d) w a q e = absurd (declined-not d .0 (sym (ap (λ (y : Seen). y .number) q) ∙ e))

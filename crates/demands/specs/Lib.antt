@@ -1,10 +1,11 @@
--- The demands as theorems over the contracts that the sources have. Demand 1 is `Demand1`, by `Shape`; demand 2 is `Demand2`, in the words of
--- `PathCalls`, `Told`, `Written` and `Rendered`; what the place of a bad number tells, request L3, is in `Faults`; that the two
--- readers answer the same, request L7, is in `Walk`; the keys of request L1 are in `Iteration`,
--- in the words of `KeyCalls` and `Scanned`; demand 3 is `Demand3`, in the words of `Held`, `Refusals` and `BookCalls`; what plain and lenient calls
--- share, request L6, is in `Manners`; the wide calls of request L8 are in `Wide`, in the words of `WideCalls`, `WideWritten` and `WideRendered`; the packet keys of
--- request L11 are in `Packets`, in the words of `PacketCalls` and `Packeted`; what lies below a path, request L12, is `Below`, in the words of
--- `Above`; filling a table and many lookups, request L9, are in `ManyCall`; `Useless` shows which line each useless build breaks. Files that end in `Laws` may be skipped.
+-- The demands as theorems over the contracts that the sources have. Demand 1 is `Demand1`, by `Shape` and `Numbers`; demand 2 is `Demand2`, in the
+-- words of `PathCalls`, `Told`, `Written` and `Rendered`; what the place of a bad number tells, request L3, is in `Faults`; that the two readers answer
+-- the same, request L7, is in `Walk`; the keys of request L1 are in `Iteration`, in the words of `KeyCalls` and `Scanned`; demand 3 is `Demand3`, in the
+-- words of `Held`, `Refusals` and `BookCalls`; what each call of a book does on all bytes is in `EachCall`, `NewCall`, `OldestCall` and `ConvertCall`;
+-- what plain and lenient calls share, request L6, is in `Manners`; the wide calls of request L8 are in `Wide`, in the words of `WideCalls`, `WideWritten`
+-- and `WideRendered`; the packet keys of request L11 are in `Packets`, in the words of `PacketCalls` and `Packeted`; what lies below a path, request L12,
+-- is `Below`, in the words of `Above`; filling a table and many lookups, request L9, are in `ManyCall`; `Useless` shows which line each useless build
+-- breaks. Files that end in `Laws` may be skipped.
 pub mod Shape
 pub mod ShapeLaws
 pub mod KeepsLaws
@@ -21,6 +22,7 @@ pub mod RenderedLaws
 pub mod ModeLaws
 pub mod KeyedLaws
 pub mod WideShapeLaws
+pub mod FunctionShapeLaws
 pub mod Demand1
 pub mod MeetsLaws
 pub mod OneAnswerLaws
@@ -57,6 +59,8 @@ pub mod MachineLaws
 pub mod Demand3
 pub mod Demand3Laws
 pub mod Useless
+pub mod EachCall
+pub mod EachCallLaws
 pub mod BookCalls
 pub mod ExistsLaws
 pub mod Manners
@@ -64,6 +68,8 @@ pub mod PacketCalls
 pub mod Packeted
 pub mod PacketLaws
 pub mod Packets
+pub mod NewCall
+pub mod NewCallLaws
 pub mod OldestCall
 pub mod OldestCallLaws
 pub mod ConvertCall

@@ -1,4 +1,4 @@
--- `hp_book_oldest` answers a pair that the book holds for the client, and none that it holds is smaller; 12 exactly where it holds none.
+-- `hp_book_oldest` answers a pair that the book holds for the client, and none that it holds is smaller; and each refusal exactly when.
 -- Assumes nothing.
 use Prim.Native.Nat.{ℕ}
 use mathlib.Core.Path.{_≡_}
@@ -12,14 +12,14 @@ use borrow.Fn.World.{ArgsD, ResD}
 use borrow.Fn.Kinds.{endedOf}
 use denote.Triple.Clauses.{AtExit}
 use Rattle.text.specs.Order.{Before}
-use Rattle.text.specs.Refusal.{noRecord}
+use Rattle.text.specs.Refusal.{badBook, noRecord}
 use Rattle.identifiers.specs.Check.{checkOf}
 use Rattle.identifiers.specs.Check as check
 use Rattle.keys.specs.Act.{Rec}
 use Rattle.oldest.specs.declared.StateAnswer.the-variants.{State}
 use Rattle.path.specs.declared.Pair.{Pair}
-use Rattle.book.specs.Book.{Current, Book}
 use Rattle.oldest.specs.Oldest.{stateOf}
+use Rattle.demands.specs.Held.{ProperBook}
 use Rattle.hostpath.proofs.hp_book_oldest as o
 use Rattle.hostpath.proofs.hp_book_oldest.Kinds as ok
 use Rattle.hostpath.proofs.hp_book_oldest.Reads as or
@@ -35,18 +35,26 @@ pub record OldestCall (b client : List ℕ) (x : Pair) : Type 0 where
   pub answer-out : result ≡ x
   pub ensures : or.Post lifetimes args result exits
 
--- a record of these is a state of the client, with this revision number and height
-abbrev pub Holds : List Rec → List ℕ → ℕ → ℕ → Type 0
-Holds s client m h = (j : ℕ) × (r : Rec) × (getElem? s j ≡ some r) × (stateOf client (r .0) ≡ State m h)
+-- the bytes are a book, and a record of it is a state of the client, with this revision number and height
+pub record HoldsState (b client : List ℕ) (m h : ℕ) : Type 0 where
+  pub book : ProperBook b
+  pub place : ℕ
+  pub record-there : Rec
+  pub there : getElem? (book .records) place ≡ some record-there
+  pub tells : stateOf client (record-there .0) ≡ State m h
 
-pub record OldestSays (s : List Rec) (client : List ℕ) (x : Pair) : Type 0 where
+pub record OldestSays (b client : List ℕ) (x : Pair) : Type 0 where
+  -- each answer exactly when: 9 on what is no book; on a book the number of the client's check, where that refuses the client; of a client
+  -- that it accepts 12 where the book holds nothing, and 0 where it holds something
+  pub bad-book : (x .refusal ≡ badBook) ↔ (ProperBook b → ⊥)
+  pub bad-client : (n : ℕ) → (n ≡ 0 → ⊥) → (n ≡ badBook → ⊥) → (n ≡ noRecord → ⊥) → (x .refusal ≡ n) ↔ (ProperBook b × (checkOf check.client client ≡ n))
+  pub absent : (x .refusal ≡ noRecord) ↔ (ProperBook b × (checkOf check.client client ≡ 0) × ((m h : ℕ) → HoldsState b client m h → ⊥))
+  pub done : (x .refusal ≡ 0) ↔ ((checkOf check.client client ≡ 0) × (m : ℕ) × (h : ℕ) × HoldsState b client m h)
   -- the answer is held
-  pub held : x .refusal ≡ 0 → Holds s client (x .number) (x .height)
+  pub held : x .refusal ≡ 0 → HoldsState b client (x .number) (x .height)
   -- and nothing that is held is smaller
-  pub least : x .refusal ≡ 0 → (m h : ℕ) → Holds s client m h → Before (m ∷ h ∷ []) (x .number ∷ x .height ∷ []) → ⊥
-  -- nothing is held exactly where the answer is 12
-  pub absent : checkOf check.client client ≡ 0 → (x .refusal ≡ noRecord) ↔ ((m h : ℕ) → Holds s client m h → ⊥)
+  pub least : x .refusal ≡ 0 → (m h : ℕ) → HoldsState b client m h → Before (m ∷ h ∷ []) (x .number ∷ x .height ∷ []) → ⊥
 
--- every call on a book says this of its records
+-- of every call, on all bytes
 abbrev pub OldestDemand : Type 0
-OldestDemand = (b client : List ℕ) (x : Pair) → OldestCall b client x → (y : Book Current b) → OldestSays (y .records) client x
+OldestDemand = (b client : List ℕ) (x : Pair) → OldestCall b client x → OldestSays b client x

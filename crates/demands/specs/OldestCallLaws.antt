@@ -4,56 +4,109 @@ use Prim.Native.Nat.{ℕ}
 use mathlib.Core.Path.{_≡_, refl, sym, ap, _∙_}
 use mathlib.Core.Bool.{Bool, true, false}
 use mathlib.Core.List.{List}
+use mathlib.Core.Option.{some}
+use lib.ListN.{getElem?}
 use native.Mathlib.Omega.{arith}
 use lib.Dec.{eqb}
 use borrow.Author.Tests.{eqb-true, eqb-false}
 use denote.Ref.{now}
-use Rattle.text.specs.Refusal.{noRecord}
 use Rattle.identifiers.specs.Check.{checkOf}
 use Rattle.identifiers.specs.Check as check
 use Rattle.keys.specs.Act.{Rec}
 use Rattle.oldest.specs.declared.StateAnswer.{StateAnswer}
 use Rattle.oldest.specs.declared.StateAnswer.the-variants.{State, Nothing}
 use Rattle.path.specs.declared.Pair.{Pair}
-use Rattle.book.specs.Book.{Current, Book}
+use Rattle.path.specs.Pair.{pair}
+use Rattle.book.specs.Book.{Current}
 use Rattle.book.specs.BookLaws.{one-book, lawful}
 use Rattle.oldest.specs.Oldest.{stateOf, oldestState, oldestIn, Oldest}
 use Rattle.oldest.specs.Oldest as oldest
 use Rattle.oldest.specs.OldestLaws.{oldest-nothing, oldest-held, oldest-least}
-use Rattle.demands.specs.OldestCall.{OldestCall, Holds, OldestSays, OldestDemand}
+use Rattle.demands.specs.Held.{ProperBook}
+use Rattle.demands.specs.ShapeLaws.{plain-of}
+use Rattle.demands.specs.OldestCall.{HoldsState, OldestSays, OldestDemand}
 
-module _ (client : List ℕ) (s : List Rec) where
-  by-state : (a : StateAnswer) → oldestState client s ≡ a → checkOf check.client client ≡ 0 → OldestSays s client (oldestIn client s)
+-- the client's check gives neither 9 nor 12
+own : (client : List ℕ) → (checkOf check.client client ≡ 9 → ⊥) × (checkOf check.client client ≡ 12 → ⊥)
+own client = plain-of (λ n. (n ≡ 9 → ⊥) × (n ≡ 12 → ⊥)) (λ e. omega arith, λ e. omega arith) (λ e. omega arith, λ e. omega arith) (λ e. omega arith, λ e. omega arith) (λ e. omega arith, λ e. omega arith) 9 64 client
+
+module _ {b : List ℕ} (client : List ℕ) (y : ProperBook b) where
+  -- what is held, in the records of this book
+  state-at : {m h : ℕ} (z : HoldsState b client m h) → getElem? (y .records) (z .place) ≡ some (z .record-there)
+  state-at z = ap (λ (s : List Rec). getElem? s (z .place)) (one-book Current lawful b y (z .book) .2) ∙ z .there
+
+  module _ (accepted : checkOf check.client client ≡ 0) where
+    some-state : (m h : ℕ) → oldestState client (y .records) ≡ State m h → OldestSays b client (oldestIn client (y .records))
+    unfolding oldestIn
+    some-state m h e = rw (accepted, e) (record {
+      bad-book = (λ q. absurd (let w : ⊥ = omega arith in w), λ n. absurd (n y));
+      bad-client = λ n z i j. (λ q. absurd (z (sym q)), λ q. absurd (z (sym (q .1) ∙ accepted)));
+      absent = (λ q. absurd (let w : ⊥ = omega arith in w), λ q. absurd (q .2 m h held));
+      done = (λ q. (accepted, m, h, held), λ q. refl);
+      held = λ q. held;
+      least = λ q n k z b. oldest-least client (y .records) m h e (z .place) (z .record-there) n k (state-at z) (z .tells) b;
+    })
+      where
+        held : HoldsState b client m h
+        held = let x = oldest-held client (y .records) m h e in record { book = y; place = x .0; record-there = x .1; there = x .2; tells = x .3 }
+
+    no-state : oldestState client (y .records) ≡ Nothing → OldestSays b client (oldestIn client (y .records))
+    unfolding oldestIn
+    no-state e = rw (accepted, e) (record {
+      bad-book = (λ q. absurd (let w : ⊥ = omega arith in w), λ n. absurd (n y));
+      bad-client = λ n z i j. (λ q. absurd (j (sym q)), λ q. absurd (z (sym (q .1) ∙ accepted)));
+      absent = (λ q. (y, accepted, none), λ q. refl);
+      done = (λ q. absurd (let w : ⊥ = omega arith in w), λ q. absurd (none (q .1) (q .2) (q .3)));
+      held = λ q. absurd (let w : ⊥ = omega arith in w);
+      least = λ q. absurd (let w : ⊥ = omega arith in w);
+    })
+      where
+        none : (m h : ℕ) → HoldsState b client m h → ⊥
+        none m h z =
+            let c : stateOf client (z .record-there .0) ≡ Nothing = oldest-nothing client (y .records) e (z .place) (z .record-there) (state-at z) in
+            let w : _≡_ {A = ℕ} 0 1 = let t = z .tells in cc in
+            omega arith
+
+  refused : eqb (checkOf check.client client) 0 ≡ false → OldestSays b client (oldestIn client (y .records))
   unfolding oldestIn
-  by-state (State m h) e f = rw (f, e) (record {
-    held = λ q. oldest-held client s m h e;
-    least = λ q n k x b. oldest-least client s m h e (x .0) (x .1) n k (x .2) (x .3) b;
-    absent = λ q. (λ z. absurd (let w : ⊥ = omega arith in w), λ none. absurd (none m h (oldest-held client s m h e)));
+  refused f = rw f (record {
+    bad-book = (λ q. absurd (own client .0 q), λ n. absurd (n y));
+    bad-client = λ n z i j. (λ q. (y, q), λ q. q .1);
+    absent = (λ q. absurd (own client .1 q), λ q. absurd (no (q .1)));
+    done = (λ q. absurd (no q), λ q. absurd (no (q .0)));
+    held = λ q. absurd (no q);
+    least = λ q. absurd (no q);
   })
-  by-state Nothing e f = rw (f, e) (record {
-    held = λ q. absurd (let w : ⊥ = omega arith in w);
-    least = λ q. absurd (let w : ⊥ = omega arith in w);
-    absent = λ q. (λ z n k x. let c : stateOf client (x .1 .0) ≡ Nothing = oldest-nothing client s e (x .0) (x .1) (x .2) in let w : _≡_ {A = ℕ} 0 1 = let t = x .3 in cc in omega arith, λ none. refl);
-  })
-
-  refused : eqb (checkOf check.client client) 0 ≡ false → OldestSays s client (oldestIn client s)
-  unfolding oldestIn
-  refused f =
-      let no : checkOf check.client client ≡ 0 → ⊥ = eqb-false (checkOf check.client client) 0 f in
-      rw f (record { held = λ q. absurd (no q); least = λ q. absurd (no q); absent = λ q. absurd (no q) })
-
-  in-records : OldestSays s client (oldestIn client s)
-  in-records = go (eqb (checkOf check.client client) 0) refl
     where
-      go : (t : Bool) → eqb (checkOf check.client client) 0 ≡ t → OldestSays s client (oldestIn client s)
-      go true e = by-state (oldestState client s) refl (eqb-true (checkOf check.client client) 0 e)
+      no : checkOf check.client client ≡ 0 → ⊥
+      no = eqb-false (checkOf check.client client) 0 f
+
+  on-book : OldestSays b client (oldestIn client (y .records))
+  on-book = go (eqb (checkOf check.client client) 0) refl
+    where
+      by-state : checkOf check.client client ≡ 0 → (a : StateAnswer) → oldestState client (y .records) ≡ a → OldestSays b client (oldestIn client (y .records))
+      by-state f (State m h) e = some-state f m h e
+      by-state f Nothing e = no-state f e
+
+      go : (t : Bool) → eqb (checkOf check.client client) 0 ≡ t → OldestSays b client (oldestIn client (y .records))
+      go true e = by-state (eqb-true (checkOf check.client client) 0 e) (oldestState client (y .records)) refl
       go false e = refused e
 
-by-book : {b client : List ℕ} {x : Pair} → Oldest Current b client x → (y : Book Current b) → OldestSays (y .records) client x
-by-book (oldest.Oldest.no-book n e) y = absurd (n y)
-by-book {b} {client} (oldest.Oldest.this-book z e) y = rw (e, one-book Current lawful b z y .2) (in-records client (y .records))
+no-book : {b : List ℕ} (client : List ℕ) → (ProperBook b → ⊥) → OldestSays b client (pair 9 0 0)
+no-book client n = record {
+  bad-book = (λ q. n, λ q. refl);
+  bad-client = λ m z i j. (λ q. absurd (i (sym q)), λ q. absurd (n (q .0)));
+  absent = (λ q. absurd (let w : ⊥ = omega arith in w), λ q. absurd (n (q .0)));
+  done = (λ q. absurd (let w : ⊥ = omega arith in w), λ q. absurd (n (q .3 .book)));
+  held = λ q. absurd (let w : ⊥ = omega arith in w);
+  least = λ q. absurd (let w : ⊥ = omega arith in w);
+}
+
+by-book : {b client : List ℕ} {x : Pair} → Oldest Current b client x → OldestSays b client x
+by-book {client = client} (oldest.Oldest.no-book n e) = rw e (no-book client n)
+by-book {client = client} (oldest.Oldest.this-book y e) = rw e (on-book client y)
 
 pub oldest-demand : OldestDemand
-oldest-demand b client x c y =
+oldest-demand b client x c =
     let p : Oldest Current (now (c .args .0)) (now (c .args .1 .0)) (c .result) = c .ensures in
-    by-book (rw (c .book-in, c .client-in, c .answer-out) at p) y
+    by-book (rw (c .book-in, c .client-in, c .answer-out) at p)

@@ -59,7 +59,7 @@ outcome-to (to-write v) b c a b₁ p = (p .0 .answer, p .0 .outcome, p .0 .numbe
 outcome-to to-remove b c a b₁ p = (p .0 .answer, p .0 .outcome, p .0 .number)
 outcome-to (to-look room) b c a b₁ p = let f = p .0 .found in (f .answer, rw (p .1) (f .outcome), p .0 .number ∙ ap (λ (w : Written). w .refusal) (f .written) ∙ written-number (f .answer))
 
-outcome-of : (b : List ℕ) (c : Call) (a : Seen) (b₁ : List ℕ) → Permitted b c a b₁ → (ans : Answer) × Outcome Current (meaning c) b ans b₁ × (a .number ≡ seen ans .number)
+pub outcome-of : (b : List ℕ) (c : Call) (a : Seen) (b₁ : List ℕ) → Permitted b c a b₁ → (ans : Answer) × Outcome Current (meaning c) b ans b₁ × (a .number ≡ seen ans .number)
 outcome-of b c a b₁ p = outcome-to (c .asked) b c a b₁ p
 
 -- on a book the calls do what its records do

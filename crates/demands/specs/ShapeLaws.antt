@@ -36,7 +36,7 @@ Wants ns (refused n) = Listed ns n
 Wants ns (text w) = Unit {0}
 
 module _ (ns : List ℕ) (four : Listed ns 4) where
-  answer-listed : (x : Wanted) (room : ℕ) → Wants ns x → Listed ns 0 → Listed ns (answer x room .refusal)
+  pub answer-listed : (x : Wanted) (room : ℕ) → Wants ns x → Listed ns 0 → Listed ns (answer x room .refusal)
   unfolding answer
   answer-listed (refused n) room h z = h
   answer-listed (text w) room h z = go (leb (length w) room)
@@ -45,7 +45,7 @@ module _ (ns : List ℕ) (four : Listed ns 4) where
       go true = z
       go false = four
 
-answer-zero : (x : Wanted) (room : ℕ) → (answer x room .refusal ≡ 0 → ⊥) → answer x room .length ≡ 0
+pub answer-zero : (x : Wanted) (room : ℕ) → (answer x room .refusal ≡ 0 → ⊥) → answer x room .length ≡ 0
 unfolding answer
 answer-zero (refused n) room h = refl
 answer-zero (text w) room h = go (leb (length w) room) h
@@ -138,7 +138,7 @@ module _ (P : ℕ → Type 0) (zero : P 0) where
           both-of (charsOf s) (first (within least most (length s)) (namedOf n s)) (chars-of s) (both-of (within least most (length s)) (namedOf n s) (within-of least most (length s)) (named-of n s))
 
       module _ (thirteen : P 13) where
-        name-of : (n : Name) (c : List ℕ) → P (nameFault n c)
+        pub name-of : (n : Name) (c : List ℕ) → P (nameFault n c)
         unfolding nameFault
         name-of Client c = plain-of 9 64 c
         name-of Connection c = indexed-of 10 64 (bytes "connection") c
@@ -183,7 +183,7 @@ accepted-wants ns n w h = go (eqb n 0)
 abbrev pub readings : List ℕ
 readings = 1 ∷ 2 ∷ 3 ∷ 17 ∷ 18 ∷ 19 ∷ 4 ∷ []
 
-reading-refusal : (w : Refusal) → Listed readings (refusalOf w)
+pub reading-refusal : (w : Refusal) → Listed readings (refusalOf w)
 reading-refusal TooLong = refl
 reading-refusal NotAscii = refl
 reading-refusal NotAPath = refl
@@ -199,13 +199,13 @@ key-wants t = go (readPath t)
     go (Read p e) = tt
     go (Refused w) = reading-refusal w
 
+pub bytes-wants : (x : Reading) → Wants readings (bytesBy x)
+bytes-wants (Read p e) = tt
+bytes-wants (Refused w) = reading-refusal w
+
 pub reading-wants : (t : List ℕ) → Wants readings (readingBytes t)
 unfolding readingBytes
-reading-wants t = go (readPath t)
-  where
-    go : (x : Reading) → Wants readings (bytesBy x)
-    go (Read p e) = tt
-    go (Refused w) = reading-refusal w
+reading-wants t = bytes-wants (readPath t)
 
 abbrev pub renderings : List ℕ
 renderings = 14 ∷ 2 ∷ 5 ∷ 6 ∷ 7 ∷ 17 ∷ 18 ∷ 19 ∷ 13 ∷ 1 ∷ 4 ∷ []

@@ -73,7 +73,7 @@ module _ (P : ℕ → Type 0) (zero : P 0) (other : P 21) where
           both-of P zero (charsIn wide s) (first (within least most (length s)) (namedOf n s)) (chars-number five s) (both-of P zero (within least most (length s)) (namedOf n s) (within-of six least most (length s)) (named-number P zero seven none more large n s))
 
       module _ (thirteen : P 13) where
-        name-of : (n : Name) (c : List ℕ) → P (nameFaultIn wide n c)
+        pub name-of : (n : Name) (c : List ℕ) → P (nameFaultIn wide n c)
         unfolding nameFaultIn
         name-of Client c = plain-of 9 64 c
         name-of Connection c = indexed-of 10 64 (bytes "connection") c

@@ -4,8 +4,6 @@ use Prim.Native.Nat.{ℕ}
 use mathlib.Core.Path.{_≡_, refl, sym, ap, _∙_}
 use mathlib.Core.Bool.{Bool, true, false, not}
 use mathlib.Core.List.{List}
-use lib.Dec.{eqb}
-use borrow.Author.Tests.{eqb-true, eqb-false}
 use Rattle.text.specs.Put as buffer
 use Rattle.text.specs.Refusal as refusal
 use Rattle.text.specs.declared.Written.{Written}
@@ -31,18 +29,25 @@ plain-by-mark m r p e h k = rw (h, k)
 pub lenient-taken : (m : Manner) (r : Reading) → m ≡ Lenient → false ≡ isLoose m r
 lenient-taken m r k = rw k
 
--- ---- the field's answer
+-- ---- the field's answer, and the field
 module _ (m : Manner) (t : List ℕ) (r : Reading) (by : r ≡ readPath t) (b : Bool) (told : b ≡ isLoose m r) where
   pub field-loose : b ≡ true → buffer.refusal refusal.loose ≡ keyAnswer (keyFor m t)
   unfolding keyAnswer
   field-loose h = rw (read-loose m t r by (sym told ∙ h))
 
+  pub loose-kept : b ≡ true → (out : List ℕ) → out ≡ buffer.left (keyFor m t) out
+  unfolding buffer.left
+  loose-kept h out = rw (read-loose m t r by (sym told ∙ h))
+
+  pub field-left : b ≡ false → (out o : List ℕ) → o ≡ buffer.left (keyOf t) out → o ≡ buffer.left (keyFor m t) out
+  field-left h out o e = e ∙ rw (read-taken m t r by (sym told ∙ h))
+
   module _ (w : Written) (n : ℕ) (size : n ≡ 255) (wrote : w ≡ buffer.answer (keyOf t) n) (taken : b ≡ false) where
     written : w ≡ buffer.answer (keyFor m t) 255
     written = wrote ∙ rw (size, read-taken m t r by (sym told ∙ taken))
 
-    pub field-long : eqb (w .refusal) 4 ≡ true → buffer.refusal 10 ≡ keyAnswer (keyFor m t)
-    field-long h = sym (answer-long m t (sym (ap (λ (v : Written). v .refusal) written) ∙ eqb-true (w .refusal) 4 h))
+    pub field-long : w .refusal ≡ 4 → buffer.refusal 10 ≡ keyAnswer (keyFor m t)
+    field-long h = sym (answer-long m t (sym (ap (λ (v : Written). v .refusal) written) ∙ h))
 
-    pub field-fits : eqb (w .refusal) 4 ≡ false → w ≡ keyAnswer (keyFor m t)
-    field-fits h = written ∙ sym (answer-other (keyFor m t) (λ q. eqb-false (w .refusal) 4 h (ap (λ (v : Written). v .refusal) written ∙ q)))
+    pub field-fits : (w .refusal ≡ 4 → ⊥) → w ≡ keyAnswer (keyFor m t)
+    field-fits h = written ∙ sym (answer-other (keyFor m t) (λ q. h (ap (λ (v : Written). v .refusal) written ∙ q)))

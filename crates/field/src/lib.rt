@@ -10,7 +10,6 @@ use walk::walk_path;
 ghost use mathlib.Core.Path.{_≡_};
 ghost use lib.ListN.{length};
 ghost use Rattle.text.specs.Put.{left};
-ghost use Rattle.path.specs.Read.{keyOf};
 ghost use Rattle.keys.specs.Calls.{isLoose, keyFor, keyAnswer};
 
 // Whether a call of that manner refuses what was read for its spelling.
@@ -26,23 +25,21 @@ fn is_loose(manner: Manner, reading: Reading) -> bool
     }
 }
 
-// Writes the key of a text into a field of 255 bytes: 1, 2, 3, in a plain call 20, 10.
+// Writes the key of a text into a field of 255 bytes: 1, 2, 3, in a plain call 20, 10. A refusal leaves the field as it was.
 pub fn key_into(manner: Manner, text: &[u8], field: &mut [u8]) -> Written
     requires { ⌜ length (now field) ≡ 255 ⌝ }
     ensures { λ r. ⌜ r ≡ keyAnswer (keyFor manner (now (text .entry))) ⌝ }
-    ensures { λ _. ⌜ now (field .exit) ≡ left (keyOf (now (text .entry))) (now (field .entry)) ⌝ }
+    ensures { λ _. ⌜ now (field .exit) ≡ left (keyFor manner (now (text .entry))) (now (field .entry)) ⌝ }
 {
     let reading = walk_path(text);
-    let loose = is_loose(manner, reading);
-    let w = write_read(text, reading, field);
-    let long = w.refusal == NO_ROOM;
-    if loose {
+    if is_loose(manner, reading) {
         return Written {
             refusal: LOOSE,
             length: 0,
         };
     }
-    if long {
+    let w = write_read(text, reading, field);
+    if w.refusal == NO_ROOM {
         return Written {
             refusal: KEY_TOO_LONG,
             length: 0,

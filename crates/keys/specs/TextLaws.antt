@@ -98,7 +98,7 @@ pub record Keyed (m : Manner) (t field : List ℕ) (n : ℕ) : Type 0 where
   pub room : n ≤ length field
   pub here : take n field ≡ key
 
-pub key-here : (m : Manner) (t field blank : List ℕ) (n : ℕ) → length blank ≡ 255 → keyAnswer (keyFor m t) .refusal ≡ 0 → n ≡ keyAnswer (keyFor m t) .length → field ≡ put.left (keyOf t) blank → Keyed m t field n
+pub key-here : (m : Manner) (t field blank : List ℕ) (n : ℕ) → length blank ≡ 255 → keyAnswer (keyFor m t) .refusal ≡ 0 → n ≡ keyAnswer (keyFor m t) .length → field ≡ put.left (keyFor m t) blank → Keyed m t field n
 unfolding keyAnswer
 key-here m t field blank n lb h en ef = go (key-for m t) refl h en
   where
@@ -108,7 +108,7 @@ key-here m t field blank n lb h en ef = go (key-for m t) refl h en
     go (keeps {k = k} e s) q z l = fits (leb (length k) 255) refl z l
       where
         f : field ≡ put.left (text k) blank
-        f = ef ∙ ap (λ (w : Wanted). put.left w blank) e
+        f = ef ∙ ap (λ (w : Wanted). put.left w blank) q
 
         fits : (v : Bool) → leb (length k) 255 ≡ v → (cond v (put.done (length k)) (put.refusal 10)) .refusal ≡ 0 → n ≡ (cond v (put.done (length k)) (put.refusal 10)) .length → Keyed m t field n
         fits true g z l =
@@ -150,5 +150,5 @@ module _ (m : Manner) (t : List ℕ) (w : Written) (e : w ≡ keyAnswer (keyFor 
   unfolding meaning
   refused-by q h = rw e (keyed-by (keyFor m t) (under q) (λ z. h (ap (λ (v : Written). v .refusal) e ∙ z)))
 
-  pub key-of : (field blank : List ℕ) → length blank ≡ 255 → w .refusal ≡ 0 → field ≡ put.left (keyOf t) blank → Keyed m t field (w .length)
+  pub key-of : (field blank : List ℕ) → length blank ≡ 255 → w .refusal ≡ 0 → field ≡ put.left (keyFor m t) blank → Keyed m t field (w .length)
   key-of field blank lb h f = key-here m t field blank (w .length) lb (sym (ap (λ (v : Written). v .refusal) e) ∙ h) (ap (λ (v : Written). v .length) e) f

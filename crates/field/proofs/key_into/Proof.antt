@@ -1,22 +1,31 @@
 -- `field::key_into` meets its contract.
 -- Assumes nothing.
-use Rattle.field.specs.FieldLaws.{field-loose, field-long, field-fits}
+use Rattle.field.specs.FieldLaws.{field-loose, loose-kept, field-left, field-long, field-fits}
 use borrow.Author.Needs.{needs}
 use Rattle.field.proofs.key_into.Statement.{statement}
 use Rattle.field.proofs.key_into.Tie as tie
 
 returns : tie.Need-returns
-returns c = (field-loose _ _ _ (c .before .before .before .before .before .before .before .walk-path .ensures) _ (c .before .before .before .before .before .before .is-loose .ensures) (c .if1 .taken), c .before .before .before .before .write-read .ensures .1)
+returns c =
+    let read = c .before .before .walk-path .ensures in
+    let told = c .before .is-loose .ensures in
+    (field-loose _ _ _ read _ told (c .if1 .taken), loose-kept _ _ _ read _ told (c .if1 .taken) _)
 
 returns-2 : tie.Need-returns-2
 returns-2 c =
-    let w = c .before .before .before .before .before .write-read in
-    (field-long _ _ _ (c .before .before .before .before .before .before .before .before .walk-path .ensures) _ (c .before .before .before .before .before .before .before .is-loose .ensures) _ _ (c .before .before .before .before .before .before .before .before .before .before .before .pre) (w .ensures .0) (c .before .if1 .left) (c .if2 .taken), w .ensures .1)
+    let read = c .before .before .before .before .before .before .before .before .walk-path .ensures in
+    let told = c .before .before .before .before .before .before .before .is-loose .ensures in
+    let taken = c .before .before .before .before .before .before .if1 .left in
+    let w = c .before .before .before .before .write-read .ensures in
+    (field-long _ _ _ read _ told _ _ (c .before .before .before .before .before .before .before .before .before .before .before .pre) (w .0) taken (c .if2 .taken), field-left _ _ _ read _ told taken _ _ (w .1))
 
 returns-3 : tie.Need-returns-3
 returns-3 c =
-    let w = c .before .before .before .before .before .write-read in
-    (field-fits _ _ _ (c .before .before .before .before .before .before .before .before .walk-path .ensures) _ (c .before .before .before .before .before .before .before .is-loose .ensures) _ _ (c .before .before .before .before .before .before .before .before .before .before .before .pre) (w .ensures .0) (c .before .if1 .left) (c .if2 .left), w .ensures .1)
+    let read = c .before .before .before .before .before .before .before .before .walk-path .ensures in
+    let told = c .before .before .before .before .before .before .before .is-loose .ensures in
+    let taken = c .before .before .before .before .before .before .if1 .left in
+    let w = c .before .before .before .before .write-read .ensures in
+    (field-fits _ _ _ read _ told _ _ (c .before .before .before .before .before .before .before .before .before .before .before .pre) (w .0) taken (c .if2 .left), field-left _ _ _ read _ told taken _ _ (w .1))
 
 pub key-into-spec : {M : Type 1} → statement M
 key-into-spec =
@@ -24,9 +33,8 @@ key-into-spec =
     (tie.spec
     (λ c κs. search needs)
     (λ c κs. search needs)
-    (λ c κs. search needs)
-    (λ c. search needs)
     returns
+    (λ c κs. search needs)
     (λ c. search needs)
     returns-2
     (λ c. search needs)
