@@ -36,6 +36,7 @@ use Rattle.demands.specs.KeepsLaws.{made-keeps, changed-keeps, found-kee
 use Rattle.demands.specs.AnswerLaws.{written-number, written-zero}
 use Rattle.demands.specs.Shape.{oneOf, Listed, AllZero, Demand1}
 use Rattle.demands.specs.ShapeLaws.{plain-of}
+use Rattle.demands.specs.Numbers.{inManner, writeNumbers, removeNumbers, lookNumbers}
 
 -- ---- the number of an answer, for any property that 0 and the call's refusals have
 module _ (P : ℕ → Type 0) (zero : P 0) (c : Call) (own : (n : ℕ) → Declined c n → P n)
@@ -73,11 +74,6 @@ unread-of P a b c d e f (NoDigits i) = d
 unread-of P a b c d e f (NotADigit i) = e
 unread-of P a b c d e f (TooLarge i) = f
 
--- a plain call has 20 too
-abbrev pub inManner : Manner → List ℕ → List ℕ
-inManner Plain ns = 20 ∷ ns
-inManner Lenient ns = ns
-
 also : (m : Manner) (ns : List ℕ) (n : ℕ) → Listed ns n → Listed (inManner m ns) n
 also Lenient ns n h = h
 also Plain ns n h = go (eqb n 20)
@@ -95,9 +91,6 @@ loose-too : (m : Manner) (t : List ℕ) (ns : List ℕ) → (Spelled m t → ⊥
 loose-too Plain t ns s = refl
 loose-too Lenient t ns s = absurd (s tt)
 
-abbrev pub writeNumbers : Manner → List ℕ
-writeNumbers m = inManner m (9 ∷ 1 ∷ 2 ∷ 3 ∷ 17 ∷ 18 ∷ 19 ∷ 10 ∷ 6 ∷ 11 ∷ [])
-
 pub write-listed : (m : Manner) (t v : List ℕ) {b : List ℕ} {a : Answer} {b₁ : List ℕ} → Outcome Current (meaning (write m t v)) b a b₁ → Listed (writeNumbers m) (seen a .number)
 write-listed m t v = outcome-of (Listed (writeNumbers m)) (ok 0 refl) (write m t v) own (λ k u good. ok 11 refl) (λ k good. absurd (let e = good .asked in let z : _≡_ {A = ℕ} 0 1 = cc in let y : ⊥ = omega arith in y)) (λ k room good. absurd (let e = good .asked in let z : _≡_ {A = ℕ} 0 1 = cc in let y : ⊥ = omega arith in y)) (ok 9 refl)
   where
@@ -113,9 +106,6 @@ write-listed m t v = outcome-of (Listed (writeNumbers m)) (ok 0 refl) (write m t
     own n (bad-length q h f) = ok 6 refl
     own n (no-room q h l) = absurd (let z : _≡_ {A = ℕ} 0 1 = cc in let y : ⊥ = omega arith in y)
 
-abbrev pub removeNumbers : Manner → List ℕ
-removeNumbers m = inManner m (9 ∷ 1 ∷ 2 ∷ 3 ∷ 17 ∷ 18 ∷ 19 ∷ 10 ∷ 12 ∷ [])
-
 pub remove-listed : (m : Manner) (t : List ℕ) {b : List ℕ} {a : Answer} {b₁ : List ℕ} → Outcome Current (meaning (remove m t)) b a b₁ → Listed (removeNumbers m) (seen a .number)
 remove-listed m t = outcome-of (Listed (removeNumbers m)) (ok 0 refl) (remove m t) own (λ k u good. absurd (let e = good .asked in let z : _≡_ {A = ℕ} 0 1 = cc in let y : ⊥ = omega arith in y)) (λ k good. ok 12 refl) (λ k room good. ok 12 refl) (ok 9 refl)
   where
@@ -130,9 +120,6 @@ remove-listed m t = outcome-of (Listed (removeNumbers m)) (ok 0 refl) (remove m 
     own n (key-too-long p s l) = ok 10 refl
     own n (bad-length q h f) = absurd (let z : _≡_ {A = ℕ} 0 1 = cc in let y : ⊥ = omega arith in y)
     own n (no-room q h l) = absurd (let z : _≡_ {A = ℕ} 0 1 = cc in let y : ⊥ = omega arith in y)
-
-abbrev pub lookNumbers : Manner → List ℕ
-lookNumbers m = inManner m (9 ∷ 1 ∷ 2 ∷ 3 ∷ 17 ∷ 18 ∷ 19 ∷ 10 ∷ 4 ∷ 12 ∷ [])
 
 pub look-listed : (m : Manner) (t : List ℕ) (room : ℕ) {b : List ℕ} {a : Answer} {b₁ : List ℕ} → Outcome Current (meaning (look m t room)) b a b₁ → Listed (lookNumbers m) (seen a .number)
 look-listed m t room = outcome-of (Listed (lookNumbers m)) (ok 0 refl) (look m t room) own (λ k u good. absurd (let e = good .asked in let z : _≡_ {A = ℕ} 0 1 = cc in let y : ⊥ = omega arith in y)) (λ k good. ok 12 refl) (λ k r good. ok 12 refl) (ok 9 refl)

@@ -35,13 +35,14 @@ use Rattle.keys.specs.Calls.{write, remove}
 use Rattle.iteration.specs.Block.{blockOf, firstAbove, lastBelow, scanned}
 use Rattle.iteration.specs.Key.{iterationKey, revision, keyIn, answered, pairOf}
 use Rattle.packet.specs.Key.{packetWanted, packetOf}
+use Rattle.demands.specs.Numbers.{readings, renderings, clients, ends, wideReadings, wideRenderings, wideClients, wideEnds, packetReads, packetWrites, writeNumbers, removeNumbers, lookNumbers, named, indexes, wideNamed, wideIndexes, names, wideNames, unread, room}
 use Rattle.demands.specs.Shape.{Listed, Demand1}
-use Rattle.demands.specs.ShapeLaws.{writes, writes-number, checks, readings, key-wants, reading-wants, renderings, render-wants, clients, client-wants, channel-wants, leaf-wants, update-wants, parent-wants, ends, packets-wants, plain-of, indexed-of, name-of, named-number, chars-number, length-number, prefix-number, named-index-number, bytes-wants, answer-listed}
+use Rattle.demands.specs.ShapeLaws.{writes, writes-number, checks, key-wants, reading-wants, render-wants, client-wants, channel-wants, leaf-wants, update-wants, parent-wants, packets-wants, plain-of, indexed-of, name-of, named-number, chars-number, length-number, prefix-number, named-index-number, bytes-wants, answer-listed}
 use Rattle.demands.specs.FunctionShapeLaws.{within-number, wide-chars-number, reading-number, shown-wants, written-listed, owned}
 use Rattle.demands.specs.WideShapeLaws as wides
 use Rattle.demands.specs.IterationLaws.{pairs, key-refuses, scan-refuses}
-use Rattle.demands.specs.PacketLaws.{packetReads, packetWrites, packet-wants, packets}
-use Rattle.demands.specs.BookNumberLaws.{unread-of, in-plain, writeNumbers, removeNumbers, lookNumbers, write-listed, remove-listed, provable-demand, made-demand, changed-demand, found-demand, converted-demand, oldest-demand}
+use Rattle.demands.specs.PacketLaws.{packet-wants, packets}
+use Rattle.demands.specs.BookNumberLaws.{unread-of, in-plain, write-listed, remove-listed, provable-demand, made-demand, changed-demand, found-demand, converted-demand, oldest-demand}
 use Rattle.demands.specs.TableNumberLaws.{filled-demand, looked-many-demand}
 use Rattle.hostpath.proofs.hp_client_id_new.Reads as hp-client-id-new
 use Rattle.hostpath.proofs.hp_channel_id_new.Reads as hp-channel-id-new
@@ -186,33 +187,6 @@ use Rattle.oldest.proofs.oldest.Reads as oldest
 use Rattle.convert.proofs.convert.Reads as convert
 use Rattle.table.proofs.many.fill.Reads as fill
 use Rattle.table.proofs.many.look_many.Reads as look-many
-
--- the check of a name and an index, and that of an identifier that is such
-abbrev named : List ℕ
-named = 2 ∷ 7 ∷ 17 ∷ 18 ∷ 19 ∷ []
-
-abbrev indexes : List ℕ
-indexes = 2 ∷ 5 ∷ 6 ∷ 7 ∷ 17 ∷ 18 ∷ 19 ∷ []
-
-abbrev wideNamed : List ℕ
-wideNamed = 21 ∷ 7 ∷ 17 ∷ 18 ∷ 19 ∷ []
-
-abbrev wideIndexes : List ℕ
-wideIndexes = 21 ∷ 5 ∷ 6 ∷ 7 ∷ 17 ∷ 18 ∷ 19 ∷ []
-
--- an identifier of a path, and why a text is not read
-abbrev names : List ℕ
-names = 2 ∷ 5 ∷ 6 ∷ 7 ∷ 17 ∷ 18 ∷ 19 ∷ 13 ∷ []
-
-abbrev wideNames : List ℕ
-wideNames = 21 ∷ 5 ∷ 6 ∷ 7 ∷ 17 ∷ 18 ∷ 19 ∷ 13 ∷ []
-
-abbrev unread : List ℕ
-unread = 1 ∷ 2 ∷ 3 ∷ 17 ∷ 18 ∷ 19 ∷ []
-
--- a text that is always there: only the room can lack
-abbrev room : List ℕ
-room = 4 ∷ []
 
 -- ---- calls that write a text
 pub hp-client-id-new-holds : Demand1 hp-client-id-new.Pre hp-client-id-new.Post clients (λ κs r. r .refusal) (λ κs r. r .length ∷ []) (λ κs a. now (a .1 .1 .0)) (λ κs s. now (s .1 .1 .0))
@@ -363,7 +337,7 @@ hp-wide-validate-prefix-length-holds = checks (21 ∷ 6 ∷ []) (λ κs a. tt) (
 
 pub hp-wide-validate-named-u64-index-holds : Demand1 hp-wide-validate-named-u64-index.Pre hp-wide-validate-named-u64-index.Post wideNamed (λ κs r. r .refusal) (λ κs r. []) (λ κs a. []) (λ κs s. [])
 unfolding namedIndexFaultIn
-hp-wide-validate-named-u64-index-holds = checks wideNamed (λ κs a. tt) (λ κs r. r .refusal) (λ κs a r s p. subst (Listed wideNamed) (sym (ap (λ (f : Fault). f .refusal) p)) (wides.named-index-number (Listed wideNamed) refl refl refl refl refl refl _ _))
+hp-wide-validate-named-u64-index-holds = checks wideNamed (λ κs a. tt) (λ κs r. r .refusal) (λ κs a r s p. subst (Listed wideNamed) (sym (ap (λ (f : Fault). f .refusal) p)) (named-index-number (Listed wideNamed) refl refl refl refl refl refl _ _))
 
 pub hp-wide-validate-client-type-holds : Demand1 hp-wide-validate-client-type.Pre hp-wide-validate-client-type.Post (21 ∷ 5 ∷ 6 ∷ []) (λ κs r. r) (λ κs r. []) (λ κs a. []) (λ κs s. [])
 hp-wide-validate-client-type-holds = checks (21 ∷ 5 ∷ 6 ∷ []) (λ κs a. tt) (λ κs r. r) (λ κs a r s p. subst (Listed (21 ∷ 5 ∷ 6 ∷ [])) (sym p) (wides.plain-of (Listed (21 ∷ 5 ∷ 6 ∷ [])) refl refl refl refl 7 43 _))
@@ -382,30 +356,30 @@ pub hp-wide-validate-channel-identifier-holds : Demand1 hp-wide-validate-channel
 unfolding faultIn
 hp-wide-validate-channel-identifier-holds = checks wideIndexes (λ κs a. tt) (λ κs r. r .refusal) (λ κs a r s p. subst (Listed wideIndexes) (sym (ap (λ (f : Fault). f .refusal) p)) (wides.indexed-of (Listed wideIndexes) refl refl refl refl refl refl refl refl 8 64 _ _))
 
-pub hp-wide-client-id-new-holds : Demand1 hp-wide-client-id-new.Pre hp-wide-client-id-new.Post wides.wideClients (λ κs r. r .refusal) (λ κs r. r .length ∷ []) (λ κs a. now (a .1 .1 .0)) (λ κs s. now (s .1 .1 .0))
-hp-wide-client-id-new-holds = writes wides.wideClients _ _ (λ κs a. tt) (λ κs r. r) (λ κs a. newClientIn wide (now (a .0)) (a .1 .0)) refl refl (λ κs a. wides.client-wants _ _) (λ κs a r s p. p)
+pub hp-wide-client-id-new-holds : Demand1 hp-wide-client-id-new.Pre hp-wide-client-id-new.Post wideClients (λ κs r. r .refusal) (λ κs r. r .length ∷ []) (λ κs a. now (a .1 .1 .0)) (λ κs s. now (s .1 .1 .0))
+hp-wide-client-id-new-holds = writes wideClients _ _ (λ κs a. tt) (λ κs r. r) (λ κs a. newClientIn wide (now (a .0)) (a .1 .0)) refl refl (λ κs a. wides.client-wants _ _) (λ κs a r s p. p)
 
-pub hp-wide-read-holds : Demand1 hp-wide-read.Pre hp-wide-read.Post wides.wideReadings (λ κs r. r .refusal) (λ κs r. []) (λ κs a. now (a .1 .0)) (λ κs s. now (s .1 .0))
+pub hp-wide-read-holds : Demand1 hp-wide-read.Pre hp-wide-read.Post wideReadings (λ κs r. r .refusal) (λ κs r. []) (λ κs a. now (a .1 .0)) (λ κs s. now (s .1 .0))
 unfolding readFaultIn
-hp-wide-read-holds = writes-number wides.wideReadings _ _ (λ κs a. tt) (λ κs r. r .refusal) (λ κs a. readingBytesIn wide (now (a .0))) refl refl (λ κs a. wides.reading-wants _) (λ κs a r s p. (ap (λ (f : Fault). f .refusal) (p .0), p .1))
+hp-wide-read-holds = writes-number wideReadings _ _ (λ κs a. tt) (λ κs r. r .refusal) (λ κs a. readingBytesIn wide (now (a .0))) refl refl (λ κs a. wides.reading-wants _) (λ κs a r s p. (ap (λ (f : Fault). f .refusal) (p .0), p .1))
 
-pub hp-wide-key-holds : Demand1 hp-wide-key.Pre hp-wide-key.Post wides.wideReadings (λ κs r. r .refusal) (λ κs r. r .length ∷ []) (λ κs a. now (a .1 .0)) (λ κs s. now (s .1 .0))
-hp-wide-key-holds = writes wides.wideReadings _ _ (λ κs a. tt) (λ κs r. r) (λ κs a. wideKeyIn wide (now (a .0))) refl refl (λ κs a. wides.key-wants _) (λ κs a r s p. p)
+pub hp-wide-key-holds : Demand1 hp-wide-key.Pre hp-wide-key.Post wideReadings (λ κs r. r .refusal) (λ κs r. r .length ∷ []) (λ κs a. now (a .1 .0)) (λ κs s. now (s .1 .0))
+hp-wide-key-holds = writes wideReadings _ _ (λ κs a. tt) (λ κs r. r) (λ κs a. wideKeyIn wide (now (a .0))) refl refl (λ κs a. wides.key-wants _) (λ κs a r s p. p)
 
-pub hp-wide-render-holds : Demand1 hp-wide-render.Pre hp-wide-render.Post wides.wideRenderings (λ κs r. r .refusal) (λ κs r. r .length ∷ []) (λ κs a. now (a .1 .1 .1 .1 .1 .0)) (λ κs s. now (s .1 .1 .1 .1 .1 .0))
-hp-wide-render-holds = writes wides.wideRenderings _ _ (λ κs a. tt) (λ κs r. r) (λ κs a. renderIn wide (a .0) (carried (now (a .1 .0)) (now (a .1 .1 .0)) (a .1 .1 .1 .0) (a .1 .1 .1 .1 .0))) refl refl (λ κs a. wides.render-wants _ _) (λ κs a r s p. p)
+pub hp-wide-render-holds : Demand1 hp-wide-render.Pre hp-wide-render.Post wideRenderings (λ κs r. r .refusal) (λ κs r. r .length ∷ []) (λ κs a. now (a .1 .1 .1 .1 .1 .0)) (λ κs s. now (s .1 .1 .1 .1 .1 .0))
+hp-wide-render-holds = writes wideRenderings _ _ (λ κs a. tt) (λ κs r. r) (λ κs a. renderIn wide (a .0) (carried (now (a .1 .0)) (now (a .1 .1 .0)) (a .1 .1 .1 .0) (a .1 .1 .1 .1 .0))) refl refl (λ κs a. wides.render-wants _ _) (λ κs a r s p. p)
 
-pub hp-wide-consensus-state-parent-holds : Demand1 hp-wide-consensus-state-parent.Pre hp-wide-consensus-state-parent.Post wides.wideClients (λ κs r. r .refusal) (λ κs r. r .length ∷ []) (λ κs a. now (a .1 .0)) (λ κs s. now (s .1 .0))
-hp-wide-consensus-state-parent-holds = writes wides.wideClients _ _ (λ κs a. tt) (λ κs r. r) (λ κs a. textIn wide consensusParent (carried (now (a .0)) [] 0 0)) refl refl (λ κs a. wides.parent-wants _) (λ κs a r s p. p)
+pub hp-wide-consensus-state-parent-holds : Demand1 hp-wide-consensus-state-parent.Pre hp-wide-consensus-state-parent.Post wideClients (λ κs r. r .refusal) (λ κs r. r .length ∷ []) (λ κs a. now (a .1 .0)) (λ κs s. now (s .1 .0))
+hp-wide-consensus-state-parent-holds = writes wideClients _ _ (λ κs a. tt) (λ κs r. r) (λ κs a. textIn wide consensusParent (carried (now (a .0)) [] 0 0)) refl refl (λ κs a. wides.parent-wants _) (λ κs a r s p. p)
 
-pub hp-wide-commitments-path-holds : Demand1 hp-wide-commitments-path.Pre hp-wide-commitments-path.Post wides.wideEnds (λ κs r. r .refusal) (λ κs r. r .length ∷ []) (λ κs a. now (a .1 .1 .0)) (λ κs s. now (s .1 .1 .0))
-hp-wide-commitments-path-holds = writes wides.wideEnds _ _ (λ κs a. tt) (λ κs r. r) (λ κs a. textIn wide (packetsPath (bytes "commitments")) (carried (now (a .0)) (now (a .1 .0)) 0 0)) refl refl (λ κs a. wides.packets-wants _ _) (λ κs a r s p. p)
+pub hp-wide-commitments-path-holds : Demand1 hp-wide-commitments-path.Pre hp-wide-commitments-path.Post wideEnds (λ κs r. r .refusal) (λ κs r. r .length ∷ []) (λ κs a. now (a .1 .1 .0)) (λ κs s. now (s .1 .1 .0))
+hp-wide-commitments-path-holds = writes wideEnds _ _ (λ κs a. tt) (λ κs r. r) (λ κs a. textIn wide (packetsPath (bytes "commitments")) (carried (now (a .0)) (now (a .1 .0)) 0 0)) refl refl (λ κs a. wides.packets-wants _ _) (λ κs a r s p. p)
 
-pub hp-wide-acks-path-holds : Demand1 hp-wide-acks-path.Pre hp-wide-acks-path.Post wides.wideEnds (λ κs r. r .refusal) (λ κs r. r .length ∷ []) (λ κs a. now (a .1 .1 .0)) (λ κs s. now (s .1 .1 .0))
-hp-wide-acks-path-holds = writes wides.wideEnds _ _ (λ κs a. tt) (λ κs r. r) (λ κs a. textIn wide (packetsPath (bytes "acks")) (carried (now (a .0)) (now (a .1 .0)) 0 0)) refl refl (λ κs a. wides.packets-wants _ _) (λ κs a r s p. p)
+pub hp-wide-acks-path-holds : Demand1 hp-wide-acks-path.Pre hp-wide-acks-path.Post wideEnds (λ κs r. r .refusal) (λ κs r. r .length ∷ []) (λ κs a. now (a .1 .1 .0)) (λ κs s. now (s .1 .1 .0))
+hp-wide-acks-path-holds = writes wideEnds _ _ (λ κs a. tt) (λ κs r. r) (λ κs a. textIn wide (packetsPath (bytes "acks")) (carried (now (a .0)) (now (a .1 .0)) 0 0)) refl refl (λ κs a. wides.packets-wants _ _) (λ κs a r s p. p)
 
-pub hp-wide-receipts-path-holds : Demand1 hp-wide-receipts-path.Pre hp-wide-receipts-path.Post wides.wideEnds (λ κs r. r .refusal) (λ κs r. r .length ∷ []) (λ κs a. now (a .1 .1 .0)) (λ κs s. now (s .1 .1 .0))
-hp-wide-receipts-path-holds = writes wides.wideEnds _ _ (λ κs a. tt) (λ κs r. r) (λ κs a. textIn wide (packetsPath (bytes "receipts")) (carried (now (a .0)) (now (a .1 .0)) 0 0)) refl refl (λ κs a. wides.packets-wants _ _) (λ κs a r s p. p)
+pub hp-wide-receipts-path-holds : Demand1 hp-wide-receipts-path.Pre hp-wide-receipts-path.Post wideEnds (λ κs r. r .refusal) (λ κs r. r .length ∷ []) (λ κs a. now (a .1 .1 .0)) (λ κs s. now (s .1 .1 .0))
+hp-wide-receipts-path-holds = writes wideEnds _ _ (λ κs a. tt) (λ κs r. r) (λ κs a. textIn wide (packetsPath (bytes "receipts")) (carried (now (a .0)) (now (a .1 .0)) 0 0)) refl refl (λ κs a. wides.packets-wants _ _) (λ κs a r s p. p)
 
 -- ---- calls that answer a revision number and a height
 pub hp-read-iteration-key-holds : Demand1 hp-read-iteration-key.Pre hp-read-iteration-key.Post (15 ∷ []) (λ κs r. r .refusal) (λ κs r. r .number ∷ r .height ∷ []) (λ κs a. []) (λ κs s. [])
@@ -493,30 +467,30 @@ receipt-prefix-holds = writes room _ _ (λ κs a. tt) (λ κs r. r) (λ κs a. t
 pub give-holds : Demand1 give.Pre give.Post room (λ κs r. r .refusal) (λ κs r. r .length ∷ []) (λ κs a. now (a .0)) (λ κs s. now (s .0))
 give-holds = writes room _ _ (λ κs a. tt) (λ κs r. r) (λ κs a. text (now (a .1 .0))) refl refl (λ κs a. tt) (λ κs a r s p. p)
 
-pub wide-write-client-id-holds : Demand1 wide-write-client-id.Pre wide-write-client-id.Post wides.wideClients (λ κs r. r .refusal) (λ κs r. r .length ∷ []) (λ κs a. now (a .1 .1 .0)) (λ κs s. now (s .1 .1 .0))
-wide-write-client-id-holds = writes wides.wideClients _ _ (λ κs a. tt) (λ κs r. r) (λ κs a. newClientIn wide (now (a .0)) (a .1 .0)) refl refl (λ κs a. wides.client-wants _ _) (λ κs a r s p. p)
+pub wide-write-client-id-holds : Demand1 wide-write-client-id.Pre wide-write-client-id.Post wideClients (λ κs r. r .refusal) (λ κs r. r .length ∷ []) (λ κs a. now (a .1 .1 .0)) (λ κs s. now (s .1 .1 .0))
+wide-write-client-id-holds = writes wideClients _ _ (λ κs a. tt) (λ κs r. r) (λ κs a. newClientIn wide (now (a .0)) (a .1 .0)) refl refl (λ κs a. wides.client-wants _ _) (λ κs a r s p. p)
 
-pub wide-write-key-holds : Demand1 wide-write-key.Pre wide-write-key.Post wides.wideReadings (λ κs r. r .refusal) (λ κs r. r .length ∷ []) (λ κs a. now (a .1 .0)) (λ κs s. now (s .1 .0))
-wide-write-key-holds = writes wides.wideReadings _ _ (λ κs a. tt) (λ κs r. r) (λ κs a. wideKeyIn wide (now (a .0))) refl refl (λ κs a. wides.key-wants _) (λ κs a r s p. p)
+pub wide-write-key-holds : Demand1 wide-write-key.Pre wide-write-key.Post wideReadings (λ κs r. r .refusal) (λ κs r. r .length ∷ []) (λ κs a. now (a .1 .0)) (λ κs s. now (s .1 .0))
+wide-write-key-holds = writes wideReadings _ _ (λ κs a. tt) (λ κs r. r) (λ κs a. wideKeyIn wide (now (a .0))) refl refl (λ κs a. wides.key-wants _) (λ κs a r s p. p)
 
-pub wide-write-reading-holds : Demand1 wide-write-reading.Pre wide-write-reading.Post wides.wideReadings (λ κs r. r .refusal) (λ κs r. []) (λ κs a. now (a .1 .0)) (λ κs s. now (s .1 .0))
+pub wide-write-reading-holds : Demand1 wide-write-reading.Pre wide-write-reading.Post wideReadings (λ κs r. r .refusal) (λ κs r. []) (λ κs a. now (a .1 .0)) (λ κs s. now (s .1 .0))
 unfolding readFaultIn
-wide-write-reading-holds = writes-number wides.wideReadings _ _ (λ κs a. tt) (λ κs r. r .refusal) (λ κs a. readingBytesIn wide (now (a .0))) refl refl (λ κs a. wides.reading-wants _) (λ κs a r s p. (ap (λ (f : Fault). f .refusal) (p .0), p .1))
+wide-write-reading-holds = writes-number wideReadings _ _ (λ κs a. tt) (λ κs r. r .refusal) (λ κs a. readingBytesIn wide (now (a .0))) refl refl (λ κs a. wides.reading-wants _) (λ κs a r s p. (ap (λ (f : Fault). f .refusal) (p .0), p .1))
 
-pub wide-render-holds : Demand1 wide-render.Pre wide-render.Post wides.wideRenderings (λ κs r. r .refusal) (λ κs r. r .length ∷ []) (λ κs a. now (a .1 .1 .1 .1 .1 .0)) (λ κs s. now (s .1 .1 .1 .1 .1 .0))
-wide-render-holds = writes wides.wideRenderings _ _ (λ κs a. tt) (λ κs r. r) (λ κs a. renderIn wide (a .0) (carried (now (a .1 .0)) (now (a .1 .1 .0)) (a .1 .1 .1 .0) (a .1 .1 .1 .1 .0))) refl refl (λ κs a. wides.render-wants _ _) (λ κs a r s p. p)
+pub wide-render-holds : Demand1 wide-render.Pre wide-render.Post wideRenderings (λ κs r. r .refusal) (λ κs r. r .length ∷ []) (λ κs a. now (a .1 .1 .1 .1 .1 .0)) (λ κs s. now (s .1 .1 .1 .1 .1 .0))
+wide-render-holds = writes wideRenderings _ _ (λ κs a. tt) (λ κs r. r) (λ κs a. renderIn wide (a .0) (carried (now (a .1 .0)) (now (a .1 .1 .0)) (a .1 .1 .1 .0) (a .1 .1 .1 .1 .0))) refl refl (λ κs a. wides.render-wants _ _) (λ κs a r s p. p)
 
-pub wide-consensus-state-parent-holds : Demand1 wide-consensus-state-parent.Pre wide-consensus-state-parent.Post wides.wideClients (λ κs r. r .refusal) (λ κs r. r .length ∷ []) (λ κs a. now (a .1 .0)) (λ κs s. now (s .1 .0))
-wide-consensus-state-parent-holds = writes wides.wideClients _ _ (λ κs a. tt) (λ κs r. r) (λ κs a. textIn wide consensusParent (carried (now (a .0)) [] 0 0)) refl refl (λ κs a. wides.parent-wants _) (λ κs a r s p. p)
+pub wide-consensus-state-parent-holds : Demand1 wide-consensus-state-parent.Pre wide-consensus-state-parent.Post wideClients (λ κs r. r .refusal) (λ κs r. r .length ∷ []) (λ κs a. now (a .1 .0)) (λ κs s. now (s .1 .0))
+wide-consensus-state-parent-holds = writes wideClients _ _ (λ κs a. tt) (λ κs r. r) (λ κs a. textIn wide consensusParent (carried (now (a .0)) [] 0 0)) refl refl (λ κs a. wides.parent-wants _) (λ κs a r s p. p)
 
-pub wide-commitments-path-holds : Demand1 wide-commitments-path.Pre wide-commitments-path.Post wides.wideEnds (λ κs r. r .refusal) (λ κs r. r .length ∷ []) (λ κs a. now (a .1 .1 .0)) (λ κs s. now (s .1 .1 .0))
-wide-commitments-path-holds = writes wides.wideEnds _ _ (λ κs a. tt) (λ κs r. r) (λ κs a. textIn wide (packetsPath (bytes "commitments")) (carried (now (a .0)) (now (a .1 .0)) 0 0)) refl refl (λ κs a. wides.packets-wants _ _) (λ κs a r s p. p)
+pub wide-commitments-path-holds : Demand1 wide-commitments-path.Pre wide-commitments-path.Post wideEnds (λ κs r. r .refusal) (λ κs r. r .length ∷ []) (λ κs a. now (a .1 .1 .0)) (λ κs s. now (s .1 .1 .0))
+wide-commitments-path-holds = writes wideEnds _ _ (λ κs a. tt) (λ κs r. r) (λ κs a. textIn wide (packetsPath (bytes "commitments")) (carried (now (a .0)) (now (a .1 .0)) 0 0)) refl refl (λ κs a. wides.packets-wants _ _) (λ κs a r s p. p)
 
-pub wide-acks-path-holds : Demand1 wide-acks-path.Pre wide-acks-path.Post wides.wideEnds (λ κs r. r .refusal) (λ κs r. r .length ∷ []) (λ κs a. now (a .1 .1 .0)) (λ κs s. now (s .1 .1 .0))
-wide-acks-path-holds = writes wides.wideEnds _ _ (λ κs a. tt) (λ κs r. r) (λ κs a. textIn wide (packetsPath (bytes "acks")) (carried (now (a .0)) (now (a .1 .0)) 0 0)) refl refl (λ κs a. wides.packets-wants _ _) (λ κs a r s p. p)
+pub wide-acks-path-holds : Demand1 wide-acks-path.Pre wide-acks-path.Post wideEnds (λ κs r. r .refusal) (λ κs r. r .length ∷ []) (λ κs a. now (a .1 .1 .0)) (λ κs s. now (s .1 .1 .0))
+wide-acks-path-holds = writes wideEnds _ _ (λ κs a. tt) (λ κs r. r) (λ κs a. textIn wide (packetsPath (bytes "acks")) (carried (now (a .0)) (now (a .1 .0)) 0 0)) refl refl (λ κs a. wides.packets-wants _ _) (λ κs a r s p. p)
 
-pub wide-receipts-path-holds : Demand1 wide-receipts-path.Pre wide-receipts-path.Post wides.wideEnds (λ κs r. r .refusal) (λ κs r. r .length ∷ []) (λ κs a. now (a .1 .1 .0)) (λ κs s. now (s .1 .1 .0))
-wide-receipts-path-holds = writes wides.wideEnds _ _ (λ κs a. tt) (λ κs r. r) (λ κs a. textIn wide (packetsPath (bytes "receipts")) (carried (now (a .0)) (now (a .1 .0)) 0 0)) refl refl (λ κs a. wides.packets-wants _ _) (λ κs a r s p. p)
+pub wide-receipts-path-holds : Demand1 wide-receipts-path.Pre wide-receipts-path.Post wideEnds (λ κs r. r .refusal) (λ κs r. r .length ∷ []) (λ κs a. now (a .1 .1 .0)) (λ κs s. now (s .1 .1 .0))
+wide-receipts-path-holds = writes wideEnds _ _ (λ κs a. tt) (λ κs r. r) (λ κs a. textIn wide (packetsPath (bytes "receipts")) (carried (now (a .0)) (now (a .1 .0)) 0 0)) refl refl (λ κs a. wides.packets-wants _ _) (λ κs a r s p. p)
 
 -- ---- the functions that a Rattle caller checks with
 pub validate-identifier-chars-holds : Demand1 validate-identifier-chars.Pre validate-identifier-chars.Post (2 ∷ 5 ∷ []) (λ κs r. r) (λ κs r. []) (λ κs a. []) (λ κs s. [])
@@ -581,7 +555,7 @@ wide-validate-prefix-length-holds = checks (21 ∷ 6 ∷ []) (λ κs a. tt) (λ 
 
 pub wide-validate-named-u64-index-holds : Demand1 wide-validate-named-u64-index.Pre wide-validate-named-u64-index.Post wideNamed (λ κs r. r .refusal) (λ κs r. []) (λ κs a. []) (λ κs s. [])
 unfolding namedIndexFaultIn
-wide-validate-named-u64-index-holds = checks wideNamed (λ κs a. tt) (λ κs r. r .refusal) (λ κs a r s p. subst (Listed wideNamed) (sym (ap (λ (f : Fault). f .refusal) p)) (wides.named-index-number (Listed wideNamed) refl refl refl refl refl refl _ _))
+wide-validate-named-u64-index-holds = checks wideNamed (λ κs a. tt) (λ κs r. r .refusal) (λ κs a r s p. subst (Listed wideNamed) (sym (ap (λ (f : Fault). f .refusal) p)) (named-index-number (Listed wideNamed) refl refl refl refl refl refl _ _))
 
 pub wide-validate-client-type-holds : Demand1 wide-validate-client-type.Pre wide-validate-client-type.Post (21 ∷ 5 ∷ 6 ∷ []) (λ κs r. r) (λ κs r. []) (λ κs a. []) (λ κs s. [])
 wide-validate-client-type-holds = checks (21 ∷ 5 ∷ 6 ∷ []) (λ κs a. tt) (λ κs r. r) (λ κs a r s p. subst (Listed (21 ∷ 5 ∷ 6 ∷ [])) (sym p) (wides.plain-of (Listed (21 ∷ 5 ∷ 6 ∷ [])) refl refl refl refl 7 43 _))

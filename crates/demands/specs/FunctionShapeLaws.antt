@@ -23,8 +23,9 @@ use Rattle.path.specs.Read.{render, partsOf, numberOf}
 use Rattle.path.specs.View.{kindOf, carriedOf}
 use Rattle.render.specs.Render.{short}
 use Rattle.key.specs.Key.{shownBy}
+use Rattle.demands.specs.Numbers.{readings}
 use Rattle.demands.specs.Shape.{Listed, AllZero, Demand1}
-use Rattle.demands.specs.ShapeLaws.{Wants, one-of, both-of, accepted-wants, readings, reading-refusal, answer-zero}
+use Rattle.demands.specs.ShapeLaws.{Wants, one-of, both-of, accepted-wants, reading-refusal, answer-zero}
 use Rattle.demands.specs.BookNumberLaws.{unread-of}
 
 -- ---- the numbers, for any property that 0 and these have

@@ -6,6 +6,7 @@
 -- and `WideRendered`; the packet keys of request L11 are in `Packets`, in the words of `PacketCalls` and `Packeted`; what lies below a path, request L12,
 -- is `Below`, in the words of `Above`; filling a table and many lookups, request L9, are in `ManyCall`; `Useless` shows which line each useless build
 -- breaks. Files that end in `Laws` may be skipped.
+pub mod Numbers
 pub mod Shape
 pub mod ShapeLaws
 pub mod KeepsLaws
@@ -31,6 +32,7 @@ pub mod WideCalls
 pub mod WideWritten
 pub mod WideAlikeLaws
 pub mod WideLaws
+pub mod WideTrimLaws
 pub mod WideBackLaws
 pub mod WideCallLaws
 pub mod WideRendered

@@ -43,6 +43,7 @@ use Rattle.demands.specs.Refusals as refusals
 use Rattle.demands.specs.Shape.{Listed, AllZero, Demand1}
 use Rattle.demands.specs.ShapeLaws.{Wants, plain-of, accepted-wants}
 use Rattle.demands.specs.Written.{Done}
+use Rattle.demands.specs.Numbers.{packetReads, packetWrites}
 
 number : {x y : Packet} → x ≡ y → x .refusal ≡ y .refusal
 number e = ap (λ (p : Packet). p .refusal) e
@@ -266,12 +267,6 @@ module _ (key : List ℕ) (b : Bytes key) (y : Packet) (e : y ≡ packetOf (pack
       nonzero false q = omega (arith, q)
 
 -- ---- demand 1
-abbrev pub packetReads : List ℕ
-packetReads = 24 ∷ 2 ∷ 5 ∷ 6 ∷ []
-
-abbrev pub packetWrites : List ℕ
-packetWrites = 24 ∷ 2 ∷ 5 ∷ 6 ∷ 4 ∷ []
-
 read-listed : (key : List ℕ) → Listed packetReads (packetOf (packetIn key) .refusal)
 unfolding packetIn
 read-listed key = go (ltb (length key) 9) (kindOf (markerIn key))

@@ -29,6 +29,7 @@ use Rattle.path.specs.declared.name.Name.the-variants.{Client, Connection, Port
 use Rattle.path.specs.Read.{nameFault, namesFault, render, limited, partsOf, renderOf, readPath, keyBy, keyOf, bytesBy, readingBytes, refusalOf}
 use Rattle.path.specs.Parents.{textOf, consensusParent, packetsPath}
 use Rattle.demands.specs.Shape.{Listed, AllZero, Demand1}
+use Rattle.demands.specs.Numbers.{readings, renderings, clients, ends}
 
 -- ---- the refusals of what is wanted of a writing call
 abbrev pub Wants : List ℕ → Wanted → Type 0
@@ -180,9 +181,6 @@ accepted-wants ns n w h = go (eqb n 0)
     go true = tt
     go false = h
 
-abbrev pub readings : List ℕ
-readings = 1 ∷ 2 ∷ 3 ∷ 17 ∷ 18 ∷ 19 ∷ 4 ∷ []
-
 pub reading-refusal : (w : Refusal) → Listed readings (refusalOf w)
 reading-refusal TooLong = refl
 reading-refusal NotAscii = refl
@@ -207,9 +205,6 @@ pub reading-wants : (t : List ℕ) → Wants readings (readingBytes t)
 unfolding readingBytes
 reading-wants t = bytes-wants (readPath t)
 
-abbrev pub renderings : List ℕ
-renderings = 14 ∷ 2 ∷ 5 ∷ 6 ∷ 7 ∷ 17 ∷ 18 ∷ 19 ∷ 13 ∷ 1 ∷ 4 ∷ []
-
 pub render-wants : (k : ℕ) (v : Carried (List ℕ)) → Wants renderings (renderOf k v)
 unfolding renderOf
 render-wants k v = go (leb 1 k && leb k 19)
@@ -220,9 +215,6 @@ render-wants k v = go (leb 1 k && leb k 19)
     go : (b : Bool) → Wants renderings (cond b (limited (partsOf k) v) (refused 14))
     go true = accepted-wants renderings (first (namesFault (partsOf k) v) (unless 1 short)) (render (partsOf k) v) (both-of (Listed renderings) refl (namesFault (partsOf k) v) (unless 1 short) (names-of (Listed renderings) refl refl refl refl refl refl refl refl refl (partsOf k) v) (one-of (Listed renderings) refl 1 short refl))
     go false = refl
-
-abbrev pub clients : List ℕ
-clients = 2 ∷ 5 ∷ 6 ∷ 4 ∷ []
 
 pub client-wants : (s : List ℕ) (n : ℕ) → Wants clients (newClient s n)
 unfolding newClient
@@ -245,9 +237,6 @@ module _ (ns : List ℕ) (v : Carried (List ℕ)) where
 pub parent-wants : (v : Carried (List ℕ)) → Wants clients (textOf consensusParent v)
 unfolding textOf namesFault nameFault
 parent-wants v = accepted-wants clients (first (checkOf client (v .first)) 0) (render consensusParent v) (both-of (Listed clients) refl (checkOf client (v .first)) 0 (plain-of (Listed clients) refl refl refl refl 9 64 (v .first)) refl)
-
-abbrev pub ends : List ℕ
-ends = 2 ∷ 5 ∷ 6 ∷ 7 ∷ 17 ∷ 18 ∷ 19 ∷ 4 ∷ []
 
 pub packets-wants : (w : List ℕ) (v : Carried (List ℕ)) → Wants ends (textOf (packetsPath w) v)
 unfolding textOf namesFault nameFault

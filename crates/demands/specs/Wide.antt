@@ -5,12 +5,13 @@ use Prim.Native.Nat.{ℕ, _≤_}
 use mathlib.Core.Path.{_≡_, refl, sym, ap, _∙_}
 use mathlib.Core.Logic.{_↔_}
 use mathlib.Core.Bool.{Bool, true}
-use mathlib.Core.List.{List, []}
+use mathlib.Core.List.{List, [], _++_}
 use lib.ListN.{length, take}
 use denote.Ref.{now}
 use Rattle.text.specs.Bytes.{bytes}
 use Rattle.text.specs.declared.Fault.{Fault}
 use Rattle.text.specs.declared.Written.{Written}
+use Rattle.text.specs.Number.{decimal}
 use Rattle.text.specs.Part.{every, ascii}
 use Rattle.text.specs.Put.{Wanted, text, answer, left}
 use Rattle.identifiers.specs.Check.{charsOf, lengthOf, prefixLengthOf, namedIndexFault, Rule, checkOf, faultOf, client, clientType, connection, port, channel}
@@ -29,7 +30,8 @@ use Rattle.wide.specs.Mode.{wide}
 use Rattle.wide.specs.Check.{checkIn, faultIn}
 use Rattle.wide.specs.Read.{readIn, keyIn}
 use Rattle.wide.specs.Render.{nameFaultIn}
-use Rattle.letters.specs.Character.{utf8}
+use Rattle.letters.specs.Character.{characters, utf8}
+use Rattle.letters.specs.Trimmed.{trimFront, trimBack}
 use Rattle.letters.specs.Narrow.{narrow}
 use Rattle.wide.specs.AsciiLaws as ascii-laws
 use Rattle.demands.specs.PathCalls.{ReadCall, KeyCall, RenderCall, reading, keying, rendering}
@@ -41,6 +43,7 @@ use Rattle.demands.specs.WideRendered.{WhenWideRendered, WhenWideKeyed}
 use Rattle.demands.specs.WideAlikeLaws as alikes
 use Rattle.demands.specs.WideLaws as laws
 use Rattle.demands.specs.WideBackLaws as back
+use Rattle.demands.specs.WideTrimLaws as trims
 use Rattle.demands.specs.WideCallLaws as more
 use Rattle.demands.specs.ModeLaws as modes
 use Rattle.demands.specs.WideRenderedLaws as refusals
@@ -94,6 +97,12 @@ same-wanted x y e r out o p = rw e at p
 pub new-ascii : (κs : _) (a : _) (r : _) (s : _) → hp-wide-client-id-new.Post κs a r s → ascii (now (a .0)) ≡ true
     → (r ≡ answer (newClient (now (a .0)) (a .1 .0)) (length (now (a .1 .1 .0)))) × (now (s .1 .1 .0) ≡ left (newClient (now (a .0)) (a .1 .0)) (now (a .1 .1 .0)))
 new-ascii κs a r s p low = same-wanted _ _ (ascii-laws.new-ascii (now (a .0)) low (a .1 .0)) r _ _ p
+
+-- ---- "wide client types are trimmed of the same release's white space": a new identifier is the characters of the client type without what is white
+-- at its ends, `-` and the counter
+pub new-trims : (κs : _) (a : _) (r : _) (s : _) → hp-wide-client-id-new.Post κs a r s → r .refusal ≡ 0
+    → (u : List ℕ) × (characters u ≡ trimBack (trimFront (characters (now (a .0))))) × Done (u ++ (bytes "-" ++ decimal (a .1 .0))) r (now (s .1 .1 .0))
+new-trims κs a r s p z = trims.new-trims (now (a .0)) (a .1 .0) _ r _ (p .0) (p .1) z
 
 pub parent-ascii : (κs : _) (a : _) (r : _) (s : _) → hp-wide-consensus-state-parent.Post κs a r s → ascii (now (a .0)) ≡ true
     → (r ≡ answer (textOf consensusParent (carried (now (a .0)) [] 0 0)) (length (now (a .1 .0)))) × (now (s .1 .0) ≡ left (textOf consensusParent (carried (now (a .0)) [] 0 0)) (now (a .1 .0)))

@@ -33,6 +33,7 @@ use Rattle.demands.specs.Shape.{Listed}
 use Rattle.demands.specs.ShapeLaws.{Wants, one-of, both-of, named-number, accepted-wants}
 use Rattle.demands.specs.Written.{WhenRead}
 use Rattle.demands.specs.Demand2Laws.{when-read}
+use Rattle.demands.specs.Numbers.{wideReadings, wideRenderings, wideClients, wideEnds}
 
 -- ---- the numbers of the checks, for any property that 0 and these have
 module _ (P : ℕ → Type 0) (zero : P 0) (other : P 21) where
@@ -109,9 +110,6 @@ never-two t h = go (ltb 4096 (length t)) (utf8 t) h
     go false true e = picture-reads t cc
     go false false e = let z : _≡_ {A = ℕ} 0 1 = cc in omega arith
 
-abbrev pub wideReadings : List ℕ
-wideReadings = 1 ∷ 21 ∷ 3 ∷ 17 ∷ 18 ∷ 19 ∷ 4 ∷ []
-
 reading-refusal : (t : List ℕ) (w : Refusal) → readIn wide t ≡ Of (Refused w) → Listed wideReadings (refusalOf w)
 reading-refusal t TooLong h = refl
 reading-refusal t NotAscii h = absurd (never-two t h)
@@ -139,9 +137,6 @@ reading-wants t = go (readIn wide t) refl
     go (Of (Refused w)) h = reading-refusal t w h
     go NotTaken h = refl
 
-abbrev pub wideRenderings : List ℕ
-wideRenderings = 14 ∷ 21 ∷ 5 ∷ 6 ∷ 7 ∷ 17 ∷ 18 ∷ 19 ∷ 13 ∷ 1 ∷ 4 ∷ []
-
 pub render-wants : (k : ℕ) (v : Carried (List ℕ)) → Wants wideRenderings (renderIn wide k v)
 unfolding renderIn
 render-wants k v = go (leb 1 k && leb k 19)
@@ -153,9 +148,6 @@ render-wants k v = go (leb 1 k && leb k 19)
     go true = accepted-wants wideRenderings (first (namesFaultIn wide (partsOf k) v) (unless 1 short)) (render (partsOf k) v) (both-of (Listed wideRenderings) refl (namesFaultIn wide (partsOf k) v) (unless 1 short) (names-of (Listed wideRenderings) refl refl refl refl refl refl refl refl refl (partsOf k) v) (one-of (Listed wideRenderings) refl 1 short refl))
     go false = refl
 
-abbrev pub wideClients : List ℕ
-wideClients = 21 ∷ 5 ∷ 6 ∷ 4 ∷ []
-
 pub client-wants : (s : List ℕ) (n : ℕ) → Wants wideClients (newClientIn wide s n)
 unfolding newClientIn
 client-wants s n = accepted-wants wideClients (first (takenIn wide s) (checkIn wide clientType (trimIn wide s))) (trimIn wide s ++ (bytes "-" ++ decimal n)) (both-of (Listed wideClients) refl (takenIn wide s) (checkIn wide clientType (trimIn wide s)) (taken-of (Listed wideClients) refl refl s) (plain-of (Listed wideClients) refl refl refl refl 7 43 (trimIn wide s)))
@@ -163,9 +155,6 @@ client-wants s n = accepted-wants wideClients (first (takenIn wide s) (checkIn w
 pub parent-wants : (v : Carried (List ℕ)) → Wants wideClients (textIn wide consensusParent v)
 unfolding textIn namesFaultIn nameFaultIn
 parent-wants v = accepted-wants wideClients (first (checkIn wide client (v .first)) 0) (render consensusParent v) (both-of (Listed wideClients) refl (checkIn wide client (v .first)) 0 (plain-of (Listed wideClients) refl refl refl refl 9 64 (v .first)) refl)
-
-abbrev pub wideEnds : List ℕ
-wideEnds = 21 ∷ 5 ∷ 6 ∷ 7 ∷ 17 ∷ 18 ∷ 19 ∷ 4 ∷ []
 
 pub packets-wants : (w : List ℕ) (v : Carried (List ℕ)) → Wants wideEnds (textIn wide (packetsPath w) v)
 unfolding textIn namesFaultIn nameFaultIn
