@@ -20,7 +20,7 @@ call() {
 
 call
 check 'the status where the toolchain is missing' 2 "$status"
-check 'the lines that say what to do' 1 "$(grep -c 'put its command rt on the PATH' "$work/err")"
+check 'the lines that say what to do' 1 "$(grep -c 'put its command rt on the PATH.* HOSTPATH_LIB$' "$work/err")"
 
 cat >"$work/tools/rt" <<'END'
 #!/bin/sh

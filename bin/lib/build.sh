@@ -2,10 +2,11 @@
 # made again, and what is shown of minutes of work. The caller stands at the repository's top, and `name` is what it is
 # called on standard error.
 
-# Goes on only with the toolchain: need WHAT.
+# Goes on only with the toolchain; `instead` is what else can be done: need WHAT.
+instead=
 need() {
     command -v rt >/dev/null 2>&1 && return
-    echo "$name: the Rattle toolchain is needed to $1: put its command rt on the PATH, and call $name again" >&2
+    echo "$name: the Rattle toolchain is needed to $1: put its command rt on the PATH, and call again$instead" >&2
     exit 2
 }
 
