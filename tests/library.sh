@@ -26,7 +26,8 @@ cat >"$work/tools/rt" <<'END'
 #!/bin/sh
 echo "$*" >>calls
 echo 'note: a line of the prover'
-for crate in text hostpath; do echo "rt: $crate proved (1 s)"; done
+echo 'rt: text proved (1 s)'
+echo 'rt: target/staticlib/libhostpath.a has the functions of hostpath that are marked'
 mkdir -p target/staticlib
 touch target/staticlib/libhostpath.a
 END

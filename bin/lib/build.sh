@@ -51,10 +51,14 @@ build() {
     echo "$name: $all crates are proved and built into $what, this once" >&2
     { "$@" </dev/null 2>&1 && : >"$work/done"; } | tee "$work/said" | {
         some=0
-        while read -r who crate said rest; do
-            [ "$who $said" = 'rt: proved' ] || continue
+        while read -r who one said rest; do
+            case "$who $said" in
+            'rt: proved') ;;
+            'rt: has') one=$crate ;; # the archive, which is made of a crate as that is proved
+            *) continue ;;
+            esac
             some=$((some + 1))
-            echo "$name: $crate, $some of $all" >&2
+            echo "$name: $one, $some of $all" >&2
         done
     }
     if [ ! -f "$work/done" ]; then
