@@ -31,16 +31,16 @@ static int read_it(void) {
     uint8_t reading[HP_READING];
     uint8_t key[HP_PATH_MOST];
     struct hp_fault fault = hp_walk(TEXT(text), reading, sizeof reading);
-    if (fault.refusal != HP_DONE || reading[0] != HP_CLIENT_CONSENSUS_STATE) {
+    if (fault.refusal != HP_DONE || reading[HP_AT_KIND] != HP_CLIENT_CONSENSUS_STATE) {
         return refused("read", fault.refusal);
     }
-    const char *client = text + number(reading + 2, 2);
-    int length = (int)number(reading + 4, 2);
-    uint64_t revision = number(reading + 10, 8);
-    uint64_t height = number(reading + 18, 8);
+    const char *client = text + number(reading + HP_AT_FIRST, 2);
+    int length = (int)number(reading + HP_AT_FIRST_LENGTH, 2);
+    uint64_t revision = number(reading + HP_AT_A, 8);
+    uint64_t height = number(reading + HP_AT_B, 8);
     printf("text      %s\n", text);
-    printf("read      kind %d, %s, client %.*s, revision number %" PRIu64 ", height %" PRIu64 "\n", reading[0],
-           reading[1] ? "exact" : "loose", length, client, revision, height);
+    printf("read      kind %d, %s, client %.*s, revision number %" PRIu64 ", height %" PRIu64 "\n", reading[HP_AT_KIND],
+           reading[HP_AT_EXACT] ? "exact" : "loose", length, client, revision, height);
 
     struct hp_written written = hp_key(TEXT(text), key, sizeof key);
     if (written.refusal != HP_DONE) {
@@ -57,15 +57,18 @@ static int read_it(void) {
     return 0;
 }
 
-/* Where a number alone is wrong, the place says which byte to mend. */
+/* Where a number alone is wrong, the place says which byte to mend, and the refusal's sentence says how. */
 static int mend_it(void) {
     static const char wrong[] = "clients/07-tendermint-4/consensusStates/7-x";
     uint8_t reading[HP_READING];
+    uint8_t sentence[HP_REFUSAL_MOST];
     struct hp_fault fault = hp_walk(TEXT(wrong), reading, sizeof reading);
     if (fault.refusal != HP_NOT_A_DIGIT) {
         return refused("read", fault.refusal);
     }
-    printf("refused   %s: '%c' at byte %" PRIu64 " is no digit\n", wrong, wrong[fault.place], fault.place);
+    struct hp_written written = hp_refusal_text(fault.refusal, sentence, sizeof sentence);
+    printf("refused   %s: '%c' at byte %" PRIu64 ", %.*s\n", wrong, wrong[fault.place], fault.place, (int)written.length,
+           (const char *)sentence);
     return 0;
 }
 
@@ -131,7 +134,8 @@ static int read_greek(void) {
     if (fault.refusal != HP_DONE) {
         return refused("wide", fault.refusal);
     }
-    printf("wide      %s: kind %d, a port of %d bytes\n", greek, reading[0], (int)number(reading + 4, 2));
+    printf("wide      %s: kind %d, a port of %d bytes\n", greek, reading[HP_AT_KIND],
+           (int)number(reading + HP_AT_FIRST_LENGTH, 2));
     return 0;
 }
 

@@ -1,11 +1,21 @@
 /* IBC host paths and identifiers, and books of records under such paths: the C interface of libhostpath.a.
  *
  * Every call takes any bytes and any numbers. A text is a pointer and a count of bytes, a null
- * pointer with count 0 among them; `out`, `book` and `table` are lent buffers, each a pointer and a size
- * in the same way. What a call may write lies apart from all else that is lent to it: `out` from every
+ * pointer with count 0 among them; it wants no final NUL, and a byte 0 in it is a byte like others. `out`,
+ * `book` and `table` are lent buffers, each a pointer and a size in the same way, which no call keeps. No
+ * pointer has to be aligned. What a call may write lies apart from all else that is lent to it: `out` from every
  * text, from the book and from the table, a table that is filled from the book, and a book that is
- * written from the text and the value. A success writes from byte 0 of `out` and leaves the bytes after
- * what it wrote. A refusal changes no byte of any buffer; its length, numbers and value are 0.
+ * written from the text and the value. Texts that are only read may overlap. A success writes from byte 0 of
+ * `out` and leaves the bytes after what it wrote, so there is no final NUL there either. A refusal changes no
+ * byte of any buffer; its length, numbers and value are 0.
+ *
+ * Threads: calls share nothing, since the library has no state, allocates nothing, takes no lock and does no
+ * input or output. So calls may run at the same time as long as none writes what another is lent: a book that is
+ * only read may be read from several threads, and a book that one of them writes is for its writer to guard.
+ *
+ * Stack: HP_STACK bytes are enough for any call, twice what was seen. On x86-64 the deepest, hp_wide_key, takes 7568,
+ * the sum of the frames of the archive that it goes through: no function there calls itself, and no frame grows with
+ * what it is given. examples/stack.c measures it on any processor. Of the C library only memcpy and memset are called.
  *
  * The numbers after a call are its refusals, in the order in which they are looked for; 0 is done.
  * The library is proved in Rattle; rust/hostpath has the same calls for Rust, and examples/path.c uses them.
@@ -19,6 +29,11 @@
 #ifdef __cplusplus
 extern "C" {
 #endif
+
+/* The version of this header and of the archive that it belongs to, as in hostpath.pc. */
+/* Below, made by bin/interface: version in c. */
+#define HP_VERSION "0.1.0"
+/* Above, made by bin/interface. */
 
 /* The kinds of path: C is a client, K a connection, P a port, H a channel, S a sequence, R-h a
  * revision number and height, U an upgrade path, n a height. */
@@ -65,19 +80,42 @@ enum hp_packet_kind {
     HP_PACKET_ACKNOWLEDGEMENT = 3
 };
 
-/* Sizes in bytes, and of a book in slots. */
+/* Sizes in bytes, and of a book in slots. A room of HP_.._MOST bytes is enough for what the calls named beside it
+ * write, whatever they are given; in a shorter one a text that fits is written, and any other is refused with 4. */
 enum {
-    HP_READING = 26,         /* a reading */
-    HP_ITERATION_KEY = 38,   /* an iteration key */
-    HP_PACKET_KEY_MOST = 73, /* the longest packet key */
-    HP_PATH_MOST = 4096,     /* the longest text of a path, and the longest rendering */
-    HP_BOOK_HEAD = 8,        /* what stands before a book's slots */
-    HP_BOOK_SLOT = 321,      /* a slot: HP_BOOK_KEY, HP_BOOK_VALUE and the lengths of both */
-    HP_BOOK_KEY = 255,       /* the longest key */
-    HP_BOOK_VALUE = 64,      /* the longest value; the shortest has one byte */
-    HP_BOOK_MOST = 200,      /* the slots of the largest book; the smallest has one */
-    HP_BOOK_TABLE = 512,     /* a table of buckets beside a book, by which hp_book_lookup_many finds records */
-    HP_BOOK_ANSWER = 66      /* what hp_book_lookup_many writes for a text */
+    HP_READING = 26,            /* a reading: hp_read, hp_walk, hp_wide_read */
+    HP_PATH_MOST = 4096,        /* the longest text of a path, and the longest rendering: hp_key, hp_render */
+    HP_KEY_MOST = 251,          /* the same of kinds 1 to 17, all but upgrade paths */
+    HP_CLIENT_ID_MOST = 64,     /* hp_client_id_new, and any client, connection or channel */
+    HP_CHANNEL_ID_MOST = 28,    /* hp_channel_id_new */
+    HP_PORT_ID_MOST = 128,      /* any port */
+    HP_ITERATION_KEY = 38,      /* an iteration key: hp_iteration_key */
+    HP_PACKET_KEY_MOST = 73,    /* the longest packet key: hp_v2_write */
+    HP_PREFIX_MOST = 11,        /* hp_client_state_prefix and the other words: .._leaf of it, .._prefix */
+    HP_PARENT_MOST = 88,        /* hp_consensus_state_parent */
+    HP_LEAF_MOST = 73,          /* hp_consensus_state_leaf, hp_update_time_leaf, hp_update_height_leaf */
+    HP_PACKETS_PATH_MOST = 230, /* hp_commitments_path, hp_acks_path, hp_receipts_path */
+    HP_REFUSAL_MOST = 128,      /* hp_refusal_text */
+    HP_BOOK_HEAD = 8,           /* what stands before a book's slots */
+    HP_BOOK_SLOT = 321,         /* a slot: HP_BOOK_KEY, HP_BOOK_VALUE and the lengths of both */
+    HP_BOOK_KEY = 255,          /* the longest key */
+    HP_BOOK_VALUE = 64,         /* the longest value; the shortest has one byte: hp_book_lookup */
+    HP_BOOK_MOST = 200,         /* the slots of the largest book; the smallest has one */
+    HP_BOOK_TABLE = 512,        /* a table of buckets beside a book, by which hp_book_lookup_many finds records */
+    HP_BOOK_ANSWER = 66,        /* what hp_book_lookup_many writes for a text */
+    HP_STACK = 16384            /* stack that is enough for any call */
+};
+
+/* Where the parts of a reading stand in its HP_READING bytes; numbers have their high bytes first. */
+enum hp_reading_at {
+    HP_AT_KIND = 0,          /* 1 byte: the kind */
+    HP_AT_EXACT = 1,         /* 1 byte: 1 where the text is exactly its key, 0 where it is a loose spelling */
+    HP_AT_FIRST = 2,         /* 2 bytes: where the first identifier begins in the text */
+    HP_AT_FIRST_LENGTH = 4,  /* 2 bytes */
+    HP_AT_SECOND = 6,        /* 2 bytes: where the second begins */
+    HP_AT_SECOND_LENGTH = 8, /* 2 bytes */
+    HP_AT_A = 10,            /* 8 bytes: the first number */
+    HP_AT_B = 18             /* 8 bytes: the second */
 };
 
 /* A book of so many slots is a buffer of this size.
@@ -190,7 +228,8 @@ struct hp_written hp_channel_id_new(uint64_t counter, uint8_t *out, size_t out_l
  * and of the second, 2 bytes each; two numbers of 8 bytes. What the kind lacks is 0. 17, 18 and 19 stand at 3's place, where
  * a number alone is wrong, with the byte of the text where its fault stands: 1, 2, 3 (17, 18, 19), 4. */
 struct hp_fault hp_read(const uint8_t *text, size_t text_len, uint8_t *out, size_t out_len);
-/* The same by the second reader, which walks the text once: equal to hp_read on every input, and faster. */
+/* The same by the second reader, which walks the text once: equal to hp_read on every input, and faster, so of the two this is
+ * the one to call. hp_read is the plainer one, which it is held against. */
 struct hp_fault hp_walk(const uint8_t *text, size_t text_len, uint8_t *out, size_t out_len);
 /* The rendering of the text: 1, 2, 3 (17, 18, 19), 4. */
 struct hp_written hp_key(const uint8_t *text, size_t text_len, uint8_t *out, size_t out_len);
@@ -323,6 +362,12 @@ uint8_t hp_book_fill(const uint8_t *book, size_t book_len, uint8_t *table, size_
  * as it is now: 66 bytes a text, its refusal number, the length of its value, and the value filled with zeros to 64. Bytes after
  * the last 10 are a text if there are any: 9, 22, 4. */
 struct hp_written hp_book_lookup_many(const uint8_t *book, size_t book_len, const uint8_t *table, size_t table_len, const uint8_t *texts, size_t texts_len, uint8_t *out, size_t out_len);
+
+/* What refusals mean. */
+
+/* The sentence of a refusal, by its number: what was wrong and what to do about it, at most 128 bytes. `done` for 0, and
+ * nothing, with length 0, for a number that is no refusal: 4. */
+struct hp_written hp_refusal_text(uint8_t number, uint8_t *out, size_t out_len);
 /* Above, made by bin/interface. */
 
 #ifdef __cplusplus

@@ -1,6 +1,7 @@
 #!/bin/sh
-# Holds what declares and calls the C interface to its source, crates/hostpath/src/lib.rt: bin/interface makes what is
-# committed, and it refuses copies in which an argument, a type, a field or a sentence is another. Last line: 'N passed, M failed'.
+# Holds what declares and calls the C interface to its sources, crates/hostpath/src/lib.rt and crates/text/src/refusal.rt:
+# bin/interface makes what is committed, and it refuses copies in which an argument, a type, a field, a sentence or the version
+# is another. Holds the table of refusals in docs/RULES.md to the same numbers and names. Last line: 'N passed, M failed'.
 . "$(dirname "$0")/lib/start.sh"
 
 if bin/interface --check; then
@@ -14,7 +15,7 @@ mkdir -p "$work/oracle/compare" "$work/rust/hostpath"
 cp -R bin crates include "$work"
 cp oracle/pairs.c "$work/oracle"
 cp -R oracle/compare/src "$work/oracle/compare"
-cp -R rust/hostpath/src "$work/rust/hostpath"
+cp -R rust/hostpath/src rust/hostpath/Cargo.toml "$work/rust/hostpath"
 
 # In a copy one place of a file is changed, as sed says: that is refused with words that have this in them.
 refuses() {
@@ -46,8 +47,14 @@ refuses rust/hostpath/src/raw.rs '/ hp_book_write(/s/\*mut u8/*const u8/' rust/h
 refuses include/hostpath.h '/^struct hp_pair {/s/number\(.*\)height/height\1number/' include/hostpath.h
 # a number and a sentence of a refusal
 refuses crates/text/src/refusal.rt 's/ABSENT: u8 = 12/ABSENT: u8 = 15/' rust/hostpath/src/refusal.rs
-refuses crates/hostpath/src/lib.rt '/^\/\/ FULL: /d' 'no sentence says what FULL is'
-refuses crates/hostpath/src/lib.rt 's/^\/\/ The C interface: /\/\/ EMPTY: /' 'a sentence is of no refusal'
+refuses crates/text/src/refusal.rt '/^const FULL_SAYS: /,/";$/d' 'no sentence says what FULL is'
+refuses crates/text/src/refusal.rt '/^pub const FULL: /d' 'a sentence is of no refusal'
+refuses crates/text/src/refusal.rt 's/every slot of the book/each slot of the book/' include/hostpath.h
+refuses rust/hostpath/src/refusal.rs 's/=> "every slot of the book/=> "each slot of the book/' rust/hostpath/src/refusal.rs
+# the version
+for file in include/hostpath.h bin/askpath; do
+    refuses rust/hostpath/Cargo.toml 's/^version = .*/version = "9.9.9"/' "$file"
+done
 # a call without a word, and one that takes what no C call can be given
 refuses crates/hostpath/src/lib.rt '/^\/\/ The rendering of the text: /d' 'hp_key has no comment above it'
 refuses crates/hostpath/src/lib.rt '/fn hp_is_provable(/s/u8)/bool)/' 'hp_is_provable takes a bool'
@@ -55,6 +62,10 @@ refuses crates/hostpath/src/lib.rt '/fn hp_is_provable(/s/u8)/bool)/' 'hp_is_pro
 refuses crates/hostpath/src/lib.rt '/fn hp_wide_acks_path(/s/port: &\[u8\], channel: &\[u8\]/channel: \&[u8], port: \&[u8]/' 'hp_wide_acks_path takes or answers other things'
 refuses crates/hostpath/src/lib.rt '/fn hp_wide_key(/s/Written/Fault/' 'hp_wide_key takes or answers other things'
 refuses crates/hostpath/src/lib.rt 's/fn hp_wide_key(/fn hp_wide_keys(/' 'hp_wide_keys is the wide mode of no call'
+
+check 'the refusals of docs/RULES.md' \
+    "$(sed -n 's/^pub const \([A-Z0-9_]*\): u8 = \([1-9][0-9]*\);$/\2 \1/p' crates/text/src/refusal.rt)" \
+    "$(sed -n '/^## Refusals/,/^No call gives/s/^| \([0-9]*\) | \([A-Z0-9_]*\) | .*/\1 \2/p' docs/RULES.md)"
 
 echo "$passed passed, $failed failed"
 [ "$failed" -eq 0 ]

@@ -1,8 +1,9 @@
-# For bin/interface: reads the crates' sources, then with target=1 a file, which it prints with what it makes of them in the
-# places that the file has for it.
+# For bin/interface: reads the crates' sources and the Rust crate's Cargo.toml, then with target=1 a file, which it prints with
+# what it makes of them in the places that the file has for it.
 #
 # Call n is call[n]: it says says[n], under heads[n] where a heading stands before it, answers answer[n], and its arguments
-# are name[n, i] and type[n, i], i from 1 to count[n]. Refusal k is refusal[k], with number[k] and sentence[refusal[k]].
+# are name[n, i] and type[n, i], i from 1 to count[n]. Refusal k is refusal[k], with number[k] and sentence[refusal[k]]; 0, which
+# is none, is DONE.
 # Answer k is struct answers[k]; the fields of struct s are field[s, i] and width[s, i], i from 1 to fields[s].
 
 function fault(what) {
@@ -30,20 +31,27 @@ END { if (!status && (making || !places)) fault(FILENAME " has no place for what
 
 # --- The sources
 
-FNR == 1 { said = ""; source = FILENAME ~ /hostpath\/src\/lib\.rt$/ }
+FNR == 1 {
+    said = ""
+    source = FILENAME ~ /hostpath\/src\/lib\.rt$/
+    refusals_here = FILENAME ~ /text\/src\/refusal\.rt$/
+}
+
+FILENAME ~ /Cargo\.toml$/ && /^version = "/ { version = substr($3, 2, length($3) - 2) }
 
 # A comment's lines wait for what stands below them; one above an empty line is a heading.
-source && /^\/\/ [A-Z][A-Z0-9_]*: / {
-    at = index($0, ": ")
-    sentence[substr($0, 4, at - 4)] = substr($0, at + 2)
-    next
-}
 /^\/\// { said = said (said == "" ? "" : "\n") substr($0, 4); next }
 source && /^$/ && said != "" { heading = said }
 
-FILENAME ~ /text\/src\/refusal\.rt$/ && /^pub const / && $6 != "0;" {
+# A number, and its sentence, on the same line as its name or on the next.
+refusals_here && /^pub const / && $6 != "0;" {
     refusal[++refusals] = substr($3, 1, length($3) - 1)
     number[refusals] = $6 + 0
+}
+refusals_here && /^const [A-Z0-9_]+_SAYS: / { of = substr($2, 1, length($2) - length("_SAYS:")) }
+refusals_here && /\*b".*";$/ && of != "DONE" {
+    line = substr($0, index($0, "*b\"") + 3)
+    sentence[of] = substr(line, 1, length(line) - 2)
 }
 
 /^#\[repr\(C\)\]/ { repr = 1 }
@@ -91,7 +99,7 @@ function take(    n, inner, parts, i) {
 
 # All that is needed was read. The answers are counted, in the order of the calls.
 function check(    n, k, seen, told) {
-    if (!calls || !refusals) fault("no calls, or no refusals")
+    if (!calls || !refusals || version == "") fault("no calls, no refusals, or no version")
     for (n = 1; n <= calls; n++) {
         if (answer[n] == "u8") continue
         if (!(answer[n] in fields)) fault("hp_" call[n] " answers a " answer[n])
@@ -127,7 +135,9 @@ function same(n,    k, i, other) {
 # --- What is made
 
 function make(what,    k) {
-    if (what ~ /refusal/) for (k = 1; k <= refusals; k++) of_refusal(what, k)
+    if (what == "version in c") say("#define HP_VERSION \"" version "\"")
+    else if (what == "version in sh") say("version=" version)
+    else if (what ~ /refusal/) for (k = 1; k <= refusals; k++) of_refusal(what, k)
     else if (what ~ /answer/) for (k = 1; k <= structs; k++) of_answer(what, answers[k])
     else for (k = 1; k <= calls; k++) of_call(what, k)
 }
@@ -224,7 +234,7 @@ function of_call(what, n) {
         say("    unsafe { c::hp_" call[n] "(" rust_arguments(n, "passed") ") }\n}")
     } else if (what == "calls") say(camel(call[n]) ",")
     else if (what == "names of calls") say("\"hp_" call[n] "\" => Self::" camel(call[n]) ",")
-    else if (what == "what calls take") say("Self::" camel(call[n]) " => [" has(n, "kind") ", " has(n, "book") ", " lends(n) "],")
+    else if (what == "what calls take") say("Self::" camel(call[n]) " => [" numbered(n) ", " has(n, "book") ", " lends(n) "],")
     else if (what == "calls in the wide mode") {
         if (is_wide(n)) say("Self::" camel(plain(n)) " => Self::" camel(call[n]) ",")
     } else if (what == "calls of the wide mode") {
@@ -274,6 +284,12 @@ function rust_arguments(n, how,    i, all, id, mut) {
     return all
 }
 
+# Whether it takes a number of one byte: a kind, or that of a refusal.
+function numbered(n,    i) {
+    for (i = 1; i <= count[n]; i++) if (type[n, i] == "u8") return "true"
+    return "false"
+}
+
 function has(n, argument,    i) {
     for (i = 1; i <= count[n]; i++) if (name[n, i] == argument) return "true"
     return "false"
@@ -289,11 +305,12 @@ function lends(n,    i) {
     return "false"
 }
 
-# A call's arguments out of a `Call`: texts and numbers by their order, the others by name.
+# A call's arguments out of a `Call`: texts and numbers by their order, a number of one byte as its kind, the others by name.
 function from_call(n,    i, all, texts, numbers) {
     for (i = 1; i <= count[n]; i++) {
         all = all (i > 1 ? ", " : "")
         if (type[n, i] == "u64") all = all "numbers[" (numbers++) "]"
+        else if (type[n, i] == "u8") all = all "kind"
         else if (type[n, i] == "&[u8]" && name[n, i] != "book") all = all "texts[" (texts++) "]"
         else if (fills(n, i)) all = all "out"
         else all = all name[n, i]

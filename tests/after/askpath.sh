@@ -1,6 +1,7 @@
 #!/bin/sh
 # Runs the built askpath as a person does: a line is answered before the next is written, however the input is cut, with the
-# reason where it is asked why, and what cannot be read or written is said. It is run after the program is built. Last line: 'N passed, M failed'.
+# reason where it is asked why, and what cannot be read or written is said, and shown by the status. It is run after the
+# program is built. Last line: 'N passed, M failed'.
 . "$(dirname "$0")/../lib/start.sh"
 cd .. || exit 2 # start.sh goes to the folder above this one
 if [ ! -x target/bin/askpath ]; then
@@ -62,21 +63,48 @@ yes '' | head -n 200000 | bin/askpath why >"$work/out"
 check 'empty lines, asked why' 200000 "$(grep -cx "3 $none" "$work/out")"
 awk 'BEGIN { for (i = 1; i <= 40; i++) printf "%s%0*d\n", "x/", i % 2 ? 4094 : 4095, 0 }' | bin/askpath why >"$work/out"
 check 'long lines, asked why' '20 of 3, 20 of 1' "$(grep -cx "3 $none" "$work/out") of 3, $(grep -c '^1 the text' "$work/out") of 1"
-if [ "$(uname -m)" = x86_64 ]; then
-    for words in what whyy '' 'why not'; do
-        if [ "$words" = 'why not' ]; then set -- why not; else set -- "$words"; fi
-        echo ports/ab | target/bin/askpath "$@" >"$work/out" 2>"$work/err"
-        check "what the program itself says, asked '$words'" '1 line, 0 answers' \
-            "$(grep -c 'the one word that can be asked is why' "$work/err") line, $(grep -c . "$work/out") answers"
-    done
-fi
+program=$(bin/lib/program)
+for words in what whyy '' 'why not'; do
+    if [ "$words" = 'why not' ]; then set -- why not; else set -- "$words"; fi
+    echo ports/ab | "$program" "$@" >"$work/out" 2>"$work/err"
+    check "what the program itself says, asked '$words'" '1 line, 0 answers' \
+        "$(grep -c 'the one word that can be asked is why' "$work/err") line, $(grep -c . "$work/out") answers"
+done
 
-# A folder cannot be read as a file: that is no end of the input.
+# A folder cannot be read as a file, nor what is closed: neither is an end of the input.
 bin/askpath <tests >"$work/out" 2>"$work/err"
-check 'what is said where the input cannot be read' 1 "$(grep -c 'standard input cannot be read' "$work/err")"
+check 'the status where the input cannot be read' 1 $?
+check 'what is said of that' 1 "$(grep -c 'standard input cannot be read' "$work/err")"
+bin/askpath <&- >"$work/out" 2>"$work/err"
+check 'the status where the input is closed' 1 $?
+check 'what is said of that' 1 "$(grep -c 'standard input cannot be read' "$work/err")"
 if [ -c /dev/full ]; then
     echo ports/ab | bin/askpath 2>"$work/err" >/dev/full
-    check 'what is said where the answers cannot be written' 1 "$(grep -c 'standard output cannot be written' "$work/err")"
+    check 'the status where the answers cannot be written' 1 $?
+    check 'what is said of that' 1 "$(grep -c 'standard output cannot be written' "$work/err")"
+fi
+echo clients | bin/askpath >"$work/out" 2>"$work/err"
+check 'the status where a line is refused' '0, 3, ' "$?, $(cat "$work/out"), $(cat "$work/err")"
+
+# Pipes that do not wait, by the program itself: nothing to read at first, then more answers than a pipe takes.
+if command -v python3 >/dev/null 2>&1; then
+    python3 - "$program" >"$work/out" <<'END'
+import fcntl, os, subprocess, sys, threading, time
+(read, feed), (take, write) = os.pipe(), os.pipe()
+for end in read, write:
+    fcntl.fcntl(end, fcntl.F_SETFL, fcntl.fcntl(end, fcntl.F_GETFL) | os.O_NONBLOCK)
+child = subprocess.Popen([sys.argv[1]], stdin=read, stdout=write, stderr=subprocess.PIPE)
+os.close(read), os.close(write)
+def give():
+    time.sleep(0.3)
+    with os.fdopen(feed, 'wb') as end: end.write(b'ports/ab\n' * 20000)
+threading.Thread(target=give).start()
+time.sleep(1)
+with os.fdopen(take, 'rb') as end: print(end.read().count(b'0 10 E ports/ab\n'), child.stderr.read())
+END
+    check 'pipes that do not wait' "20000 b''" "$(cat "$work/out")"
+else
+    echo 'askpath: LEFT OUT, no python3 here: pipes that do not wait'
 fi
 
 echo "$passed passed, $failed failed"

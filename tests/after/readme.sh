@@ -15,7 +15,9 @@ else
     echo 'readme: LEFT OUT, the program is not built: what README asks it'
 fi
 
-if [ -f target/staticlib/libhostpath.a ] && [ "$(uname -m)" = x86_64 ] && command -v cc >/dev/null 2>&1; then
+library=target/native/libhostpath.a # where oracle/library puts it, for the processor at hand
+[ "$(uname -m)" != x86_64 ] || library=target/staticlib/libhostpath.a
+if [ -f "$library" ] && command -v cc >/dev/null 2>&1; then
     check 'what the C example prints' "$(cat examples/path.out)" "$(shown 'Link it' | sed -n 1p | sh)"
 else
     echo 'readme: LEFT OUT, no archive for this processor or no C compiler: how README links the library'

@@ -7,6 +7,7 @@ use mathlib.Core.List.{[], _∷_}
 use Rattle.text.specs.Bytes.{bytes}
 use Rattle.text.specs.Number.{numeralOf, digitsAt, digitsFrom, decimal, digits, width, widthBy}
 use Rattle.text.specs.Part.{every, ascii, same}
+use Rattle.text.specs.Refusal.{sentence}
 use Rattle.path.specs.Text.{cutAt, joinBy, placesFrom}
 use Rattle.path.specs.Kinds.{kinds}
 use Rattle.path.specs.Read.{nameFault, fits, fitsKind, readKind, readFirst, suits, suitsKind, partFaults, kindFaults, faultsAs, whyNot, readPath, show, render, partsOf, renderPath}
@@ -22,5 +23,5 @@ unfolding stepsAnswer endedAnswers unfinished held answerAt lastAnswer lineAnswe
 in-two = refl
 
 reasons : wholeAnswer true (bytes "x/1y/upgradedClient\nclients\n/05/upgradedClient") ≡ bytes "18 3 a byte of the number is no digit: write it in the digits 0 to 9 alone\n3 the text fits none of the nineteen kinds of path: hold its words and numbers against the table of kinds\n0 18 L /5/upgradedClient\n"
-unfolding reason wholeAnswer answers lastAnswer lineAnswer readPath whyNot faultsAs kindFaults suitsKind suits partFaults readFirst readKind fitsKind fits nameFault kinds cutAt joinBy placesFrom partsOf render renderPath show every ascii same numeralOf digitsAt digitsFrom decimal digits width widthBy
+unfolding reason sentence wholeAnswer answers lastAnswer lineAnswer readPath whyNot faultsAs kindFaults suitsKind suits partFaults readFirst readKind fitsKind fits nameFault kinds cutAt joinBy placesFrom partsOf render renderPath show every ascii same numeralOf digitsAt digitsFrom decimal digits width widthBy
 reasons = refl

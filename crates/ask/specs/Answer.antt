@@ -6,6 +6,7 @@ use mathlib.Core.Bool.{Bool, true, false, cond}
 use mathlib.Core.List.{List, [], _∷_, _++_}
 use Rattle.text.specs.Bytes.{bytes}
 use Rattle.text.specs.Number.{decimal}
+use Rattle.text.specs.Refusal.{tooLong, notAscii, notAPath, noDigits, notADigit, tooLarge, sentence}
 use Rattle.path.specs.declared.PathView.{PathView}
 use Rattle.path.specs.declared.Refusal.{Refusal}
 use Rattle.path.specs.declared.Refusal.the-variants.{TooLong, NotAscii, NotAPath, NoDigits, NotADigit, TooLarge}
@@ -31,18 +32,22 @@ viewText t v = render (partsOf (v .kind)) (carried (shownOf t (v .first)) (shown
 abbrev pub viewAnswer : List ℕ → PathView → Bool → List ℕ
 viewAnswer t v e = head (v .kind) e ++ (viewText t v ++ 10 ∷ [])
 
--- a place, and what follows it
-abbrev pub placed : ℕ → List ℕ → List ℕ
-placed i s = bytes " " ++ (decimal i ++ s)
+-- the sentence of a refusal
+abbrev pub spoken : ℕ → List ℕ
+spoken n = bytes " " ++ sentence n
+
+-- a place, and the sentence
+abbrev pub placed : ℕ → ℕ → List ℕ
+placed i n = bytes " " ++ (decimal i ++ spoken n)
 
 -- the place, where there is one, and the sentence for a customer
 unfoldable pub reason : Refusal → List ℕ
-reason TooLong = bytes " the text, or the path that it makes, has more than 4,096 bytes: shorten it"
-reason NotAscii = bytes " a byte of the text is 128 or more: write the text in ASCII alone"
-reason NotAPath = bytes " the text fits none of the nineteen kinds of path: hold its words and numbers against the table of kinds"
-reason (NoDigits i) = placed i (bytes " where a number should stand there is no digit: write one, from 0 to 18446744073709551615")
-reason (NotADigit i) = placed i (bytes " a byte of the number is no digit: write it in the digits 0 to 9 alone")
-reason (TooLarge i) = placed i (bytes " the number is above 18446744073709551615: write a smaller one")
+reason TooLong = spoken tooLong
+reason NotAscii = spoken notAscii
+reason NotAPath = spoken notAPath
+reason (NoDigits i) = placed i noDigits
+reason (NotADigit i) = placed i notADigit
+reason (TooLarge i) = placed i tooLarge
 
 -- what follows the number of a refusal
 abbrev pub saying : Bool → Refusal → List ℕ

@@ -12,6 +12,7 @@ use Rattle.text.specs.Bytes.{bytes}
 use Rattle.text.specs.Number.{decimal, digits, width, widthBy}
 use Rattle.text.specs.NumberLaws.{length-decimal, width-within}
 use Rattle.text.specs.Part.{every, ascii, same}
+use Rattle.text.specs.Refusal.{sentence}
 use Rattle.path.specs.Text.{cutAt}
 use Rattle.path.specs.declared.Path.{Path}
 use Rattle.path.specs.declared.PathView.{PathView}
@@ -31,7 +32,7 @@ use Rattle.path.specs.Length.{fixed}
 use Rattle.path.specs.ExactLaws.{rendering-not-longer}
 use Rattle.path.specs.MeasureLaws.{lengths, render-length, length-sums}
 use Rattle.key.specs.KeyLaws.{view-parts}
-use Rattle.ask.specs.Answer.{mark, head, viewText, viewAnswer, placed, reason, saying, refusalAnswer, printed, lineAnswer, extra}
+use Rattle.ask.specs.Answer.{mark, head, viewText, viewAnswer, spoken, placed, reason, saying, refusalAnswer, printed, lineAnswer, extra}
 
 -- what a line that was refused, or read, is answered with
 module _ (why : Bool) (t : List ℕ) (r : Reading) (by : r ≡ readPath t) where
@@ -58,8 +59,8 @@ head-length k e = simp length-append (omega (arith, length-mark e))
 pub view-length : (t : List ℕ) (v : PathView) (e : Bool) → length (viewAnswer t v e) ≡ length (head (v .kind) e) + (length (viewText t v) + 1)
 view-length t v e = length-append (head (v .kind) e) (viewText t v ++ 10 ∷ []) ∙ rw (length-append (viewText t v) (10 ∷ []))
 
-pub placed-length : (i : ℕ) (s : List ℕ) → length (placed i s) ≡ 1 + length (decimal i) + length s
-placed-length i s = simp length-append (omega arith)
+pub placed-length : (i n : ℕ) → length (placed i n) ≡ 1 + length (decimal i) + length (spoken n)
+placed-length i n = simp length-append (omega arith)
 
 pub refused-length : (why : Bool) (w : Refusal) → length (refusalAnswer why w) ≡ length (decimal (refusalOf w)) + (length (saying why w) + 1)
 refused-length why w = length-append (decimal (refusalOf w)) (saying why w ++ 10 ∷ []) ∙ rw (length-append (saying why w) (10 ∷ []))
@@ -115,7 +116,7 @@ place-length : (i : ℕ) → i ≤ 4096 → length (decimal i) ≤ 4
 place-length i h = omega (arith, length-decimal i, width-within 3 i (omega arith))
 
 reason-length : (w : Refusal) → placeOf w ≤ 4096 → length (reason w) ≤ 128
-unfolding reason
+unfolding reason sentence
 reason-length TooLong h = omega arith
 reason-length NotAscii h = omega arith
 reason-length NotAPath h = omega arith

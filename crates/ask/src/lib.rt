@@ -4,11 +4,18 @@ pub mod input;
 use path::PathView;
 use path::Reading;
 use path::Refusal;
+use text::refusal::NO_DIGITS;
+use text::refusal::NOT_A_DIGIT;
+use text::refusal::NOT_A_PATH;
+use text::refusal::NOT_ASCII;
+use text::refusal::TOO_LARGE;
+use text::refusal::TOO_LONG;
+use text::refusal::write_sentence;
 ghost use mathlib.Core.Path.{_≡_};
 ghost use Prim.Native.Nat.{_+_, _≤_};
 ghost use lib.ListN.{length};
 ghost use Rattle.text.specs.Put.{put};
-ghost use Rattle.ask.specs.Answer.{mark, head, viewAnswer, placed, reason, saying, refusalAnswer, lineAnswer};
+ghost use Rattle.ask.specs.Answer.{mark, head, viewAnswer, spoken, placed, reason, saying, refusalAnswer, lineAnswer};
 
 // Writes ` E ` or ` L `, and returns the place after it.
 fn write_mark(out: &mut [u8], at: usize, exact: bool) -> usize
@@ -33,15 +40,25 @@ fn write_head(out: &mut [u8], at: usize, kind: u8, exact: bool) -> usize
     write_mark(out, mark, exact)
 }
 
-// Writes a place and the sentence after it, and returns the place after them.
-fn write_placed(out: &mut [u8], at: usize, place: usize, sentence: &[u8]) -> usize
-    requires { ⌜ at + length (placed place (now sentence)) ≤ length (now out) ⌝ }
-    ensures { λ r. ⌜ r ≡ at + length (placed place (now (sentence .entry))) ⌝ }
-    ensures { λ _. ⌜ now (out .exit) ≡ put (now (out .entry)) at (placed place (now (sentence .entry))) ⌝ }
+// Writes a space and the sentence of a refusal, and returns the place after them.
+fn write_spoken(out: &mut [u8], at: usize, number: u8) -> usize
+    requires { ⌜ at + length (spoken number) ≤ length (now out) ⌝ }
+    ensures { λ r. ⌜ r ≡ at + length (spoken number) ⌝ }
+    ensures { λ _. ⌜ now (out .exit) ≡ put (now (out .entry)) at (spoken number) ⌝ }
 {
-    let number = text::put::write_text(out, at, b" ");
-    let end = text::write_number(out, number, place as u64);
-    text::put::write_text(out, end, sentence)
+    let sentence = text::put::write_text(out, at, b" ");
+    write_sentence(out, sentence, number)
+}
+
+// Writes a place and the sentence of a refusal after it, and returns the place after them.
+fn write_placed(out: &mut [u8], at: usize, place: usize, number: u8) -> usize
+    requires { ⌜ at + length (placed place number) ≤ length (now out) ⌝ }
+    ensures { λ r. ⌜ r ≡ at + length (placed place number) ⌝ }
+    ensures { λ _. ⌜ now (out .exit) ≡ put (now (out .entry)) at (placed place number) ⌝ }
+{
+    let digits = text::put::write_text(out, at, b" ");
+    let end = text::write_number(out, digits, place as u64);
+    write_spoken(out, end, number)
 }
 
 // Writes the place, where there is one, and the sentence for a customer, and returns the place after them.
@@ -51,39 +68,12 @@ fn write_reason(out: &mut [u8], at: usize, w: Refusal) -> usize
     ensures { λ _. ⌜ now (out .exit) ≡ put (now (out .entry)) at (reason w) ⌝ }
 {
     match w {
-        Refusal::TooLong => text::put::write_text(
-            out,
-            at,
-            b" the text, or the path that it makes, has more than 4,096 bytes: shorten it",
-        ),
-        Refusal::NotAscii => text::put::write_text(
-            out,
-            at,
-            b" a byte of the text is 128 or more: write the text in ASCII alone",
-        ),
-        Refusal::NotAPath => text::put::write_text(
-            out,
-            at,
-            b" the text fits none of the nineteen kinds of path: hold its words and numbers against the table of kinds",
-        ),
-        Refusal::NoDigits(i) => write_placed(
-            out,
-            at,
-            i,
-            b" where a number should stand there is no digit: write one, from 0 to 18446744073709551615",
-        ),
-        Refusal::NotADigit(i) => write_placed(
-            out,
-            at,
-            i,
-            b" a byte of the number is no digit: write it in the digits 0 to 9 alone",
-        ),
-        Refusal::TooLarge(i) => write_placed(
-            out,
-            at,
-            i,
-            b" the number is above 18446744073709551615: write a smaller one",
-        ),
+        Refusal::TooLong => write_spoken(out, at, TOO_LONG),
+        Refusal::NotAscii => write_spoken(out, at, NOT_ASCII),
+        Refusal::NotAPath => write_spoken(out, at, NOT_A_PATH),
+        Refusal::NoDigits(i) => write_placed(out, at, i, NO_DIGITS),
+        Refusal::NotADigit(i) => write_placed(out, at, i, NOT_A_DIGIT),
+        Refusal::TooLarge(i) => write_placed(out, at, i, TOO_LARGE),
     }
 }
 

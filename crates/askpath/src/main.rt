@@ -5,10 +5,11 @@
 // for a customer. What is printed is proved in `ask`; here are the arguments, the reads and the writes.
 use ask::input::answer_last;
 use ask::input::answer_lines;
+use libc::EAGAIN;
 use libc::STDERR_FILENO;
 use libc::STDIN_FILENO;
 use libc::STDOUT_FILENO;
-ghost use Prim.Native.Nat.{_+_, _-_, _*_, _≤_};
+ghost use Prim.Native.Nat.{_+_, _-_, _*_, _≤_, _<_};
 ghost use lib.ListN.{length};
 ghost use Rattle.ask.specs.Answer.{extra};
 
@@ -25,11 +26,58 @@ struct Turn {
     held: usize,
 }
 
+// Whether to go on after a write, and how many bytes are written.
+struct Put {
+    go: bool,
+    done: usize,
+}
+
+// Whether the call that just failed only had nothing to read, or no room to write, yet: a pipe or a terminal that does
+// not wait. Then it is asked again, after others had the processor.
+fn may_wait() -> bool {
+    if os::errno() == EAGAIN {
+        libc::sched_yield();
+        return true;
+    }
+    false
+}
+
+// One write of what is left.
+fn write_once(out: &[u8], done: usize, used: usize) -> Put
+    requires { ⌜ (done < used) × (used ≤ length (now out)) ⌝ }
+    ensures { λ r. ⌜ r .done ≤ used ⌝ }
+{
+    let put = libc::write(STDOUT_FILENO, &out[done..used]);
+    if put < 0 {
+        return Put {
+            go: may_wait(),
+            done,
+        };
+    }
+    Put {
+        go: put > 0,
+        done: done + io::count(put, &out[done..used]),
+    }
+}
+
+// Writes all of it, and answers whether that could be done. The turns are counted down as in `read_all`.
+fn write_out(out: &[u8], used: usize) -> bool
+    requires { ⌜ used ≤ length (now out) ⌝ }
+{
+    let mut p = Put { go: true, done: 0 };
+    let mut turns = u64::MAX;
+    while turns > 0 && p.go && p.done < used {
+        p = write_once(out, p.done, used);
+        turns -= 1;
+    }
+    p.done == used
+}
+
 // Writes the answers out, and answers whether that could be done.
 fn show(out: &[u8], used: usize) -> bool
     requires { ⌜ used ≤ length (now out) ⌝ }
 {
-    if io::write_all(STDOUT_FILENO, &out[0..used]) {
+    if write_out(out, used) {
         return true;
     }
     io::write_all(
@@ -61,7 +109,7 @@ fn read_end(held: usize, length: usize, why: bool) -> usize
 }
 
 // One read after what is held, and the answers to the lines that end in it. A read that fails is not the end of the
-// input, so what is held is then not answered as a last line.
+// input, so what is held is then not answered as a last line; one that would have to wait is made again.
 fn read_once(input: &mut [u8], held: usize, out: &mut [u8], why: bool) -> Turn
     requires { ⌜ (held ≤ 4097) × (65536 ≤ length (now input)) ⌝ }
     requires { ⌜ 2 * length (now input) ≤ length (now out) ⌝ }
@@ -70,6 +118,9 @@ fn read_once(input: &mut [u8], held: usize, out: &mut [u8], why: bool) -> Turn
     let most = read_end(held, input.len(), why);
     let got = libc::read(STDIN_FILENO, &mut input[held..most]);
     if got < 0 {
+        if may_wait() {
+            return Turn { go: true, held };
+        }
         io::write_all(
             STDERR_FILENO,
             b"askpath: standard input cannot be read to its end, so lines are not answered: mend the file or the pipe, and ask again\n",

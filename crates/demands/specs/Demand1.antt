@@ -12,6 +12,7 @@ use denote.Ref.{now}
 use Rattle.text.specs.Bytes.{bytes}
 use Rattle.text.specs.Number.{decimal}
 use Rattle.text.specs.Put.{text}
+use Rattle.text.specs.Refusal.{sentence}
 use Rattle.text.specs.declared.Fault.{Fault}
 use Rattle.identifiers.specs.Check.{namedIndexFault, faultOf}
 use Rattle.identifiers.specs.Check as check
@@ -108,6 +109,7 @@ use Rattle.hostpath.proofs.hp_book_oldest.Reads as hp-book-oldest
 use Rattle.hostpath.proofs.hp_book_convert.Reads as hp-book-convert
 use Rattle.hostpath.proofs.hp_book_fill.Reads as hp-book-fill
 use Rattle.hostpath.proofs.hp_book_lookup_many.Reads as hp-book-lookup-many
+use Rattle.hostpath.proofs.hp_refusal_text.Reads as hp-refusal-text
 use Rattle.render.proofs.render.Reads as render
 use Rattle.key.proofs.write_key.Reads as write-key
 use Rattle.reader.proofs.write_reading.Reads as write-reading
@@ -324,6 +326,9 @@ hp-book-fill-holds = filled-demand (λ κs a. tt) (λ κs r. r) (λ κs a. now (
 
 pub hp-book-lookup-many-holds : Demand1 hp-book-lookup-many.Pre hp-book-lookup-many.Post (9 ∷ 22 ∷ 4 ∷ []) (λ κs r. r .refusal) (λ κs r. r .length ∷ []) (λ κs a. now (a .1 .1 .1 .0)) (λ κs s. now (s .1 .1 .1 .0))
 hp-book-lookup-many-holds = looked-many-demand (λ κs a. tt) (λ κs r. r) (λ κs a. now (a .0)) (λ κs a. now (a .1 .0)) (λ κs a. now (a .1 .1 .0)) (λ κs a. now (a .1 .1 .1 .0)) (λ κs s. now (s .1 .1 .1 .0)) (λ κs a r s p. p)
+
+pub hp-refusal-text-holds : Demand1 hp-refusal-text.Pre hp-refusal-text.Post room (λ κs r. r .refusal) (λ κs r. r .length ∷ []) (λ κs a. now (a .1 .0)) (λ κs s. now (s .1 .0))
+hp-refusal-text-holds = writes room _ _ (λ κs a. tt) (λ κs r. r) (λ κs a. text (sentence (a .0))) refl refl (λ κs a. tt) (λ κs a r s p. p)
 
 -- ---- the wide calls: 21 stands in the place of 2
 pub hp-wide-validate-identifier-chars-holds : Demand1 hp-wide-validate-identifier-chars.Pre hp-wide-validate-identifier-chars.Post (21 ∷ 5 ∷ []) (λ κs r. r) (λ κs r. []) (λ κs a. []) (λ κs s. [])

@@ -74,6 +74,7 @@ use Rattle.hostpath.proofs.hp_book_oldest.Reads as hp-book-oldest
 use Rattle.hostpath.proofs.hp_book_convert.Reads as hp-book-convert
 use Rattle.hostpath.proofs.hp_book_fill.Reads as hp-book-fill
 use Rattle.hostpath.proofs.hp_book_lookup_many.Reads as hp-book-lookup-many
+use Rattle.hostpath.proofs.hp_refusal_text.Reads as hp-refusal-text
 
 pub one-hp-validate-identifier-chars : One hp-validate-identifier-chars.Post
 one-hp-validate-identifier-chars κs a r₁ r₂ s₁ s₂ p q = p ∙ sym q
@@ -267,3 +268,6 @@ one-hp-book-fill κs a r₁ r₂ s₁ s₂ p q = one-fills Current lawful p q
 
 pub one-hp-book-lookup-many : OneWith hp-book-lookup-many.Post (λ κs s. now (s .1 .1 .1 .0))
 one-hp-book-lookup-many κs a r₁ r₂ s₁ s₂ p q = one-many Current lawful p q
+
+pub one-hp-refusal-text : OneWith hp-refusal-text.Post (λ κs s. now (s .1 .0))
+one-hp-refusal-text κs a r₁ r₂ s₁ s₂ p q = agree p q

@@ -1,29 +1,6 @@
 // The C interface: what a program that is not Rattle's calls. Each function only hands its arguments on.
 // `bin/interface` makes of this file what declares and calls the interface elsewhere. The comment above a function says what
 // it gives and its refusals in the order in which they are looked for; a comment that stands alone heads what follows.
-// What a refusal, by its name in crates/text/src/refusal.rt, tells whoever asked:
-// TOO_LONG: the text, or the path that it makes, has more than 4,096 bytes: shorten it
-// NOT_ASCII: a byte of the text is 128 or more: write the text in ASCII alone
-// NOT_A_PATH: the text fits none of the nineteen kinds of path: hold its words and numbers against the table of kinds
-// NO_ROOM: the lent buffer is too short, or not of the size that a converted book has: lend one of the right size
-// BAD_CHAR: a byte is none of A-Z, a-z, 0-9 and . _ + - # [ ] < >, which identifiers are made of: take it out
-// BAD_LENGTH: the identifier is too short or too long, or the value is empty or over 64 bytes: give one of the right length
-// BAD_PREFIX: the identifier is not its name, a dash and a number without leading zeros: write it as in channel-7
-// BAD_BOOK: the buffer holds no book of the version that the call takes: make a new one in it, or convert a book of version 1
-// KEY_TOO_LONG: the path's key has more than the 255 bytes that a book keeps: shorten its upgrade path
-// FULL: every slot of the book holds another key: remove a record, or take a book of more slots
-// ABSENT: the book holds no such record, or the block no such key: ask for the key of the text to see which record was looked for
-// BAD_SEGMENT: the upgrade path has a slash: give it as one piece, such as upgradedIBCState
-// BAD_KIND: the kind is not a number from 1 to 19: take it from the table of kinds
-// BAD_ITER_KEY: the bytes are not iterateConsensusStates and 16 more, 38 in all: give one whole iteration key
-// BAD_BLOCK: the block is not whole iteration keys that rise, no two the same: put them in order and take out what is no key
-// NO_DIGITS: where a number should stand there is no digit: write one, from 0 to 18446744073709551615
-// NOT_A_DIGIT: a byte of the number is no digit: write it in the digits 0 to 9 alone
-// TOO_LARGE: the number is above 18446744073709551615: write a smaller one
-// LOOSE: a number of the text has a plus or leading zeros, so it is not its own key: give its key, or make the lenient call
-// BAD_UTF8: the text is no UTF-8: give it as UTF-8 without overlong forms and surrogates
-// BAD_TABLE: the table is not the 512 numbers that filling it from this book gives: fill it again
-// BAD_V2_KEY: the bytes are not a client, a marker of 1, 2 or 3 and 8 more, or the kind is not one of these: give a whole packet key
 use identifiers::channel_id::write_channel_id;
 use identifiers::client_id::write_client_id;
 use identifiers::validate;
@@ -42,7 +19,7 @@ ghost use mathlib.Core.List.{_∷_, []};
 ghost use lib.ListN.{length};
 ghost use Rattle.text.specs.Bytes.{bytes};
 ghost use Rattle.text.specs.Put.{text, answer, left};
-ghost use Rattle.text.specs.Refusal.{badIterKey};
+ghost use Rattle.text.specs.Refusal.{badIterKey, sentence};
 ghost use Rattle.identifiers.specs.Check.{charsOf, lengthOf, prefixLengthOf, namedIndexFault, checkOf, faultOf, client, clientType, connection, port, channel};
 ghost use Rattle.identifiers.specs.Owned.{newClient, newChannel};
 ghost use Rattle.path.specs.Kinds.{word, carried};
@@ -173,7 +150,8 @@ pub extern "C" fn hp_read(text: &[u8], out: &mut [u8]) -> Fault
     reader::write_reading(text, out)
 }
 
-// The same by the second reader, which walks the text once: equal to hp_read on every input, and faster.
+// The same by the second reader, which walks the text once: equal to hp_read on every input, and faster, so of the two this is
+// the one to call. hp_read is the plainer one, which it is held against.
 #[no_mangle]
 pub extern "C" fn hp_walk(text: &[u8], out: &mut [u8]) -> Fault
     ensures { λ r. ⌜ r ≡ readFault (now (text .entry)) (length (now (out .entry))) ⌝ }
@@ -666,4 +644,16 @@ pub extern "C" fn hp_book_lookup_many(
     ensures { λ r. ⌜ LooksMany Current (now (book .entry)) (now (table .entry)) (now (texts .entry)) (now (out .entry)) r (now (out .exit)) ⌝ }
 {
     table::many::look_many(book, table, texts, out)
+}
+
+// What refusals mean.
+
+// The sentence of a refusal, by its number: what was wrong and what to do about it, at most 128 bytes. `done` for 0, and
+// nothing, with length 0, for a number that is no refusal: 4.
+#[no_mangle]
+pub extern "C" fn hp_refusal_text(number: u8, out: &mut [u8]) -> Written
+    ensures { λ r. ⌜ r ≡ answer (text (sentence number)) (length (now (out .entry))) ⌝ }
+    ensures { λ _. ⌜ now (out .exit) ≡ left (text (sentence number)) (now (out .entry)) ⌝ }
+{
+    text::refusal::give_sentence(out, number)
 }

@@ -14,6 +14,7 @@ pub mod PlaceLaws
 pub mod Put
 pub mod PutLaws
 pub mod Refusal
+pub mod RefusalLaws
 pub mod TableLaws
 pub mod WidthLaws
 pub mod WordLaws

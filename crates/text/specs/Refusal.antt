@@ -1,7 +1,11 @@
--- The refusal numbers of the whole library, by name; `text::refusal` has them for code. 0 is no refusal, and
--- 8 is given no more: 17 to 19 stand in its place.
+-- The refusals of the whole library: their numbers by name, and the sentence of each; `text::refusal` has them for code. 0 is no
+-- refusal, and 8 is given no more: 17 to 19 stand in its place.
 -- Assumes nothing.
 use Prim.Native.Nat.{ℕ}
+use mathlib.Core.Bool.{cond}
+use mathlib.Core.List.{List, [], _∷_}
+use lib.Dec.{eqb}
+use Rattle.text.specs.Bytes.{bytes}
 
 -- a text to be read as a path, or a rendering, of more than 4,096 bytes
 abbrev pub tooLong : ℕ
@@ -90,3 +94,39 @@ badTable = 22
 -- a text that is no packet key of IBC version 2, or a kind of which there is none
 abbrev pub badV2Key : ℕ
 badV2Key = 24
+
+-- each number with the sentence that tells whoever asked what was wrong and what to do about it; 0 has one too
+abbrev pub sentences : List (ℕ × List ℕ)
+sentences =
+    (0, bytes "done")
+    ∷ (tooLong, bytes "the text, or the path that it makes, has more than 4,096 bytes: shorten it")
+    ∷ (notAscii, bytes "a byte of the text is 128 or more: write the text in ASCII alone")
+    ∷ (notAPath, bytes "the text fits none of the nineteen kinds of path: hold its words and numbers against the table of kinds")
+    ∷ (noRoom, bytes "the lent buffer is too short, or not of the size that a converted book has: lend one of the right size")
+    ∷ (badChar, bytes "a byte is none of A-Z, a-z, 0-9 and . _ + - # [ ] < >, which identifiers are made of: take it out")
+    ∷ (badLength, bytes "the identifier is too short or too long, or the value is empty or over 64 bytes: give one of the right length")
+    ∷ (badPrefix, bytes "the identifier is not its name, a dash and a number without leading zeros: write it as in channel-7")
+    ∷ (badBook, bytes "the buffer holds no book of the version that the call takes: make a new one in it, or convert a book of version 1")
+    ∷ (keyTooLong, bytes "the path's key has more than the 255 bytes that a book keeps: shorten its upgrade path")
+    ∷ (noSlot, bytes "every slot of the book holds another key: remove a record, or take a book of more slots")
+    ∷ (noRecord, bytes "the book holds no such record, or the block no such key: ask for the key of the text to see which record was looked for")
+    ∷ (badSegment, bytes "the upgrade path has a slash: give it as one piece, such as upgradedIBCState")
+    ∷ (badKind, bytes "the kind is not a number from 1 to 19: take it from the table of kinds")
+    ∷ (badIterKey, bytes "the bytes are not iterateConsensusStates and 16 more, 38 in all: give one whole iteration key")
+    ∷ (badBlock, bytes "the block is not whole iteration keys that rise, no two the same: put them in order and take out what is no key")
+    ∷ (noDigits, bytes "where a number should stand there is no digit: write one, from 0 to 18446744073709551615")
+    ∷ (notADigit, bytes "a byte of the number is no digit: write it in the digits 0 to 9 alone")
+    ∷ (tooLarge, bytes "the number is above 18446744073709551615: write a smaller one")
+    ∷ (loose, bytes "a number of the text has a plus or leading zeros, so it is not its own key: give its key, or make the lenient call")
+    ∷ (badUtf8, bytes "the text is no UTF-8: give it as UTF-8 without overlong forms and surrogates")
+    ∷ (badTable, bytes "the table is not the 512 numbers that filling it from this book gives: fill it again")
+    ∷ (badV2Key, bytes "the bytes are not a client, a marker of 1, 2 or 3 and 8 more, or the kind is not one of these: give a whole packet key")
+    ∷ []
+
+-- the sentence in the first row of a number, and nothing where there is none
+abbrev pub said : ℕ → List (ℕ × List ℕ) → List ℕ
+said n [] = []
+said n (row ∷ rows) = cond (eqb n (row .0)) (row .1) (said n rows)
+
+unfoldable pub sentence : ℕ → List ℕ
+sentence n = said n sentences

@@ -73,6 +73,7 @@ pub enum Function {
     BookConvert,
     BookFill,
     BookLookupMany,
+    RefusalText,
     // Above, made by bin/interface.
     /// No call: the text is what calls on a book are lent from now on.
     BookLend,
@@ -147,6 +148,7 @@ impl Function {
             "hp_book_convert" => Self::BookConvert,
             "hp_book_fill" => Self::BookFill,
             "hp_book_lookup_many" => Self::BookLookupMany,
+            "hp_refusal_text" => Self::RefusalText,
             // Above, made by bin/interface.
             _ => return None,
         })
@@ -272,6 +274,7 @@ impl Function {
             Self::BookConvert => [false, true, false],
             Self::BookFill => [false, true, true],
             Self::BookLookupMany => [false, true, true],
+            Self::RefusalText => [true, false, true],
             // Above, made by bin/interface.
             Self::BookLend => [false, true, false],
         }
@@ -347,6 +350,7 @@ pub fn make(call: &Call, book: &mut [u8], out: &mut [u8]) -> Returned {
         Function::BookConvert => raw::book_convert(texts[0], book).into(),
         Function::BookFill => raw::book_fill(book, out).into(),
         Function::BookLookupMany => raw::book_lookup_many(book, texts[0], texts[1], out).into(),
+        Function::RefusalText => raw::refusal_text(kind, out).into(),
         // Above, made by bin/interface.
         Function::BookLend => Returned::default(),
     }

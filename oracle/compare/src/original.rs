@@ -46,6 +46,7 @@ pub fn says(call: &Call) -> Theirs<Text> {
         Function::Key => reads(mode, call.texts[0], |_, key| Bytes(key.into())),
         Function::Render => renders(mode, call),
         Function::IsProvable => provable(call.kind),
+        Function::RefusalText => Theirs::Silent("no sentence"),
         _ => hear(mode, call.texts, |texts| {
             let text = written(call, texts).or_else(|| checked(call, texts));
             text.expect("a call").map(Bytes).map_err(|e| e.number().into())

@@ -201,6 +201,8 @@ pub mod c {
         pub fn hp_book_fill(book: *const u8, book_len: usize, table: *mut u8, table_len: usize) -> u8;
         /// [`book_lookup_many`] on pointers.
         pub fn hp_book_lookup_many(book: *const u8, book_len: usize, table: *const u8, table_len: usize, texts: *const u8, texts_len: usize, out: *mut u8, out_len: usize) -> Written;
+        /// [`refusal_text`] on pointers.
+        pub fn hp_refusal_text(number: u8, out: *mut u8, out_len: usize) -> Written;
         // Above, made by bin/interface.
     }
 }
@@ -284,7 +286,8 @@ pub fn read(text: &[u8], out: &mut [u8]) -> Fault {
     unsafe { c::hp_read(text.as_ptr(), text.len(), out.as_mut_ptr(), out.len()) }
 }
 
-/// The same by the second reader, which walks the text once: equal to hp_read on every input, and faster.
+/// The same by the second reader, which walks the text once: equal to hp_read on every input, and faster, so of the two this is
+/// the one to call. hp_read is the plainer one, which it is held against.
 pub fn walk(text: &[u8], out: &mut [u8]) -> Fault {
     // SAFETY: each pointer and count are those of one live slice.
     unsafe { c::hp_walk(text.as_ptr(), text.len(), out.as_mut_ptr(), out.len()) }
@@ -610,5 +613,12 @@ pub fn book_fill(book: &[u8], table: &mut [u8]) -> u8 {
 pub fn book_lookup_many(book: &[u8], table: &[u8], texts: &[u8], out: &mut [u8]) -> Written {
     // SAFETY: each pointer and count are those of one live slice.
     unsafe { c::hp_book_lookup_many(book.as_ptr(), book.len(), table.as_ptr(), table.len(), texts.as_ptr(), texts.len(), out.as_mut_ptr(), out.len()) }
+}
+
+/// The sentence of a refusal, by its number: what was wrong and what to do about it, at most 128 bytes. `done` for 0, and
+/// nothing, with length 0, for a number that is no refusal: [4](crate::Refusal::NoRoom).
+pub fn refusal_text(number: u8, out: &mut [u8]) -> Written {
+    // SAFETY: each pointer and count are those of one live slice.
+    unsafe { c::hp_refusal_text(number, out.as_mut_ptr(), out.len()) }
 }
 // Above, made by bin/interface.

@@ -13,8 +13,8 @@ answer-lines-requires c κs = let x = c .before .before .before .before .before 
     let e = extra-more (x .why) (x .held + n .result - x .held) (m .result - x .held) (search needs) in
     (search needs, omega (arith, e, m .ensures .1))
 
-returns-3 : tie.Need-returns-3
-returns-3 c = held-short _ _ (c .before .before .before .before .before .before .answer-lines .ensures .holds)
+returns-4 : tie.Need-returns-4
+returns-4 c = held-short _ _ (c .before .before .before .before .before .before .answer-lines .ensures .holds)
 
 pub read-once-spec : {M : Type 1} → statement M
 read-once-spec =
@@ -25,6 +25,9 @@ read-once-spec =
     (λ c. search needs)
     (λ c. search needs)
     (λ c κs. search needs)
+    (λ c κs. search needs)
+    (λ c. search needs)
+    (λ c. search needs)
     (λ c. search needs)
     (λ c κs. search needs)
     (λ c. search needs)
@@ -42,4 +45,4 @@ read-once-spec =
     (λ c κs. search needs)
     (λ c. search needs)
     (λ c. search needs)
-    returns-3)
+    returns-4)
