@@ -51,8 +51,8 @@ for file in crates/*/specs/*.antt; do
     holds "$file defines or states something by laws: $found" test -z "$found"
 done
 
-bin/believe >"$work/printed"
-sed -n '/^| crate | what the contracts cite/,/ for the demands\.$/p' docs/ARCHITECTURE.md >"$work/listed"
+bin/believe | grep '^|' >"$work/printed"
+sed -n '/^| crate | what the contracts cite/,/^$/p' docs/ARCHITECTURE.md | grep '^|' >"$work/listed"
 holds 'docs/ARCHITECTURE.md does not list the files that bin/believe prints' cmp -s "$work/printed" "$work/listed"
 
 echo "$passed passed, $failed failed"

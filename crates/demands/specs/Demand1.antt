@@ -141,6 +141,7 @@ use Rattle.wide.proofs.rendering.commitments_path.Reads as wide-commitments-pat
 use Rattle.wide.proofs.rendering.acks_path.Reads as wide-acks-path
 use Rattle.wide.proofs.rendering.receipts_path.Reads as wide-receipts-path
 use Rattle.text.proofs.put.give.Reads as give
+use Rattle.text.proofs.refusal.give_sentence.Reads as give-sentence
 use Rattle.identifiers.proofs.validate.validate_identifier_chars.Reads as validate-identifier-chars
 use Rattle.identifiers.proofs.validate.length_within.Reads as length-within
 use Rattle.identifiers.proofs.validate.check_named.Reads as check-named
@@ -471,6 +472,9 @@ receipt-prefix-holds = writes room _ _ (λ κs a. tt) (λ κs r. r) (λ κs a. t
 
 pub give-holds : Demand1 give.Pre give.Post room (λ κs r. r .refusal) (λ κs r. r .length ∷ []) (λ κs a. now (a .0)) (λ κs s. now (s .0))
 give-holds = writes room _ _ (λ κs a. tt) (λ κs r. r) (λ κs a. text (now (a .1 .0))) refl refl (λ κs a. tt) (λ κs a r s p. p)
+
+pub give-sentence-holds : Demand1 give-sentence.Pre give-sentence.Post room (λ κs r. r .refusal) (λ κs r. r .length ∷ []) (λ κs a. now (a .0)) (λ κs s. now (s .0))
+give-sentence-holds = writes room _ _ (λ κs a. tt) (λ κs r. r) (λ κs a. text (sentence (a .1 .0))) refl refl (λ κs a. tt) (λ κs a r s p. p)
 
 pub wide-write-client-id-holds : Demand1 wide-write-client-id.Pre wide-write-client-id.Post wideClients (λ κs r. r .refusal) (λ κs r. r .length ∷ []) (λ κs a. now (a .1 .1 .0)) (λ κs s. now (s .1 .1 .0))
 wide-write-client-id-holds = writes wideClients _ _ (λ κs a. tt) (λ κs r. r) (λ κs a. newClientIn wide (now (a .0)) (a .1 .0)) refl refl (λ κs a. wides.client-wants _ _) (λ κs a r s p. p)
