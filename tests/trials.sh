@@ -1,7 +1,8 @@
 #!/bin/sh
-# Holds the wrong answers of docs/CONTRACTS.md and their edits together: each wrong answer has one edit, in
-# trials/CRATE.edits or in must-fail/, each edit is of a row, the two of a row differ, and the place of each edit is found;
-# and the page's table of the edits that must fail lists those of must-fail/.
+# Holds the wrong answers on record to the functions that they are of: each edit of trials/CRATE.edits, and each of must-fail/
+# whose first line names a function, is of a public function of its crate; each public function has two, which differ, and no
+# title stands twice; the place of each edit is found; and they are those that bin/contracts prints.
+# And docs/CONTRACTS.md lists the edits of must-fail/.
 # That the prover refuses them is for trials/run. Last line: 'N passed, M failed'.
 . "$(dirname "$0")/lib/start.sh"
 . trials/edits.sh
@@ -11,19 +12,18 @@ fail() {
     failed=$((failed + 1))
 }
 
-# The wrong answers of the rows, as FUNCTION: WRONG ANSWER. An exported call has none.
-grep -E '^\| `[a-z_]+::' docs/CONTRACTS.md | grep -v '^| `hostpath::' | awk -F '|' '{
+# The public functions, and their wrong answers as FUNCTION: WRONG ANSWER. An exported call has none.
+bin/contracts | grep -E '^\| `[a-z_]+::' | grep -v '^| `hostpath::' | awk -F '|' -v functions="$work/functions" '{
     gsub(/[` *]/, "", $2)
-    for (i = 5; i <= 6; i++) {
+    print $2 >functions
+    for (i = 6; i < NF; i++) {
         gsub(/^ +| +$/, "", $i)
         print $2 ": " $i
     }
-}' >"$work/rows"
-sort "$work/rows" | uniq -d >"$work/twice"
-while read -r title; do fail "a row has it twice: $title"; done <"$work/twice"
+}' | sort >"$work/printed"
 
 for file in trials/*.edits; do basename "$file" .edits; done >"$work/crates"
-sed 's/::.*//' "$work/rows" >>"$work/crates"
+sed 's/::.*//' "$work/functions" >>"$work/crates"
 : >"$work/edits"
 for crate in $(sort -u "$work/crates"); do
     lay_out "$crate" "$work/records/$crate"
@@ -31,18 +31,21 @@ for crate in $(sort -u "$work/crates"); do
         [ -f "$record" ] || continue
         title=$(title_of "$record")
         echo "$title" >>"$work/edits"
-        grep -qxF "$title" "$work/rows" || fail "of no row: $title"
+        case $title in "$crate"::*) ;; *) fail "in the edits of $crate: $title" ;; esac
+        grep -qxF "${title%%: *}" "$work/functions" || fail "of no public function: $title"
         make_edit "$record" "$crate" >"$work/edited" 2>&1 || fail "nothing to edit, or no single place: $title"
     done
 done
 
-while read -r title; do
-    case $(grep -cxF "$title" "$work/edits") in
-    1) passed=$((passed + 1)) ;;
-    0) fail "no edit: $title" ;;
-    *) fail "more than one edit: $title" ;;
-    esac
-done <"$work/rows"
+sort "$work/edits" >"$work/titles"
+uniq -d "$work/titles" >"$work/twice"
+while read -r title; do fail "more than one edit: $title"; done <"$work/twice"
+while read -r function; do
+    check "wrong answers of $function" 2 "$(grep -c "^$function: " "$work/titles")"
+done <"$work/functions"
+comm -3 "$work/titles" "$work/printed" >"$work/parted"
+while read -r title; do fail "on record, or printed by bin/contracts, and not both: $title"; done <"$work/parted"
+passed=$((passed + $(comm -12 "$work/titles" "$work/printed" | grep -c '')))
 
 sed -n '/^## Edits that must fail/,$s,^| \([a-z]*\) | `\([a-z0-9_]*\)` |.*,crates/\1/must-fail/\2.edit,p' docs/CONTRACTS.md | sort >"$work/listed"
 ls crates/*/must-fail/*.edit | sort >"$work/there"
