@@ -52,7 +52,7 @@ check 'the first call' 'the program text' "$(printed)"
 check 'its status' 0 "$status"
 check 'what the toolchain was asked' 'check askpath' "$(cat "$work/calls")"
 check 'what is shown of it' \
-    'askpath: 3 crates are proved and built into the program, which may take five minutes of processor time, this once|askpath: text, 1 of 3|askpath: ask, 2 of 3|askpath: askpath, 3 of 3|askpath: ready' \
+    'askpath: 3 crates are proved and built into the program, which may take eight minutes of processor time, this once|askpath: text, 1 of 3|askpath: ask, 2 of 3|askpath: askpath, 3 of 3|askpath: ready' \
     "$(told)"
 call
 check 'calls of the toolchain once the program is built' 1 "$(grep -c . "$work/calls")"
