@@ -90,6 +90,8 @@ ln -s "$(command -v install)" "$work/tools"
 (cd "$work/crates" && HOSTPATH_LIB=../lib PATH=$work/tools /bin/sh ../bin/install ../prefix) >"$work/out" 2>&1
 check 'the files that are installed' 6 "$(grep -c "^install: $work/crates/../prefix/.*, new\$" "$work/out")"
 check 'the program that is installed' "$(cat "$work/program")" "$(cat "$work/prefix/libexec/hostpath/askpath")"
+check 'the version of hostpath.pc and of the header' "$(sed -n 's/^Version: //p' "$work/prefix/lib/pkgconfig/hostpath.pc")" \
+    "$(sed -n 's/^#define HP_VERSION "\(.*\)"$/\1/p' "$work/prefix/include/hostpath.h")"
 rm "$work/prefix/libexec/hostpath/askpath"
 askpath=$work/prefix/bin/askpath
 call
