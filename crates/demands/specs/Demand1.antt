@@ -15,6 +15,7 @@ use Rattle.identifiers.specs.Owned.{newClient, newChannel}
 use Rattle.path.specs.Kinds.{word, carried}
 use Rattle.path.specs.Read.{renderOf, keyOf, readingBytes, readFault}
 use Rattle.path.specs.Parents.{textOf, consensusParent, consensusLeaf, packetsPath}
+use Rattle.path.specs.Revision.{revision}
 use Rattle.wide.specs.Mode.{wide}
 use Rattle.wide.specs.Check.{namedIndexFaultIn, faultIn, newClientIn}
 use Rattle.wide.specs.Read.{readFaultIn, readingBytesIn, keyIn as wideKeyIn}
@@ -22,7 +23,7 @@ use Rattle.wide.specs.Render.{renderIn, textIn}
 use Rattle.keys.specs.declared.Manner.the-variants.{Plain, Lenient}
 use Rattle.keys.specs.Calls.{write, remove}
 use Rattle.iteration.specs.Block.{blockOf, firstAbove, lastBelow, scanned}
-use Rattle.iteration.specs.Key.{iterationKey, revision, keyIn, answered}
+use Rattle.iteration.specs.Key.{iterationKey, keyIn, answered}
 use Rattle.packet.specs.Key.{packetWanted}
 use Rattle.demands.specs.Shape.{Listed, Demand1}
 use Rattle.demands.specs.ShapeLaws.{writes, writes-number, checks, readings, key-wants, reading-wants, renderings, render-wants, clients, client-wants, channel-wants, leaf-wants, update-wants, parent-wants, ends, packets-wants, plain-of, indexed-of, chars-number, length-number, prefix-number, named-index-number}
