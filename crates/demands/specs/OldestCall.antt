@@ -1,8 +1,9 @@
--- `hp_book_oldest` answers a pair that the book holds for the client, and none that it holds is smaller; 12 exactly where it holds none.
+-- `hp_book_oldest` answers a pair that the book holds for the client, and none that it holds is below it; 12 exactly where it holds none.
 -- Assumes nothing.
 use Prim.Native.Nat.{ℕ}
 use mathlib.Core.Path.{_≡_}
-use mathlib.Core.List.{List, [], _∷_}
+use mathlib.Core.Bool.{false}
+use mathlib.Core.List.{List}
 use mathlib.Core.Option.{some}
 use mathlib.Core.Logic.{_↔_}
 use lib.ListN.{getElem?}
@@ -11,13 +12,13 @@ use denote.Ref.{now}
 use borrow.Fn.World.{ArgsD, ResD}
 use borrow.Fn.Kinds.{endedOf}
 use denote.Triple.Clauses.{AtExit}
-use Rattle.text.specs.Order.{Before}
 use Rattle.text.specs.Refusal.{noRecord}
 use Rattle.identifiers.specs.Check.{checkOf}
 use Rattle.identifiers.specs.Check as check
 use Rattle.keys.specs.Act.{Rec}
 use Rattle.oldest.specs.declared.StateAnswer.the-variants.{State}
 use Rattle.path.specs.declared.Pair.{Pair}
+use Rattle.path.specs.Revision.{revision, below}
 use Rattle.book.specs.Book.{Current, Book}
 use Rattle.oldest.specs.Oldest.{stateOf}
 use Rattle.hostpath.proofs.hp_book_oldest as o
@@ -37,13 +38,13 @@ pub record OldestCall (b client : List ℕ) (x : Pair) : Type 0 where
 
 -- a record of these is a state of the client, with this revision number and height
 abbrev pub Holds : List Rec → List ℕ → ℕ → ℕ → Type 0
-Holds s client m h = (j : ℕ) × (r : Rec) × (getElem? s j ≡ some r) × (stateOf client (r .0) ≡ State m h)
+Holds s client m h = (j : ℕ) × (r : Rec) × (getElem? s j ≡ some r) × (stateOf client (r .0) ≡ State (revision m h))
 
 pub record OldestSays (s : List Rec) (client : List ℕ) (x : Pair) : Type 0 where
   -- the answer is held
   pub held : x .refusal ≡ 0 → Holds s client (x .number) (x .height)
-  -- and nothing that is held is smaller
-  pub least : x .refusal ≡ 0 → (m h : ℕ) → Holds s client m h → Before (m ∷ h ∷ []) (x .number ∷ x .height ∷ []) → ⊥
+  -- and nothing that is held is below it
+  pub least : x .refusal ≡ 0 → (m h : ℕ) → Holds s client m h → below (revision m h) (revision (x .number) (x .height)) ≡ false
   -- nothing is held exactly where the answer is 12
   pub absent : checkOf check.client client ≡ 0 → (x .refusal ≡ noRecord) ↔ ((m h : ℕ) → Holds s client m h → ⊥)
 

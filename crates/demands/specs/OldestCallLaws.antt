@@ -15,6 +15,7 @@ use Rattle.keys.specs.Act.{Rec}
 use Rattle.oldest.specs.declared.StateAnswer.{StateAnswer}
 use Rattle.oldest.specs.declared.StateAnswer.the-variants.{State, Nothing}
 use Rattle.path.specs.declared.Pair.{Pair}
+use Rattle.path.specs.Revision.{revision}
 use Rattle.book.specs.Book.{Current, Book}
 use Rattle.book.specs.BookLaws.{one-book, lawful}
 use Rattle.oldest.specs.Oldest.{stateOf, oldestState, oldestIn, Oldest}
@@ -25,10 +26,10 @@ use Rattle.demands.specs.OldestCall.{OldestCall, Holds, OldestSays, Olde
 module _ (client : List ℕ) (s : List Rec) where
   by-state : (a : StateAnswer) → oldestState client s ≡ a → checkOf check.client client ≡ 0 → OldestSays s client (oldestIn client s)
   unfolding oldestIn
-  by-state (State m h) e f = rw (f, e) (record {
-    held = λ q. oldest-held client s m h e;
-    least = λ q n k x b. oldest-least client s m h e (x .0) (x .1) n k (x .2) (x .3) b;
-    absent = λ q. (λ z. absurd (let w : ⊥ = omega arith in w), λ none. absurd (none m h (oldest-held client s m h e)));
+  by-state (State p) e f = rw (f, e) (record {
+    held = λ q. oldest-held client s p e;
+    least = λ q m h x. oldest-least client s p e (x .0) (x .1) (revision m h) (x .2) (x .3);
+    absent = λ q. (λ z. absurd (let w : ⊥ = omega arith in w), λ none. absurd (none (p .number .0) (p .height .0) (oldest-held client s p e)));
   })
   by-state Nothing e f = rw (f, e) (record {
     held = λ q. absurd (let w : ⊥ = omega arith in w);
