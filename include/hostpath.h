@@ -13,9 +13,9 @@
  * input or output. So calls may run at the same time as long as none writes what another is lent: a book that is
  * only read may be read from several threads, and a book that one of them writes is for its writer to guard.
  *
- * Stack: HP_STACK bytes are enough for any call, twice what was seen. On x86-64 the deepest, hp_wide_key, takes 7568,
- * the sum of the frames of the archive that it goes through: no function there calls itself, and no frame grows with
- * what it is given. examples/stack.c measures it on any processor. Of the C library only memcpy and memset are called.
+ * Stack: HP_STACK bytes are enough for any call, twice what was seen. On x86-64 the deepest, hp_wide_key, takes about
+ * 7,600, the sum of the frames of the archive that it goes through: no function there calls itself, and no frame grows
+ * with what it is given. examples/stack.c measures it on any processor. Of the C library only memcpy and memset are called.
  *
  * The numbers after a call are its refusals, in the order in which they are looked for; 0 is done.
  * The library is proved in Rattle; rust/hostpath has the same calls for Rust, and examples/path.c uses them.

@@ -52,7 +52,7 @@ check 'the first call' 'the program text' "$(printed)"
 check 'its status' 0 "$status"
 check 'what the toolchain was asked' 'check askpath' "$(cat "$work/calls")"
 check 'what is shown of it' \
-    'askpath: 3 crates are proved and built into the program, which may take five minutes of processor time, this once|askpath: text, 1 of 3|askpath: ask, 2 of 3|askpath: askpath, 3 of 3|askpath: ready' \
+    'askpath: 3 crates are proved and built into the program, which may take eight minutes of processor time, this once|askpath: text, 1 of 3|askpath: ask, 2 of 3|askpath: askpath, 3 of 3|askpath: ready' \
     "$(told)"
 call
 check 'calls of the toolchain once the program is built' 1 "$(grep -c . "$work/calls")"
@@ -90,6 +90,8 @@ ln -s "$(command -v install)" "$work/tools"
 (cd "$work/crates" && HOSTPATH_LIB=../lib PATH=$work/tools /bin/sh ../bin/install ../prefix) >"$work/out" 2>&1
 check 'the files that are installed' 6 "$(grep -c "^install: $work/crates/../prefix/.*, new\$" "$work/out")"
 check 'the program that is installed' "$(cat "$work/program")" "$(cat "$work/prefix/libexec/hostpath/askpath")"
+check 'the version of hostpath.pc and of the header' "$(sed -n 's/^Version: //p' "$work/prefix/lib/pkgconfig/hostpath.pc")" \
+    "$(sed -n 's/^#define HP_VERSION "\(.*\)"$/\1/p' "$work/prefix/include/hostpath.h")"
 rm "$work/prefix/libexec/hostpath/askpath"
 askpath=$work/prefix/bin/askpath
 call

@@ -146,7 +146,7 @@ unfolding oldestIn
 in-records c s = pick (eqb (checkOf check.client c) 0)
   where
     state : (x : StateAnswer) → Told (pairOf x)
-    state (State m h) = record { listed = refl; zeros = λ n. absurd (n refl) }
+    state (State p) = record { listed = refl; zeros = λ n. absurd (n refl) }
     state Nothing = record { listed = refl; zeros = λ n. (refl, (refl, tt)) }
 
     pick : (v : Bool) → Told (cond v (pairOf (oldestState c s)) (pair (checkOf check.client c) 0 0))

@@ -24,6 +24,7 @@ use Rattle.identifiers.specs.declared.port_id.MadePortId.{MadePortId}
 use Rattle.path.specs.Kinds.{word, carried}
 use Rattle.path.specs.Read.{renderOf, keyOf, bytesBy, readingBytes, readFault}
 use Rattle.path.specs.Parents.{textOf, consensusParent, consensusLeaf, packetsPath}
+use Rattle.path.specs.Revision.{revision}
 use Rattle.writers.specs.Texts.{parentText}
 use Rattle.reader.specs.Encode.{viewBytes, answerBy}
 use Rattle.key.specs.Key.{shownBy}
@@ -34,7 +35,7 @@ use Rattle.wide.specs.Render.{renderIn, textIn}
 use Rattle.keys.specs.declared.Manner.the-variants.{Plain, Lenient}
 use Rattle.keys.specs.Calls.{write, remove}
 use Rattle.iteration.specs.Block.{blockOf, firstAbove, lastBelow, scanned}
-use Rattle.iteration.specs.Key.{iterationKey, revision, keyIn, answered, pairOf}
+use Rattle.iteration.specs.Key.{iterationKey, keyIn, answered, pairOf}
 use Rattle.packet.specs.Key.{packetWanted, packetOf}
 use Rattle.demands.specs.Numbers.{readings, renderings, clients, ends, wideReadings, wideRenderings, wideClients, wideEnds, packetReads, packetWrites, writeNumbers, removeNumbers, lookNumbers, named, indexes, wideNamed, wideIndexes, names, wideNames, unread, room}
 use Rattle.demands.specs.Shape.{Listed, Demand1}

@@ -12,10 +12,11 @@ use Rattle.text.specs.Number.{Bytes}
 use Rattle.text.specs.Order.{Before}
 use Rattle.text.specs.declared.Written.{Written}
 use Rattle.path.specs.declared.Pair.{Pair}
+use Rattle.path.specs.declared.Revision.{Revision}
 use Rattle.path.specs.Pair.{pair}
-use Rattle.iteration.specs.declared.Revision.{Revision}
-use Rattle.iteration.specs.Key.{iterationKey, revision}
-use Rattle.iteration.specs.Block.{below, blockOf, firstAbove, lastBelow}
+use Rattle.path.specs.Revision.{revision, below}
+use Rattle.iteration.specs.Key.{iterationKey}
+use Rattle.iteration.specs.Block.{blockOf, firstAbove, lastBelow}
 use Rattle.iteration.specs.ScanLaws.{below-before, first-nearest, first-all, last-nearest, last-all}
 use Rattle.demands.specs.PathCalls.{IterationKeyCall}
 use Rattle.demands.specs.KeyCalls.{ReadKeyCall, AboveCall, BelowCall, reading-key}

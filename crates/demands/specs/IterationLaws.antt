@@ -11,8 +11,8 @@ use lib.ListN.{take}
 use Rattle.text.specs.Number.{Bytes}
 use Rattle.text.specs.declared.Written.{Written}
 use Rattle.path.specs.declared.Pair.{Pair}
+use Rattle.path.specs.declared.Revision.{Revision}
 use Rattle.path.specs.Pair.{pair}
-use Rattle.iteration.specs.declared.Revision.{Revision}
 use Rattle.iteration.specs.declared.KeyAnswer.{KeyAnswer}
 use Rattle.iteration.specs.declared.KeyAnswer.the-variants.{Key, Refused}
 use Rattle.iteration.specs.Key.{iterationKey, keyIn, answered, pairOf}

@@ -11,7 +11,8 @@ use borrow.Fn.Kinds.{endedOf}
 use denote.Triple.Clauses.{AtExit}
 use Rattle.text.specs.Refusal.{badIterKey}
 use Rattle.path.specs.declared.Pair.{Pair}
-use Rattle.iteration.specs.Key.{revision, keyIn, answered, pairOf}
+use Rattle.path.specs.Revision.{revision}
+use Rattle.iteration.specs.Key.{keyIn, answered, pairOf}
 use Rattle.iteration.specs.Block.{blockOf, firstAbove, lastBelow, scanned}
 use Rattle.hostpath.proofs.hp_read_iteration_key as r
 use Rattle.hostpath.proofs.hp_read_iteration_key.Kinds as rk

@@ -1,8 +1,9 @@
--- `hp_book_oldest` answers a pair that the book holds for the client, and none that it holds is smaller; and each refusal exactly when.
+-- `hp_book_oldest` answers a pair that the book holds for the client, and none that it holds is below it; and each refusal exactly when.
 -- Assumes nothing.
 use Prim.Native.Nat.{ℕ}
 use mathlib.Core.Path.{_≡_}
-use mathlib.Core.List.{List, [], _∷_}
+use mathlib.Core.Bool.{false}
+use mathlib.Core.List.{List}
 use mathlib.Core.Option.{some}
 use mathlib.Core.Logic.{_↔_}
 use lib.ListN.{getElem?}
@@ -11,13 +12,13 @@ use denote.Ref.{now}
 use borrow.Fn.World.{ArgsD, ResD}
 use borrow.Fn.Kinds.{endedOf}
 use denote.Triple.Clauses.{AtExit}
-use Rattle.text.specs.Order.{Before}
 use Rattle.text.specs.Refusal.{badBook, noRecord}
 use Rattle.identifiers.specs.Check.{checkOf}
 use Rattle.identifiers.specs.Check as check
 use Rattle.keys.specs.Act.{Rec}
 use Rattle.oldest.specs.declared.StateAnswer.the-variants.{State}
 use Rattle.path.specs.declared.Pair.{Pair}
+use Rattle.path.specs.Revision.{revision, below}
 use Rattle.oldest.specs.Oldest.{stateOf}
 use Rattle.demands.specs.Held.{ProperBook}
 use Rattle.hostpath.proofs.hp_book_oldest as o
@@ -41,7 +42,7 @@ pub record HoldsState (b client : List ℕ) (m h : ℕ) : Type 0 where
   pub place : ℕ
   pub record-there : Rec
   pub there : getElem? (book .records) place ≡ some record-there
-  pub tells : stateOf client (record-there .0) ≡ State m h
+  pub tells : stateOf client (record-there .0) ≡ State (revision m h)
 
 pub record OldestSays (b client : List ℕ) (x : Pair) : Type 0 where
   -- each answer exactly when: 9 on what is no book; on a book the number of the client's check, where that refuses the client; of a client
@@ -52,8 +53,8 @@ pub record OldestSays (b client : List ℕ) (x : Pair) : Type 0 where
   pub done : (x .refusal ≡ 0) ↔ ((checkOf check.client client ≡ 0) × (m : ℕ) × (h : ℕ) × HoldsState b client m h)
   -- the answer is held
   pub held : x .refusal ≡ 0 → HoldsState b client (x .number) (x .height)
-  -- and nothing that is held is smaller
-  pub least : x .refusal ≡ 0 → (m h : ℕ) → HoldsState b client m h → Before (m ∷ h ∷ []) (x .number ∷ x .height ∷ []) → ⊥
+  -- and nothing that is held is below it
+  pub least : x .refusal ≡ 0 → (m h : ℕ) → HoldsState b client m h → below (revision m h) (revision (x .number) (x .height)) ≡ false
 
 -- of every call, on all bytes
 abbrev pub OldestDemand : Type 0

@@ -16,7 +16,9 @@ use Rattle.keys.specs.Act.{Rec}
 use Rattle.oldest.specs.declared.StateAnswer.{StateAnswer}
 use Rattle.oldest.specs.declared.StateAnswer.the-variants.{State, Nothing}
 use Rattle.path.specs.declared.Pair.{Pair}
+use Rattle.path.specs.declared.Revision.{Revision}
 use Rattle.path.specs.Pair.{pair}
+use Rattle.path.specs.Revision.{revision}
 use Rattle.book.specs.Book.{Current}
 use Rattle.book.specs.BookLaws.{one-book, lawful}
 use Rattle.oldest.specs.Oldest.{stateOf, oldestState, oldestIn, Oldest}
@@ -36,19 +38,19 @@ module _ {b : List ℕ} (client : List ℕ) (y : ProperBook b) where
   state-at z = ap (λ (s : List Rec). getElem? s (z .place)) (one-book Current lawful b y (z .book) .2) ∙ z .there
 
   module _ (accepted : checkOf check.client client ≡ 0) where
-    some-state : (m h : ℕ) → oldestState client (y .records) ≡ State m h → OldestSays b client (oldestIn client (y .records))
+    some-state : (p : Revision) → oldestState client (y .records) ≡ State p → OldestSays b client (oldestIn client (y .records))
     unfolding oldestIn
-    some-state m h e = rw (accepted, e) (record {
+    some-state p e = rw (accepted, e) (record {
       bad-book = (λ q. absurd (let w : ⊥ = omega arith in w), λ n. absurd (n y));
       bad-client = λ n z i j. (λ q. absurd (z (sym q)), λ q. absurd (z (sym (q .1) ∙ accepted)));
-      absent = (λ q. absurd (let w : ⊥ = omega arith in w), λ q. absurd (q .2 m h held));
-      done = (λ q. (accepted, m, h, held), λ q. refl);
+      absent = (λ q. absurd (let w : ⊥ = omega arith in w), λ q. absurd (q .2 (p .number .0) (p .height .0) held));
+      done = (λ q. (accepted, p .number .0, p .height .0, held), λ q. refl);
       held = λ q. held;
-      least = λ q n k z b. oldest-least client (y .records) m h e (z .place) (z .record-there) n k (state-at z) (z .tells) b;
+      least = λ q m h z. oldest-least client (y .records) p e (z .place) (z .record-there) (revision m h) (state-at z) (z .tells);
     })
       where
-        held : HoldsState b client m h
-        held = let x = oldest-held client (y .records) m h e in record { book = y; place = x .0; record-there = x .1; there = x .2; tells = x .3 }
+        held : HoldsState b client (p .number .0) (p .height .0)
+        held = let x = oldest-held client (y .records) p e in record { book = y; place = x .0; record-there = x .1; there = x .2; tells = x .3 }
 
     no-state : oldestState client (y .records) ≡ Nothing → OldestSays b client (oldestIn client (y .records))
     unfolding oldestIn
@@ -85,7 +87,7 @@ module _ {b : List ℕ} (client : List ℕ) (y : ProperBook b) where
   on-book = go (eqb (checkOf check.client client) 0) refl
     where
       by-state : checkOf check.client client ≡ 0 → (a : StateAnswer) → oldestState client (y .records) ≡ a → OldestSays b client (oldestIn client (y .records))
-      by-state f (State m h) e = some-state f m h e
+      by-state f (State p) e = some-state f p e
       by-state f Nothing e = no-state f e
 
       go : (t : Bool) → eqb (checkOf check.client client) 0 ≡ t → OldestSays b client (oldestIn client (y .records))

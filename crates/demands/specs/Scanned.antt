@@ -7,8 +7,9 @@ use mathlib.Core.Bool.{Bool, true, false}
 use mathlib.Core.List.{List}
 use mathlib.Core.Option.{none, some}
 use Rattle.path.specs.declared.Pair.{Pair}
-use Rattle.iteration.specs.declared.Revision.{Revision}
-use Rattle.iteration.specs.Key.{iterationKey, revision}
+use Rattle.path.specs.declared.Revision.{Revision}
+use Rattle.path.specs.Revision.{revision}
+use Rattle.iteration.specs.Key.{iterationKey}
 use Rattle.iteration.specs.Block.{rising, blockOf, Among, Nearest, keysOf, Counted}
 
 -- k is what is written of some number and height

@@ -1,8 +1,10 @@
--- The contract of each public function, as the source has it, leaves one outcome: the answer, and the content of the buffer that is lent.
+-- The contract of each public function, as the source has it, leaves one outcome: the answer, which for a part of the book is its bytes and where
+-- it points, and the content of the buffer that is lent.
 -- Assumes nothing.
-use mathlib.Core.Path.{_≡_, refl, sym, _∙_}
+use mathlib.Core.Path.{refl, sym, _∙_}
 use denote.Ref.{now}
-use Rattle.text.specs.Outcome.{One, OneWith}
+use Rattle.text.specs.Outcome.{One, OneWith, OnePart}
+use Rattle.text.specs.OutcomeLaws.{one-part}
 use Rattle.form.specs.Tells.{one-told}
 use Rattle.form.proofs.width.Reads as width
 use Rattle.form.proofs.slot_at.Reads as slot-at
@@ -50,12 +52,12 @@ one-compare-next κs a r₁ r₂ s₁ s₂ p q = p ∙ sym q
 pub one-count-of : One count-of.Post
 one-count-of κs a r₁ r₂ s₁ s₂ p q = p ∙ sym q
 
--- the bytes of the part
-pub one-text-at : (κs : _) (a : _) (r₁ r₂ : _) (s₁ s₂ : _) → text-at.Post κs a r₁ s₁ → text-at.Post κs a r₂ s₂ → now r₁ ≡ now r₂
-one-text-at κs a r₁ r₂ s₁ s₂ p q = p ∙ sym q
+-- its bytes, and where it points
+pub one-text-at : OnePart text-at.Post
+one-text-at κs a r₁ r₂ s₁ s₂ p q = one-part p q
 
-pub one-key-at : (κs : _) (a : _) (r₁ r₂ : _) (s₁ s₂ : _) → key-at.Post κs a r₁ s₁ → key-at.Post κs a r₂ s₂ → now r₁ ≡ now r₂
-one-key-at κs a r₁ r₂ s₁ s₂ p q = p ∙ sym q
+pub one-key-at : OnePart key-at.Post
+one-key-at κs a r₁ r₂ s₁ s₂ p q = one-part p q
 
 pub one-all-zero : One all-zero.Post
 one-all-zero κs a r₁ r₂ s₁ s₂ p q = p ∙ sym q

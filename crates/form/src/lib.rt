@@ -9,6 +9,7 @@ ghost use lib.ListN.{length, getD, take, drop};
 ghost use Rattle.text.specs.Order.{cmp};
 ghost use Rattle.text.specs.Part.{every, same};
 ghost use Rattle.text.specs.Put.{put};
+ghost use Rattle.text.specs.Stands.{Stands};
 ghost use Rattle.form.specs.Moves.{raised, lowered};
 ghost use Rattle.form.specs.Form.{zeros, place, inserted, removed, SlotOk};
 ghost use Rattle.form.specs.Counted.{counted, stored, CountedOk};
@@ -276,7 +277,7 @@ pub fn count_of(book: &[u8]) -> usize
 // The text that stands at `at` behind its length, as a part of the book.
 pub fn text_at(book: &[u8], at: usize) -> &[u8]
     requires { ⌜ at + 1 + getD (now book) at 0 ≤ length (now book) ⌝ }
-    ensures { λ r. ⌜ now r ≡ stored (now (book .entry)) at ⌝ }
+    ensures { λ r. ⌜ Stands r (book .entry) (at + 1) (stored (now (book .entry)) at) ⌝ }
 {
     let start = at + 1;
     let end = start + wide(book[at]);
@@ -286,7 +287,7 @@ pub fn text_at(book: &[u8], at: usize) -> &[u8]
 // The key in the slot at `at`, as a part of the book.
 pub fn key_at(book: &[u8], at: usize) -> &[u8]
     requires { do ⌜ at + 256 ≤ (← ⟦book.len()⟧) ⌝ }
-    ensures { λ r. ⌜ now r ≡ stored (now (book .entry)) at ⌝ }
+    ensures { λ r. ⌜ Stands r (book .entry) (at + 1) (stored (now (book .entry)) at) ⌝ }
 {
     text_at(book, at)
 }

@@ -7,8 +7,9 @@ use lib.ListN.{take, drop}
 use Rattle.text.specs.Bytes.{bytes}
 use Rattle.text.specs.Number.{bigEndian, bigFrom}
 use Rattle.text.specs.Part.{startsWith}
-use Rattle.iteration.specs.declared.Revision.{Revision}
-use Rattle.iteration.specs.Key.{iterationKey, revision, keyIn}
+use Rattle.path.specs.declared.Revision.{Revision}
+use Rattle.path.specs.Revision.{revision}
+use Rattle.iteration.specs.Key.{iterationKey, keyIn}
 use Rattle.iteration.specs.Block.{rising, keysIn, blockOf, firstAbove, lastBelow, keysOf}
 
 seven-two : List ℕ

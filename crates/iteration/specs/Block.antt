@@ -3,20 +3,17 @@
 use mathlib.Core.Path.{_≡_}
 use mathlib.Core.Logic.{_⊎_}
 use Prim.Native.Nat.{ℕ, zero, suc, _/_, _%_, _^_, _<_}
-use mathlib.Core.Bool.{Bool, true, false, cond, _&&_, _||_}
+use mathlib.Core.Bool.{Bool, true, false, cond, _&&_}
 use mathlib.Core.List.{List, [], _∷_, _++_}
 use mathlib.Core.Option.{Option, none, some}
-use lib.Dec.{ltb, eqb}
+use lib.Dec.{eqb}
 use lib.ListN.{length, take, drop}
 use Rattle.text.specs.Refusal.{noRecord, badBlock}
-use Rattle.iteration.specs.declared.Revision.{Revision}
+use Rattle.path.specs.declared.Revision.{Revision}
+use Rattle.path.specs.Revision.{below}
 use Rattle.iteration.specs.declared.KeyAnswer.{KeyAnswer}
 use Rattle.iteration.specs.declared.KeyAnswer.the-variants.{Refused}
 use Rattle.iteration.specs.Key.{iterationKey, keyIn, answered}
-
--- p is below q: the numbers decide, and where they are equal the heights
-abbrev pub below : Revision → Revision → Bool
-below p q = ltb (p .number .0) (q .number .0) || (eqb (p .number .0) (q .number .0) && ltb (p .height .0) (q .height .0))
 
 -- q is above the last one, if there was one
 abbrev pub follows : Option Revision → Revision → Bool

@@ -1,25 +1,27 @@
 -- One turn of the check of a block, and what its answer tells of the keys.
 -- Assumes nothing.
 use mathlib.Core.Path.{_≡_, refl, sym, ap, _∙_}
-use mathlib.Core.Bool.{Bool, true, false, cond, not, _&&_, _||_}
+use mathlib.Core.Bool.{Bool, true, false, cond, not}
 use mathlib.Core.List.{List, map}
-use mathlib.Core.Logic.{_⊎_, inl, inr, ⊎-elim}
+use mathlib.Core.Logic.{⊎-elim}
 use mathlib.Core.Option.{Option, none, some}
 use Prim.Native.Nat.{ℕ, zero, suc, _+_, _*_, _-_, _/_, _%_, _≤_, _<_}
 use native.Mathlib.Decide.{decLt}
 use native.Mathlib.Nat.{eq-or-lt-of-le}
 use native.Mathlib.Omega.{arith}
-use lib.Dec.{ltb, eqb}
+use lib.Dec.{eqb}
 use lib.ListN.{length, take, drop}
 use lib.Seq.{drop-drop}
-use borrow.Author.Tests.{lt-ltb, le-ltb, eq-eqb, ne-eqb, ltb-true, eqb-true, not-true, not-false}
+use borrow.Author.Tests.{eq-eqb, ne-eqb, eqb-true, not-true, not-false}
 use Rattle.text.specs.PartLaws.{and-left, and-right}
 use Rattle.text.specs.TableLaws.{span}
-use Rattle.iteration.specs.declared.Revision.{Revision}
+use Rattle.path.specs.declared.Revision.{Revision}
+use Rattle.path.specs.Revision.{below}
+use Rattle.path.specs.RevisionLaws.{below-trans}
 use Rattle.iteration.specs.declared.KeyAnswer.{KeyAnswer}
 use Rattle.iteration.specs.Key.{keyIn, answered}
 use Rattle.iteration.specs.ReadLaws.{piece-is}
-use Rattle.iteration.specs.Block.{below, follows, rising, onto, keysIn, inOrder, blockOf, isBlock}
+use Rattle.iteration.specs.Block.{follows, rising, onto, keysIn, inOrder, blockOf, isBlock}
 use Rattle.iteration.specs.Search.{keyOf, rises, keyNo}
 
 -- ---- the check: the keys are there, and rise from the last one on
@@ -88,30 +90,6 @@ module _ (s : List ℕ) (n i : ℕ) (h : i < n) (last : Option Revision) (k : Ke
   check-more t =
       let next : 38 * i + 38 ≡ 38 * (i + 1) = omega arith in
       rw (key-is (keyIn (take 38 (drop (38 * i) s))) k 15 e, ← next, ← drop-drop 38 (38 * i) s) (rising-more last (n - i) (drop (38 * i) s) (n - (i + 1)) (omega arith) (sym step ∙ not-false r t))
-
--- ---- the order of revisions
-pub below-is : (p q : Revision) → below p q ≡ true → (p .number .0 < q .number .0) ⊎ ((p .number .0 ≡ q .number .0) × (p .height .0 < q .height .0))
-below-is p q h = go (ltb (p .number .0) (q .number .0)) refl (eqb (p .number .0) (q .number .0)) refl h
-  where
-    go : (a : Bool) → ltb (p .number .0) (q .number .0) ≡ a → (b : Bool) → eqb (p .number .0) (q .number .0) ≡ b
-        → (a || (b && ltb (p .height .0) (q .height .0))) ≡ true → (p .number .0 < q .number .0) ⊎ ((p .number .0 ≡ q .number .0) × (p .height .0 < q .height .0))
-    go true x b y k = inl (ltb-true _ _ x)
-    go false x true y k = inr (eqb-true _ _ y, ltb-true _ _ k)
-    go false x false y k = let z : _≡_ {A = ℕ} 0 1 = cc in absurd (omega arith)
-
-pub is-below : (p q : Revision) → (p .number .0 < q .number .0) ⊎ ((p .number .0 ≡ q .number .0) × (p .height .0 < q .height .0)) → below p q ≡ true
-is-below p q (inl h) = rw (lt-ltb (p .number .0) (q .number .0) h)
-is-below p q (inr h) = rw (le-ltb (p .number .0) (q .number .0) (omega (arith, h .0)), eq-eqb (p .number .0) (q .number .0) (h .0)) (lt-ltb (p .height .0) (q .height .0) (h .1))
-
--- the ways out of a comparison
-pub not-below : (p q : Revision) → q .number .0 < p .number .0 → below p q ≡ false
-not-below p q h = rw (le-ltb (p .number .0) (q .number .0) (omega arith), ne-eqb (p .number .0) (q .number .0) (λ e. omega arith))
-
-pub below-height : (p q : Revision) → p .number .0 ≡ q .number .0 → below p q ≡ ltb (p .height .0) (q .height .0)
-below-height p q e = rw (le-ltb (p .number .0) (q .number .0) (omega arith), eq-eqb (p .number .0) (q .number .0) e)
-
-pub below-trans : (p q r : Revision) → below p q ≡ true → below q r ≡ true → below p r ≡ true
-below-trans p q r h k = is-below p r (⊎-elim (λ a. ⊎-elim (λ b. inl (omega arith)) (λ b. inl (omega arith)) (below-is q r k)) (λ a. ⊎-elim (λ b. inl (omega arith)) (λ b. inr (omega arith, omega arith)) (below-is q r k)) (below-is p q h))
 
 -- ---- the keys of a block by their numbers
 pub keys-listed : (s : List ℕ) (n i : ℕ) (ps : List Revision) → 38 * (i + n) ≤ length s → keysIn n (drop (38 * i) s) ≡ some ps → ps ≡ map (keyNo s) (span i n)

@@ -10,17 +10,15 @@ use Rattle.text.specs.Bytes.{bytes}
 use Rattle.text.specs.Number.{bigEndian, bigAt}
 use Rattle.text.specs.Part.{startsWith}
 use Rattle.path.specs.declared.Pair.{Pair}
+use Rattle.path.specs.declared.Revision.{Revision}
 use Rattle.path.specs.Pair.{pair}
-use Rattle.iteration.specs.declared.Revision.{Revision}
+use Rattle.path.specs.Revision.{revision}
 use Rattle.iteration.specs.declared.KeyAnswer.{KeyAnswer}
 use Rattle.iteration.specs.declared.KeyAnswer.the-variants.{Key, Refused}
 
 -- 22 bytes, then revision number and height, 8 bytes each, high byte first
 unfoldable pub iterationKey : ℕ → ℕ → List ℕ
 iterationKey n h = bytes "iterateConsensusStates" ++ (bigEndian 8 n ++ bigEndian 8 h)
-
-abbrev pub revision : ℕ → ℕ → Revision
-revision n h = record { number = record { 0 = n }; height = record { 0 = h } }
 
 -- what stands behind the word in the key at place `at`
 abbrev pub revisionAt : ℕ → List ℕ → Revision

@@ -15,9 +15,10 @@ use Rattle.text.specs.Number.{bigEndian, bigAt, Bytes}
 use Rattle.text.specs.NumberLaws.{length-big, big-at, big-there, big-within}
 use Rattle.text.specs.Part.{startsWith}
 use Rattle.text.specs.PartLaws.{and-left, and-right}
-use Rattle.iteration.specs.declared.Revision.{Revision}
+use Rattle.path.specs.declared.Revision.{Revision}
+use Rattle.path.specs.Revision.{revision}
 use Rattle.iteration.specs.declared.KeyAnswer.the-variants.{Key, Refused}
-use Rattle.iteration.specs.Key.{iterationKey, revision, revisionAt, keyIn, answered}
+use Rattle.iteration.specs.Key.{iterationKey, revisionAt, keyIn, answered}
 use Rattle.iteration.specs.KeyLaws.{key-length}
 
 abbrev word : List ℕ

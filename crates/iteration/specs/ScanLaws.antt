@@ -17,27 +17,14 @@ use Rattle.text.specs.Order.{then, cmp, Before}
 use Rattle.text.specs.OrderLaws.{Tri, tri, compare-lt, compare-gt, compare-same}
 use Rattle.text.specs.OrderLaws as laws
 use Rattle.text.specs.PartLaws.{and-left, and-right}
-use Rattle.iteration.specs.declared.Revision.{Revision}
+use Rattle.path.specs.declared.Revision.{Revision}
+use Rattle.path.specs.Revision.{below}
+use Rattle.path.specs.RevisionLaws.{below-is, is-below, below-trans, below-not-above, below-self}
 use Rattle.iteration.specs.Key.{iterationKey, keyIn}
 use Rattle.iteration.specs.KeyLaws.{key-length, key-compare}
 use Rattle.iteration.specs.ReadLaws.{read-written, written-read, key-counted}
-use Rattle.iteration.specs.Block.{below, follows, rising, onto, keysIn, blockOf, firstAbove, orElse, lastBelow, Among, Nearest, Counted, keysOf}
-use Rattle.iteration.specs.BlockLaws.{below-is, is-below, below-trans, parts}
-
--- ---- the order has no two ways
-pub below-not-above : (p q : Revision) → below p q ≡ true → below q p ≡ false
-below-not-above p q h = go (below q p) refl
-  where
-    go : (b : Bool) → below q p ≡ b → b ≡ false
-    go false e = refl
-    go true e = absurd (⊎-elim (λ x. ⊎-elim (λ y. omega arith) (λ y. omega arith) (below-is q p e)) (λ x. ⊎-elim (λ y. omega arith) (λ y. omega arith) (below-is q p e)) (below-is p q h))
-
-pub below-self : (p : Revision) → below p p ≡ false
-below-self p = go (below p p) refl
-  where
-    go : (b : Bool) → below p p ≡ b → b ≡ false
-    go false e = refl
-    go true e = absurd (⊎-elim (λ x. omega arith) (λ x. omega arith) (below-is p p e))
+use Rattle.iteration.specs.Block.{follows, rising, onto, keysIn, blockOf, firstAbove, orElse, lastBelow, Among, Nearest, Counted, keysOf}
+use Rattle.iteration.specs.BlockLaws.{parts}
 
 -- all of a rising list are above what it rises from
 pub rising-all : (ps : List Revision) (p r : Revision) → rising (some p) ps ≡ true → Among r ps → below p r ≡ true

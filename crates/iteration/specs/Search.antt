@@ -6,11 +6,12 @@ use mathlib.Core.List.{List}
 use mathlib.Core.Option.{Option, none, some}
 use Prim.Native.Nat.{ℕ, _*_, _/_, _<_, _≤_}
 use lib.ListN.{length}
-use Rattle.iteration.specs.declared.Revision.{Revision}
+use Rattle.path.specs.declared.Revision.{Revision}
+use Rattle.path.specs.Revision.{below}
 use Rattle.iteration.specs.declared.KeyAnswer.{KeyAnswer}
 use Rattle.iteration.specs.declared.KeyAnswer.the-variants.{Key, Refused}
 use Rattle.iteration.specs.Key.{revisionAt}
-use Rattle.iteration.specs.Block.{below, follows}
+use Rattle.iteration.specs.Block.{follows}
 
 -- the revision of an answer that has one
 abbrev pub keyOf : KeyAnswer → Option Revision

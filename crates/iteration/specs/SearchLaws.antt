@@ -12,10 +12,12 @@ use native.Mathlib.Omega.{arith}
 use lib.ListN.{length}
 use borrow.Author.Tests.{not-true, not-false}
 use Rattle.text.specs.TableLaws.{span}
-use Rattle.iteration.specs.declared.Revision.{Revision}
+use Rattle.path.specs.declared.Revision.{Revision}
+use Rattle.path.specs.Revision.{below}
+use Rattle.path.specs.RevisionLaws.{below-trans}
 use Rattle.iteration.specs.declared.KeyAnswer.the-variants.{Key, Refused}
-use Rattle.iteration.specs.Block.{below, blockOf, isBlock, firstAbove, lastBelow, scanned}
-use Rattle.iteration.specs.BlockLaws.{below-trans, held}
+use Rattle.iteration.specs.Block.{blockOf, isBlock, firstAbove, lastBelow, scanned}
+use Rattle.iteration.specs.BlockLaws.{held}
 use Rattle.iteration.specs.Search.{keyNo, passed, Placed}
 
 -- what is below a key that passes, passes

@@ -1,27 +1,15 @@
 // Blocks of iteration keys: the check, and the two scans.
 use crate::KeyAnswer;
-use crate::Revision;
 use crate::key_at;
 use crate::revision_at;
+use path::Revision;
+use path::is_below;
 use text::refusal::ABSENT;
 use text::refusal::BAD_BLOCK;
 ghost use mathlib.Core.Path.{_≡_};
 ghost use mathlib.Core.Bool.{true};
-ghost use Rattle.iteration.specs.Block.{below, blockOf, isBlock, firstAbove, lastBelow, scanned};
+ghost use Rattle.iteration.specs.Block.{blockOf, isBlock, firstAbove, lastBelow, scanned};
 ghost use Rattle.iteration.specs.Search.{keyOf, rises, passed, Placed};
-
-// Whether p is below q.
-pub(crate) fn is_below(p: Revision, q: Revision) -> bool
-    ensures { λ r. ⌜ r ≡ below p q ⌝ }
-{
-    if p.number.0 < q.number.0 {
-        return true;
-    }
-    if q.number.0 < p.number.0 {
-        return false;
-    }
-    p.height.0 < q.height.0
-}
 
 // Whether `key` is a key, and above the last one, if there was one.
 pub(crate) fn is_next(last: KeyAnswer, key: KeyAnswer) -> bool

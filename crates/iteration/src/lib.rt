@@ -2,6 +2,7 @@
 pub mod block;
 
 use path::Pair;
+use path::Revision;
 use path::RevisionHeight;
 use path::RevisionNumber;
 use text::Written;
@@ -15,12 +16,6 @@ ghost use lib.ListN.{length, take, drop};
 ghost use Rattle.text.specs.Put.{text, answer, left};
 ghost use Rattle.text.specs.Refusal.{badIterKey};
 ghost use Rattle.iteration.specs.Key.{iterationKey, revisionAt, keyIn, answered, pairOf};
-
-// What an iteration key carries.
-pub struct Revision {
-    pub number: RevisionNumber,
-    pub height: RevisionHeight,
-}
 
 // What a call on iteration keys answers: one of them, or a refusal by its number.
 pub enum KeyAnswer {

@@ -1,10 +1,10 @@
--- The contract of each public function, as the source has it, leaves one outcome: the result, of which a part of the caller's text is its bytes,
--- and the content of the buffer that is lent.
+-- The contract of each public function, as the source has it, leaves one outcome: the result, which for a part of the caller's text is its bytes and
+-- where it points, and the content of the buffer that is lent.
 -- Assumes nothing.
-use mathlib.Core.Path.{_≡_, sym, _∙_}
+use mathlib.Core.Path.{sym, _∙_}
 use denote.Ref.{now}
-use Rattle.text.specs.Outcome.{One, OneWith}
-use Rattle.text.specs.OutcomeLaws.{agree}
+use Rattle.text.specs.Outcome.{One, OneWith, OnePart}
+use Rattle.text.specs.OutcomeLaws.{agree, one-part}
 use Rattle.letters.proofs.character_at.Reads as character-at
 use Rattle.letters.proofs.is_utf8.Reads as is-utf8
 use Rattle.letters.proofs.class.is_letter.Reads as is-letter
@@ -31,5 +31,5 @@ one-narrow κs a r₁ r₂ s₁ s₂ p q = agree p q
 pub one-wide-chars : One wide-chars.Post
 one-wide-chars κs a r₁ r₂ s₁ s₂ p q = p ∙ sym q
 
-pub one-wide-trim : (κs : _) (a : _) (r₁ r₂ : _) (s₁ s₂ : _) → wide-trim.Post κs a r₁ s₁ → wide-trim.Post κs a r₂ s₂ → now r₁ ≡ now r₂
-one-wide-trim κs a r₁ r₂ s₁ s₂ p q = p ∙ sym q
+pub one-wide-trim : OnePart wide-trim.Post
+one-wide-trim κs a r₁ r₂ s₁ s₂ p q = one-part p q

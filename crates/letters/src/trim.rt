@@ -5,6 +5,7 @@ use crate::size_of;
 ghost use mathlib.Core.Path.{_≡_};
 ghost use mathlib.Core.Bool.{cond};
 ghost use lib.ListN.{length};
+ghost use Rattle.text.specs.Stands.{Stands};
 ghost use Rattle.identifiers.specs.Owned.{blank, trimEnd};
 ghost use Rattle.letters.specs.Narrow.{narrow};
 ghost use Rattle.letters.specs.Text.{leading, wideTrim};
@@ -58,7 +59,7 @@ fn text_end(s: &[u8]) -> usize
 
 // The text without the white space at its ends, as a part of it.
 pub fn wide_trim(s: &[u8]) -> &[u8]
-    ensures { λ r. ⌜ now r ≡ wideTrim (now (s .entry)) ⌝ }
+    ensures { λ r. ⌜ Stands r (s .entry) (leading (now (s .entry))) (wideTrim (now (s .entry))) ⌝ }
 {
     let start = white_end(s);
     let body = &s[start..];

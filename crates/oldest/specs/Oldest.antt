@@ -1,12 +1,11 @@
--- The oldest state of a client: the smallest (revision number, revision height) pair among its records of kind 5.
+-- The oldest state of a client: the lowest revision among its records of kind 5.
 -- Assumes nothing.
 use mathlib.Core.Path.{_≡_}
 use mathlib.Core.Bool.{cond, _&&_}
 use mathlib.Core.List.{List, [], _∷_}
-use Prim.Native.Nat.{ℕ, Ordering}
+use Prim.Native.Nat.{ℕ}
 use lib.Dec.{eqb}
 use Rattle.text.specs.Part.{same}
-use Rattle.text.specs.Order.{by, cmp}
 use Rattle.text.specs.Refusal.{badBook, noRecord}
 use Rattle.identifiers.specs.Check.{checkOf}
 use Rattle.identifiers.specs.Check as check
@@ -15,6 +14,7 @@ use Rattle.path.specs.declared.Reading.{Reading}
 use Rattle.path.specs.declared.Reading.the-variants.{Read, Refused}
 use Rattle.path.specs.Pair.{pair}
 use Rattle.path.specs.Read.{readPath}
+use Rattle.path.specs.Revision.{revision, below}
 use Rattle.path.specs.Text.{shownOf}
 use Rattle.path.specs.View.{kindOf, carriedOf}
 use Rattle.keys.specs.Act.{Rec}
@@ -23,30 +23,26 @@ use Rattle.oldest.specs.declared.StateAnswer.the-variants.{State, Nothin
 use Rattle.form.specs.Form.{Form}
 use Rattle.book.specs.Book.{Book}
 
--- what a key tells of the client: revision number and height, where it is of kind 5 and of this client
+-- what a key tells of the client: its revision, where it is of kind 5 and of this client
 abbrev pub stateBy : List ℕ → List ℕ → Reading → StateAnswer
-stateBy client k (Read p e) = cond (eqb (kindOf p) 5 && same (shownOf k (carriedOf p .first)) client) (State (carriedOf p .a) (carriedOf p .b)) Nothing
+stateBy client k (Read p e) = cond (eqb (kindOf p) 5 && same (shownOf k (carriedOf p .first)) client) (State (revision (carriedOf p .a) (carriedOf p .b))) Nothing
 stateBy client k (Refused r) = Nothing
 
 unfoldable pub stateOf : List ℕ → List ℕ → StateAnswer
 stateOf client k = stateBy client k (readPath k)
 
--- pairs compare as lists of two numbers do: by revision number, and then by revision height
-abbrev pub order : ℕ → ℕ → ℕ → ℕ → Ordering
-order m h n k = cmp (m ∷ h ∷ []) (n ∷ k ∷ [])
-
--- the one with the smaller pair, where there are two
+-- the lower one, where there are two
 abbrev pub older : StateAnswer → StateAnswer → StateAnswer
 older Nothing y = y
-older (State m h) Nothing = State m h
-older (State m h) (State n k) = by (order n k m h) (State n k) (State m h) (State m h)
+older (State p) Nothing = State p
+older (State p) (State q) = cond (below q p) (State q) (State p)
 
 unfoldable pub oldestState : List ℕ → List Rec → StateAnswer
 oldestState client [] = Nothing
 oldestState client (r ∷ rs) = older (stateOf client (r .0)) (oldestState client rs)
 
 abbrev pub pairOf : StateAnswer → Pair
-pairOf (State m h) = pair 0 m h
+pairOf (State p) = pair 0 (p .number .0) (p .height .0)
 pairOf Nothing = pair noRecord 0 0
 
 -- the client checks, then 12

@@ -5,7 +5,7 @@ use mathlib.Core.Bool.{Bool, true, false, cond, _&&_}
 use mathlib.Core.List.{List, [], _∷_, _++_, append-assoc}
 use mathlib.Core.Option.{some}
 use mathlib.Core.Logic.{_⊎_, inl, inr, ⊎-elim}
-use Prim.Native.Nat.{ℕ, zero, suc, _+_, _*_, _<_, _≤_, compare, Ordering, Ordering·lt, Ordering·eq, Ordering·gt}
+use Prim.Native.Nat.{ℕ, zero, suc, _+_, _<_, _≤_}
 use native.Mathlib.Nat.{zero-add, suc-add}
 use native.Mathlib.Decide.{decLt}
 use native.Mathlib.Numerals.{add-one}
@@ -15,14 +15,13 @@ use lib.ListN.{length, drop, getElem?, drop-of-length-le}
 use borrow.Author.Tests.{eqb-true, eq-eqb, ne-eqb}
 use Rattle.text.specs.Part.{same, startsWith}
 use Rattle.text.specs.Put.{text}
-use Rattle.text.specs.Order.{by, cmp, Before}
-use Rattle.text.specs.OrderLaws.{Tri, below, equal, above, tri, cmp-eq, cmp-cons-lt, cmp-cons-gt, cmp-cons-eq, before-trans, before-not-same, flip-gt, Keys, key-lt, key-eq, key-gt, keys}
 use Rattle.identifiers.specs.Check.{checkOf}
 use Rattle.identifiers.specs.Check as check
 use Rattle.path.specs.declared.Pair.{Pair}
 use Rattle.path.specs.declared.Path.{Path}
 use Rattle.path.specs.declared.PathView.{PathView}
 use Rattle.path.specs.declared.Refusal.{Refusal}
+use Rattle.path.specs.declared.Revision.{Revision}
 use Rattle.path.specs.declared.Reading.{Reading}
 use Rattle.path.specs.declared.Reading.the-variants.{Read, Refused}
 use Rattle.path.specs.Pair.{pair}
@@ -30,17 +29,20 @@ use Rattle.text.specs.PartLaws.{and-left, and-right, same-is}
 use Rattle.path.specs.Read.{readPath, renderPath, render, partsOf, textsOf, keyOf, keyBy}
 use Rattle.path.specs.Text.{shownOf, partOf}
 use Rattle.path.specs.BackLaws.{read-reads}
+use Rattle.path.specs.Revision.{revision, below}
+use Rattle.path.specs.RevisionLaws.{below-trans, below-through, below-not-above, below-self}
 use Rattle.path.specs.PlaceLaws.{shown-read}
 use Rattle.path.specs.View.{kindOf, carriedOf, viewOf}
 use Rattle.path.specs.ViewLaws.{view-kind, view-first, view-a, view-b}
 use Rattle.text.specs.PlaceLaws.{at-some}
 use Rattle.text.specs.PlaceLaws.{drop-place}
-use Rattle.writers.specs.Texts.{parentText, consensusText, revision}
+use Rattle.writers.specs.Texts.{parentText, consensusText}
+use Rattle.writers.specs.Texts as texts
 use Rattle.writers.specs.TextLaws.{client-text}
 use Rattle.keys.specs.Act.{Rec}
 use Rattle.keys.specs.Calls.{Exact}
 use Rattle.keys.specs.SplitLaws.{sorted-at}
-use Rattle.form.specs.Form.{Form, place, keyAt}
+use Rattle.form.specs.Form.{Form, keyAt}
 use Rattle.form.specs.FormLaws.{Lawful}
 use Rattle.oldest.specs.declared.StateAnswer.{StateAnswer}
 use Rattle.oldest.specs.declared.StateAnswer.the-variants.{State, Nothing}
@@ -50,7 +52,7 @@ use Rattle.book.specs.CheckLaws.{exact-at}
 use Rattle.book.specs.Find.{Placed}
 use Rattle.book.specs.FindLaws.{above-down}
 use Rattle.oldest.specs.PrefixLaws.{starts-own, starts-below, starts-between}
-use Rattle.oldest.specs.Oldest.{stateBy, stateOf, order, older, oldestState, pairOf, oldestIn, Oldest, OldestIs}
+use Rattle.oldest.specs.Oldest.{stateBy, stateOf, older, oldestState, pairOf, oldestIn, Oldest, OldestIs}
 use Rattle.oldest.specs.Oldest as o
 
 -- ---- one key
@@ -59,7 +61,7 @@ unfolding stateOf
 state-refused client k r w eq er = sym (ap (stateBy client k) (sym er ∙ eq))
 
 module _ (client k : List ℕ) (r : Reading) (p : Path) (e : Bool) (eq : r ≡ Read p e) (er : r ≡ readPath k) (v : PathView) (ev : v ≡ viewOf p) where
-  told : stateOf client k ≡ cond (eqb (kindOf p) 5 && same (shownOf k (carriedOf p .first)) client) (State (carriedOf p .a) (carriedOf p .b)) Nothing
+  told : stateOf client k ≡ cond (eqb (kindOf p) 5 && same (shownOf k (carriedOf p .first)) client) (State (revision (carriedOf p .a) (carriedOf p .b))) Nothing
   unfolding stateOf
   told = ap (stateBy client k) (sym er ∙ eq)
 
@@ -76,41 +78,12 @@ module _ (client k : List ℕ) (r : Reading) (p : Path) (e : Bool) (eq : r ≡ R
     pub state-elsewhere : s ≡ false → Nothing ≡ stateOf client k
     state-elsewhere f = sym (told ∙ rw (five, mine ∙ f))
 
-    pub state-is : s ≡ true → State (v .a) (v .b) ≡ stateOf client k
-    state-is f = ap (λ (m : ℕ). State m (v .b)) (view-a v p ev) ∙ ap (State (carriedOf p .a)) (view-b v p ev) ∙ sym (told ∙ rw (five, mine ∙ f))
+    pub state-is : s ≡ true → State (revision (v .a) (v .b)) ≡ stateOf client k
+    state-is f = ap (λ (m : ℕ). State (revision m (v .b))) (view-a v p ev) ∙ ap (λ (h : ℕ). State (revision (carriedOf p .a) h)) (view-b v p ev) ∙ sym (told ∙ rw (five, mine ∙ f))
 
 -- ---- the older of two
-before? : (a b : List ℕ) → Dec (Before a b)
-before? a b = go (keys a b)
-  where
-    go : Keys a b → Dec (Before a b)
-    go (key-lt e) = yes e
-    go (key-eq e) = no (λ q. before-not-same a b q (cmp-eq a b e))
-    go (key-gt e) = no (λ q. before-not-same a a (before-trans a b a q (flip-gt a b e)) refl)
-
--- what is before b is before c, where c is not before b
-not-through : (a b c : List ℕ) → Before a b → (Before c b → ⊥) → (Before a c → ⊥) → ⊥
-not-through a b c p q r = go (keys c b)
-  where
-    go : Keys c b → ⊥
-    go (key-lt e) = q e
-    go (key-eq e) = r (rw (cmp-eq c b e) p)
-    go (key-gt e) = r (before-trans a b c p (flip-gt c b e))
-
-module _ (m h n k : ℕ) where
-  pub older-second : order n k m h ≡ Ordering·lt → older (State m h) (State n k) ≡ State n k
-  older-second e = rw e
-
-  pub older-first : (order n k m h ≡ Ordering·lt → ⊥) → older (State m h) (State n k) ≡ State m h
-  older-first f = go (order n k m h) refl
-    where
-      go : (o : Ordering) → order n k m h ≡ o → by (order n k m h) (State n k) (State m h) (State m h) ≡ State m h
-      go Ordering·lt e = absurd (f e)
-      go Ordering·eq e = rw e
-      go Ordering·gt e = rw e
-
 pub older-none : (x : StateAnswer) → older x Nothing ≡ x
-older-none (State m h) = refl
+older-none (State p) = refl
 older-none Nothing = refl
 
 -- the same as the code tells it
@@ -120,41 +93,28 @@ none-first x y e = rw e
 pub none-second : (x y r : StateAnswer) → x ≡ r → y ≡ Nothing → r ≡ older x y
 none-second x y r f e = rw (e, f) (sym (older-none r))
 
-module _ (x y : StateAnswer) (m h n k : ℕ) (ex : x ≡ State m h) (ey : y ≡ State n k) where
-  second : order n k m h ≡ Ordering·lt → State n k ≡ older x y
-  second o = rw (ex, ey) (sym (older-second m h n k o))
+module _ (x y : StateAnswer) (p q : Revision) (ex : x ≡ State p) (ey : y ≡ State q) (t : Bool) (et : t ≡ below q p) where
+  pub second-lower : t ≡ true → State q ≡ older x y
+  second-lower f = rw (ex, ey, sym et ∙ f)
 
-  first : (order n k m h ≡ Ordering·lt → ⊥) → State m h ≡ older x y
-  first f = rw (ex, ey) (sym (older-first m h n k f))
+  pub second-no-lower : t ≡ false → State p ≡ older x y
+  second-no-lower f = rw (ex, ey, sym et ∙ f)
 
-  pub smaller-number : n < m → State n k ≡ older x y
-  smaller-number l = second (cmp-cons-lt n m (k ∷ []) (h ∷ []) l)
-
-  pub larger-number : m < n → State m h ≡ older x y
-  larger-number l = first (λ o. let g = cmp-cons-gt n m (k ∷ []) (h ∷ []) l in let z : _≡_ {A = ℕ} 0 1 = cc in omega arith)
-
-  pub smaller-height : n ≡ m → k < h → State n k ≡ older x y
-  smaller-height e l = second (cmp-cons-eq n m (k ∷ []) (h ∷ []) e ∙ cmp-cons-lt k h [] [] l)
-
-  pub no-smaller-height : n ≡ m → h ≤ k → State m h ≡ older x y
-  no-smaller-height e l = first (λ o. before-not-same (k ∷ []) (k ∷ []) (go (tri k h) (sym (cmp-cons-eq n m (k ∷ []) (h ∷ []) e) ∙ o)) refl)
-    where
-      go : Tri k h → Before (k ∷ []) (h ∷ []) → Before (k ∷ []) (k ∷ [])
-      go (below p) o = absurd (let z : ⊥ = omega arith in z)
-      go (equal p) o = rw (← p) at o
-      go (above p) o = let g = cmp-cons-gt k h [] [] p in cc
-
-three : (m h n k u v : ℕ) → Dec (order n k m h ≡ Ordering·lt) → Dec (order u v n k ≡ Ordering·lt) → older (older (State m h) (State n k)) (State u v) ≡ older (State m h) (older (State n k) (State u v))
-three m h n k u v (yes p) (yes q) = rw (older-second m h n k p, older-second n k u v q, older-second m h u v (before-trans (u ∷ v ∷ []) (n ∷ k ∷ []) (m ∷ h ∷ []) q p))
-three m h n k u v (yes p) (no q) = rw (older-second m h n k p, older-first n k u v q, older-second m h n k p)
-three m h n k u v (no p) (yes q) = rw (older-first m h n k p, older-second n k u v q)
-three m h n k u v (no p) (no q) = rw (older-first m h n k p, older-first n k u v q, older-first m h n k p) (older-first m h u v (λ r. not-through (u ∷ v ∷ []) (m ∷ h ∷ []) (n ∷ k ∷ []) r p q))
+three : (p q r : Revision) (a : Bool) → below q p ≡ a → (b : Bool) → below r q ≡ b → older (older (State p) (State q)) (State r) ≡ older (State p) (older (State q) (State r))
+three p q r true e true f = rw (e, f, below-trans r q p f e)
+three p q r true e false f = rw (e, f, e)
+three p q r false e true f = rw (e, f)
+three p q r false e false f = rw (e, f, e, low (below r p) refl)
+  where
+    low : (c : Bool) → below r p ≡ c → below r p ≡ false
+    low false g = g
+    low true g = let h = below-through r p q g e in let z : _≡_ {A = ℕ} 0 1 = cc in absurd (omega arith)
 
 pub older-assoc : (x y z : StateAnswer) → older (older x y) z ≡ older x (older y z)
 older-assoc Nothing y z = refl
-older-assoc (State m h) Nothing z = refl
-older-assoc (State m h) (State n k) Nothing = older-none (older (State m h) (State n k))
-older-assoc (State m h) (State n k) (State u v) = three m h n k u v (before? (n ∷ k ∷ []) (m ∷ h ∷ [])) (before? (u ∷ v ∷ []) (n ∷ k ∷ []))
+older-assoc (State p) Nothing z = refl
+older-assoc (State p) (State q) Nothing = older-none (older (State p) (State q))
+older-assoc (State p) (State q) (State r) = three p q r (below q p) refl (below r q) refl
 
 -- ---- all keys
 -- records that are no states of the client have no influence
@@ -167,8 +127,8 @@ skip-none client (r ∷ s) (suc p) f = ap (λ (a : StateAnswer). older a (oldest
 -- a consensus state's rendering begins with its client's parent
 begins-parent : (client : List ℕ) (a b : ℕ) → startsWith (parentText client) (consensusText client a b []) ≡ true
 begins-parent client a b =
-    let e : consensusText client a b [] ≡ parentText client ++ (47 ∷ revision a b []) = simp append-assoc in
-    rw e (starts-own (parentText client) (47 ∷ revision a b []))
+    let e : consensusText client a b [] ≡ parentText client ++ (47 ∷ texts.revision a b []) = simp append-assoc in
+    rw e (starts-own (parentText client) (47 ∷ texts.revision a b []))
 
 -- so a key that is its own rendering is no state of the client where it does not begin with that
 module _ (client k : List ℕ) (e : Exact k) (f : startsWith (parentText client) k ≡ false) where
@@ -176,7 +136,7 @@ module _ (client k : List ℕ) (e : Exact k) (f : startsWith (parentText client)
   unfolding keyOf
   key-by p x q = ap (keyBy k) q
 
-  state-by : (p : Path) (x : Bool) → readPath k ≡ Read p x → stateOf client k ≡ cond (eqb (kindOf p) 5 && same (shownOf k (carriedOf p .first)) client) (State (carriedOf p .a) (carriedOf p .b)) Nothing
+  state-by : (p : Path) (x : Bool) → readPath k ≡ Read p x → stateOf client k ≡ cond (eqb (kindOf p) 5 && same (shownOf k (carriedOf p .first)) client) (State (revision (carriedOf p .a) (carriedOf p .b))) Nothing
   unfolding stateOf
   state-by p x q = ap (stateBy client k) q
 
@@ -274,45 +234,40 @@ module _ (F : Form) (L : Lawful F) (b : List ℕ) (n : ℕ) (h : Counts F b n) (
             sym (inv x ∙ ap (older best) none ∙ older-none best)
 
 -- ---- what is answered is a state, and none is older
-same-pair : {m h n k : ℕ} → State m h ≡ State n k → (m ∷ h ∷ []) ≡ (n ∷ k ∷ [])
-same-pair e = cc
-
 older-nothing : (x y : StateAnswer) → older x y ≡ Nothing → (x ≡ Nothing) × (y ≡ Nothing)
 older-nothing Nothing y e = (refl, e)
-older-nothing (State m h) Nothing e = absurd (let z : _≡_ {A = ℕ} 0 1 = cc in let w : ⊥ = omega arith in w)
-older-nothing (State m h) (State n k) e = go (before? (n ∷ k ∷ []) (m ∷ h ∷ []))
+older-nothing (State p) Nothing e = absurd (let z : _≡_ {A = ℕ} 0 1 = cc in let w : ⊥ = omega arith in w)
+older-nothing (State p) (State q) e = go (below q p) e
   where
-    go : Dec (order n k m h ≡ Ordering·lt) → (State m h ≡ Nothing) × (State n k ≡ Nothing)
-    go (yes p) = absurd (let q = sym (older-second m h n k p) ∙ e in let z : _≡_ {A = ℕ} 0 1 = cc in let w : ⊥ = omega arith in w)
-    go (no p) = absurd (let q = sym (older-first m h n k p) ∙ e in let z : _≡_ {A = ℕ} 0 1 = cc in let w : ⊥ = omega arith in w)
+    go : (t : Bool) → cond t (State q) (State p) ≡ Nothing → (State p ≡ Nothing) × (State q ≡ Nothing)
+    go true f = absurd (let z : _≡_ {A = ℕ} 0 1 = cc in let w : ⊥ = omega arith in w)
+    go false f = absurd (let z : _≡_ {A = ℕ} 0 1 = cc in let w : ⊥ = omega arith in w)
 
-older-one : (x y : StateAnswer) (m h : ℕ) → older x y ≡ State m h → (x ≡ State m h) ⊎ (y ≡ State m h)
-older-one Nothing y m h e = inr e
-older-one (State u v) Nothing m h e = inl e
-older-one (State u v) (State n k) m h e = go (before? (n ∷ k ∷ []) (u ∷ v ∷ []))
+older-one : (x y : StateAnswer) (r : Revision) → older x y ≡ State r → (x ≡ State r) ⊎ (y ≡ State r)
+older-one Nothing y r e = inr e
+older-one (State p) Nothing r e = inl e
+older-one (State p) (State q) r e = go (below q p) e
   where
-    go : Dec (order n k u v ≡ Ordering·lt) → (State u v ≡ State m h) ⊎ (State n k ≡ State m h)
-    go (yes p) = inr (sym (older-second u v n k p) ∙ e)
-    go (no p) = inl (sym (older-first u v n k p) ∙ e)
+    go : (t : Bool) → cond t (State q) (State p) ≡ State r → (State p ≡ State r) ⊎ (State q ≡ State r)
+    go true f = inr f
+    go false f = inl f
 
--- neither of the two is older than the older one
-low-first : (y : StateAnswer) (n k m h : ℕ) → older (State n k) y ≡ State m h → Before (n ∷ k ∷ []) (m ∷ h ∷ []) → ⊥
-low-first Nothing n k m h e b = before-not-same (n ∷ k ∷ []) (m ∷ h ∷ []) b (same-pair e)
-low-first (State u v) n k m h e b = go (before? (u ∷ v ∷ []) (n ∷ k ∷ []))
+-- neither of the two is below the older one
+low-first : (p : Revision) (y : StateAnswer) (r : Revision) → older (State p) y ≡ State r → below p r ≡ false
+low-first p Nothing r e = let q : p ≡ r = cc in rw (← q) (below-self p)
+low-first p (State q) r e = go (below q p) refl e
   where
-    go : Dec (order u v n k ≡ Ordering·lt) → ⊥
-    go (yes p) =
-        let q : (u ∷ v ∷ []) ≡ (m ∷ h ∷ []) = same-pair (sym (older-second n k u v p) ∙ e) in
-        before-not-same (n ∷ k ∷ []) (n ∷ k ∷ []) (before-trans (n ∷ k ∷ []) (m ∷ h ∷ []) (n ∷ k ∷ []) b (rw q at p)) refl
-    go (no p) = before-not-same (n ∷ k ∷ []) (m ∷ h ∷ []) b (same-pair (sym (older-first n k u v p) ∙ e))
+    go : (t : Bool) → below q p ≡ t → cond t (State q) (State p) ≡ State r → below p r ≡ false
+    go true b f = let s : q ≡ r = cc in rw (← s) (below-not-above q p b)
+    go false b f = let s : p ≡ r = cc in rw (← s) (below-self p)
 
-low-second : (x : StateAnswer) (u v m h : ℕ) → older x (State u v) ≡ State m h → Before (u ∷ v ∷ []) (m ∷ h ∷ []) → ⊥
-low-second Nothing u v m h e b = before-not-same (u ∷ v ∷ []) (m ∷ h ∷ []) b (same-pair e)
-low-second (State n k) u v m h e b = go (before? (u ∷ v ∷ []) (n ∷ k ∷ []))
+low-second : (x : StateAnswer) (q r : Revision) → older x (State q) ≡ State r → below q r ≡ false
+low-second Nothing q r e = let s : q ≡ r = cc in rw (← s) (below-self q)
+low-second (State p) q r e = go (below q p) refl e
   where
-    go : Dec (order u v n k ≡ Ordering·lt) → ⊥
-    go (yes p) = before-not-same (u ∷ v ∷ []) (m ∷ h ∷ []) b (same-pair (sym (older-second n k u v p) ∙ e))
-    go (no p) = let q : (n ∷ k ∷ []) ≡ (m ∷ h ∷ []) = same-pair (sym (older-first n k u v p) ∙ e) in p (rw q b)
+    go : (t : Bool) → below q p ≡ t → cond t (State q) (State p) ≡ State r → below q r ≡ false
+    go true b f = let s : q ≡ r = cc in rw (← s) (below-self q)
+    go false b f = let s : p ≡ r = cc in rw (← s) b
 
 module _ (client : List ℕ) where
   pub oldest-nothing : (s : List Rec) → oldestState client s ≡ Nothing → (j : ℕ) (r : Rec) → getElem? s j ≡ some r → stateOf client (r .0) ≡ Nothing
@@ -321,29 +276,33 @@ module _ (client : List ℕ) where
   oldest-nothing (q ∷ s) e zero r f = let p : q ≡ r = cc in rw (← p) (older-nothing (stateOf client (q .0)) (oldestState client s) e .0)
   oldest-nothing (q ∷ s) e (suc j) r f = oldest-nothing s (older-nothing (stateOf client (q .0)) (oldestState client s) e .1) j r f
 
-  -- the answer is the pair of a record
-  pub oldest-held : (s : List Rec) (m h : ℕ) → oldestState client s ≡ State m h → (j : ℕ) × (r : Rec) × (getElem? s j ≡ some r) × (stateOf client (r .0) ≡ State m h)
+  -- the answer is the revision of a record
+  pub oldest-held : (s : List Rec) (p : Revision) → oldestState client s ≡ State p → (j : ℕ) × (r : Rec) × (getElem? s j ≡ some r) × (stateOf client (r .0) ≡ State p)
   unfolding oldestState
-  oldest-held [] m h e = absurd (let z : _≡_ {A = ℕ} 0 1 = cc in let w : ⊥ = omega arith in w)
-  oldest-held (q ∷ s) m h e = ⊎-elim (λ f. (0, q, refl, f)) (λ f. let t = oldest-held s m h f in (suc (t .0), t .1, t .2, t .3)) (older-one (stateOf client (q .0)) (oldestState client s) m h e)
+  oldest-held [] p e = absurd (let z : _≡_ {A = ℕ} 0 1 = cc in let w : ⊥ = omega arith in w)
+  oldest-held (q ∷ s) p e = ⊎-elim (λ f. (0, q, refl, f)) (λ f. let t = oldest-held s p f in (suc (t .0), t .1, t .2, t .3)) (older-one (stateOf client (q .0)) (oldestState client s) p e)
 
-  -- and no record has a smaller one
-  pub oldest-least : (s : List Rec) (m h : ℕ) → oldestState client s ≡ State m h → (j : ℕ) (r : Rec) (n k : ℕ) → getElem? s j ≡ some r → stateOf client (r .0) ≡ State n k → Before (n ∷ k ∷ []) (m ∷ h ∷ []) → ⊥
+  -- and no record has one below it
+  pub oldest-least : (s : List Rec) (p : Revision) → oldestState client s ≡ State p → (j : ℕ) (r : Rec) (q : Revision) → getElem? s j ≡ some r → stateOf client (r .0) ≡ State q → below q p ≡ false
   unfolding oldestState
-  oldest-least [] m h e j r n k f g b = let z : _≡_ {A = ℕ} 0 1 = cc in omega arith
-  oldest-least (q ∷ s) m h e zero r n k f g b =
-      let p : q ≡ r = cc in
-      let a : stateOf client (q .0) ≡ State n k = ap (λ (t : Rec). stateOf client (t .0)) p ∙ g in
-      low-first (oldestState client s) n k m h (ap (λ (t : StateAnswer). older t (oldestState client s)) (sym a) ∙ e) b
-  oldest-least (q ∷ s) m h e (suc j) r n k f g b = go (oldestState client s) refl (oldest-least s)
+  oldest-least [] p e j r q f g = let z : _≡_ {A = ℕ} 0 1 = cc in absurd (omega arith)
+  oldest-least (t ∷ s) p e zero r q f g =
+      let same : t ≡ r = cc in
+      let a : stateOf client (t .0) ≡ State q = ap (λ (u : Rec). stateOf client (u .0)) same ∙ g in
+      low-first q (oldestState client s) p (ap (λ (u : StateAnswer). older u (oldestState client s)) (sym a) ∙ e)
+  oldest-least (t ∷ s) p e (suc j) r q f g = go (oldestState client s) refl (oldest-least s)
     where
-      go : (o : StateAnswer) → oldestState client s ≡ o
-          → ((m h : ℕ) → oldestState client s ≡ State m h → (j : ℕ) (r : Rec) (n k : ℕ) → getElem? s j ≡ some r → stateOf client (r .0) ≡ State n k → Before (n ∷ k ∷ []) (m ∷ h ∷ []) → ⊥) → ⊥
-      go Nothing o ih = let c : stateOf client (r .0) ≡ Nothing = oldest-nothing s o j r f in let z : _≡_ {A = ℕ} 0 1 = cc in omega arith
-      go (State u v) o ih =
-          not-through (n ∷ k ∷ []) (m ∷ h ∷ []) (u ∷ v ∷ []) b
-          (low-second (stateOf client (q .0)) u v m h (ap (older (stateOf client (q .0))) (sym o) ∙ e))
-          (ih u v o j r n k f g)
+      go : (o : StateAnswer) → oldestState client s ≡ o → ((o : Revision) → oldestState client s ≡ State o → (j : ℕ) (r : Rec) (q : Revision) → getElem? s j ≡ some r → stateOf client (r .0) ≡ State q → below q o ≡ false) → below q p ≡ false
+      go Nothing e₁ ih = let c : stateOf client (r .0) ≡ Nothing = oldest-nothing s e₁ j r f in let z : _≡_ {A = ℕ} 0 1 = cc in absurd (omega arith)
+      go (State o) e₁ ih = above (below q p) refl
+        where
+          above : (c : Bool) → below q p ≡ c → c ≡ false
+          above false h = refl
+          above true h =
+              let k = below-through q p o h (low-second (stateOf client (t .0)) o p (ap (older (stateOf client (t .0))) (sym e₁) ∙ e)) in
+              let l = ih o e₁ j r q f g in
+              let z : _≡_ {A = ℕ} 0 1 = cc in
+              absurd (omega arith)
 
 -- ---- the call
 module _ (F : Form) (b client : List ℕ) (n : ℕ) (h : Counts F b n) (f : ℕ) (ef : f ≡ checkOf check.client client) where

@@ -8,6 +8,10 @@ use form::Version;
 use form::key_at;
 use path::Pair;
 use path::Reading;
+use path::Revision;
+use path::RevisionHeight;
+use path::RevisionNumber;
+use path::is_below;
 use text::part::same_at;
 use text::refusal::ABSENT;
 use text::refusal::BAD_BOOK;
@@ -20,11 +24,11 @@ ghost use Rattle.book.specs.Book.{Current, Counts};
 ghost use Rattle.oldest.specs.Oldest.{stateOf, older, OldestIs, Oldest};
 
 pub enum StateAnswer {
-    State(u64, u64),
+    State(Revision),
     Nothing,
 }
 
-// The revision number and height in a key, where it is a state of the client.
+// The revision in a key, where it is a state of the client.
 fn state_in(key: &[u8], client: &[u8]) -> StateAnswer
     ensures { λ r. ⌜ r ≡ stateOf (now (client .entry)) (now (key .entry)) ⌝ }
 {
@@ -39,26 +43,23 @@ fn state_in(key: &[u8], client: &[u8]) -> StateAnswer
     if !text::part::equal(reader::part(key, v.first), client) {
         return StateAnswer::Nothing;
     }
-    StateAnswer::State(v.a, v.b)
+    StateAnswer::State(Revision {
+        number: RevisionNumber(v.a),
+        height: RevisionHeight(v.b),
+    })
 }
 
-// The one with the smaller pair, where there are two.
+// The lower one, where there are two.
 fn older(x: StateAnswer, y: StateAnswer) -> StateAnswer
     ensures { λ r. ⌜ r ≡ older x y ⌝ }
 {
-    let StateAnswer::State(m, h) = x else {
+    let StateAnswer::State(p) = x else {
         return y;
     };
-    let StateAnswer::State(n, k) = y else {
+    let StateAnswer::State(q) = y else {
         return x;
     };
-    if n < m {
-        return y;
-    }
-    if m < n {
-        return x;
-    }
-    if k < h {
+    if is_below(q, p) {
         return y;
     }
     x
@@ -109,7 +110,7 @@ pub fn oldest(book: &[u8], client: &[u8]) -> Pair
             height: 0,
         };
     }
-    let StateAnswer::State(number, height) = oldest_state(book, n, client) else {
+    let StateAnswer::State(p) = oldest_state(book, n, client) else {
         return Pair {
             refusal: ABSENT,
             number: 0,
@@ -118,7 +119,7 @@ pub fn oldest(book: &[u8], client: &[u8]) -> Pair
     };
     Pair {
         refusal: 0,
-        number,
-        height,
+        number: p.number.0,
+        height: p.height.0,
     }
 }

@@ -4,8 +4,7 @@
 use mathlib.Core.Path.{sym, _∙_}
 use denote.Ref.{now}
 use Rattle.text.specs.Outcome.{One, OneWith, OnePart}
-use Rattle.text.specs.OutcomeLaws.{agree}
-use Rattle.path.specs.ViewLaws.{one-shown}
+use Rattle.text.specs.OutcomeLaws.{agree, one-part as same-part}
 use Rattle.packet.proofs.marker_of.Reads as marker-of
 use Rattle.packet.proofs.kind_of.Reads as kind-of
 use Rattle.packet.proofs.read_packet_key.Reads as read-packet-key
@@ -23,7 +22,7 @@ pub one-read-packet-key : One read-packet-key.Post
 one-read-packet-key κs a r₁ r₂ s₁ s₂ p q = p ∙ sym q
 
 pub one-client-identifier : OnePart client-identifier.Post
-one-client-identifier κs a r₁ r₂ s₁ s₂ p q = one-shown r₁ r₂ _ _ p q
+one-client-identifier κs a r₁ r₂ s₁ s₂ p q = same-part p q
 
 pub one-packet-of : One packet-of.Post
 one-packet-of κs a r₁ r₂ s₁ s₂ p q = p ∙ sym q

@@ -4,6 +4,7 @@ use mathlib.Core.Path.{sym, _∙_}
 use Rattle.text.specs.Outcome.{One}
 use Rattle.path.proofs.view.Reads as view
 use Rattle.path.proofs.provable.is_provable.Reads as is-provable
+use Rattle.path.proofs.is_below.Reads as is-below
 use Rattle.path.proofs.fault_of.Reads as fault-of
 use Rattle.path.proofs.measure.render_length.Reads as render-length
 use Rattle.path.proofs.name.name_fault.Reads as name-fault
@@ -16,6 +17,9 @@ one-view κs a r₁ r₂ s₁ s₂ p q = p ∙ sym q
 
 pub one-is-provable : One is-provable.Post
 one-is-provable κs a r₁ r₂ s₁ s₂ p q = p ∙ sym q
+
+pub one-is-below : One is-below.Post
+one-is-below κs a r₁ r₂ s₁ s₂ p q = p ∙ sym q
 
 pub one-fault-of : One fault-of.Post
 one-fault-of κs a r₁ r₂ s₁ s₂ p q = p ∙ sym q

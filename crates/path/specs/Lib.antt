@@ -15,6 +15,8 @@ pub mod PlaceLaws
 pub mod Read
 pub mod Reads
 pub mod ReadLaws
+pub mod Revision
+pub mod RevisionLaws
 pub mod Spelled
 pub mod Text
 pub mod TextLaws

@@ -1,12 +1,12 @@
 -- This paper's number and values for each case of the typed path and of the reader's answer.
 -- Assumes nothing.
-use Prim.Native.Nat.{ℕ, _+_}
-use mathlib.Core.Path.{_≡_}
+use Prim.Native.Nat.{ℕ}
 use mathlib.Core.Bool.{Bool, true, false, cond, not, _&&_, _||_}
 use mathlib.Core.List.{List}
 use lib.Dec.{eqb, leb}
 use denote.Ref.{RefT, now}
 use Rattle.text.specs.Refusal.{badKind}
+use Rattle.text.specs.Stands.{Stands}
 use Rattle.path.specs.declared.Place.{Place}
 use Rattle.path.specs.declared.provable.Flag.{Flag}
 use Rattle.path.specs.declared.Path.{Path}
@@ -85,8 +85,6 @@ abbrev pub secondPlace : Reading → Place
 secondPlace (Read p e) = carriedOf p .second
 secondPlace (Refused w) = nowhere
 
--- r is the part of x at the place p, no copy: what it holds, and where it points. The empty part at the start of x where p does not lie in x
-pub record Shows (r x : RefT (List ℕ)) (p : Place) : Type 0 where
-  pub bytes : now r ≡ shownOf (now x) p
-  pub block : r .ptr .0 ≡ x .ptr .0
-  pub offset : r .ptr .1 ≡ x .ptr .1 + shownStart (now x) p
+-- r is the part of x at the place p, no copy: the empty part at the start of x where p does not lie in x
+abbrev pub Shows : RefT (List ℕ) → RefT (List ℕ) → Place → Type 0
+Shows r x p = Stands r x (shownStart (now x) p) (shownOf (now x) p)

@@ -1,10 +1,9 @@
 -- Laws of `View`.
 -- Assumes nothing.
 use Prim.Native.Nat.{ℕ}
-use mathlib.Core.Path.{_≡_, sym, ap, subst, _∙_}
+use mathlib.Core.Path.{_≡_, ap, subst}
 use mathlib.Core.List.{List}
 use denote.Ref.{RefT}
-use Rattle.text.specs.Outcome.{SamePart}
 use Rattle.path.specs.declared.Place.{Place}
 use Rattle.path.specs.declared.Path.{Path}
 use Rattle.path.specs.declared.PathView.{PathView}
@@ -13,10 +12,6 @@ use Rattle.path.specs.View.{Shows, viewOf, kindOf, carriedOf}
 -- a place by another name
 pub shows-at : (r x : RefT (List ℕ)) (p q : Place) → p ≡ q → Shows r x p → Shows r x q
 shows-at r x p q e h = subst (λ (z : Place). Shows r x z) e h
-
--- two parts that show one place are the same part
-pub one-shown : (r q x : RefT (List ℕ)) (p : Place) → Shows r x p → Shows q x p → SamePart r q
-one-shown r q x p e f = (e .bytes ∙ sym (f .bytes), e .block ∙ sym (f .block), e .offset ∙ sym (f .offset))
 
 -- what a view of p has
 module _ (v : PathView) (p : Path) (e : v ≡ viewOf p) where

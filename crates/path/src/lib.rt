@@ -13,6 +13,7 @@ use text::refusal::TOO_LARGE;
 use text::refusal::TOO_LONG;
 ghost use mathlib.Core.Path.{_≡_};
 ghost use Rattle.path.specs.Read.{faultOf, numberOf};
+ghost use Rattle.path.specs.Revision.{below};
 ghost use Rattle.path.specs.View.{viewOf};
 
 // A part of the caller's text: where it starts, and its length.
@@ -27,6 +28,12 @@ pub struct RevisionNumber(pub u64);
 pub struct RevisionHeight(pub u64);
 
 pub struct Sequence(pub u64);
+
+// A revision: its two counts, which stay apart.
+pub struct Revision {
+    pub number: RevisionNumber,
+    pub height: RevisionHeight,
+}
 
 // A revision number and height as they cross to C: 0 and the two, or a refusal and zeros.
 #[repr(C)]
@@ -156,6 +163,19 @@ pub fn view(p: Path) -> PathView
         Path::UpgradeClientState(x) => carried::upgrade(18, x),
         Path::UpgradeConsensusState(x) => carried::upgrade(19, x),
     }
+}
+
+// Whether p is below q: the numbers decide, and where they are equal the heights.
+pub fn is_below(p: Revision, q: Revision) -> bool
+    ensures { λ r. ⌜ r ≡ below p q ⌝ }
+{
+    if p.number.0 < q.number.0 {
+        return true;
+    }
+    if q.number.0 < p.number.0 {
+        return false;
+    }
+    p.height.0 < q.height.0
 }
 
 // A refusal with its number and place.

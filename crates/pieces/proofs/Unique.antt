@@ -1,8 +1,8 @@
 -- The contract of each public function, as the source has it, leaves one result.
 -- Assumes nothing.
-use mathlib.Core.Path.{_≡_, sym, _∙_}
-use denote.Ref.{now}
-use Rattle.text.specs.Outcome.{One}
+use mathlib.Core.Path.{sym, _∙_}
+use Rattle.text.specs.Outcome.{One, OnePart}
+use Rattle.text.specs.OutcomeLaws.{one-part}
 use Rattle.pieces.proofs.cutter.cut_text.Reads as cut-text
 use Rattle.pieces.proofs.cutter.place_at.Reads as place-at
 use Rattle.pieces.proofs.cutter.component_at.Reads as component-at
@@ -22,9 +22,9 @@ one-cut-text κs a r₁ r₂ s₁ s₂ p q = p ∙ sym q
 pub one-place-at : One place-at.Post
 one-place-at κs a r₁ r₂ s₁ s₂ p q = p ∙ sym q
 
--- the bytes of the part
-pub one-component-at : (κs : _) (a : _) (r₁ r₂ : _) (s₁ s₂ : _) → component-at.Post κs a r₁ s₁ → component-at.Post κs a r₂ s₂ → now r₁ ≡ now r₂
-one-component-at κs a r₁ r₂ s₁ s₂ p q = p ∙ sym q
+-- its bytes, and where it points
+pub one-component-at : OnePart component-at.Post
+one-component-at κs a r₁ r₂ s₁ s₂ p q = one-part p q
 
 pub one-is-word : One is-word.Post
 one-is-word κs a r₁ r₂ s₁ s₂ p q = p ∙ sym q

@@ -4,6 +4,7 @@ use path::Place;
 ghost use mathlib.Core.Path.{_≡_};
 ghost use Prim.Native.Nat.{_<_};
 ghost use Rattle.text.specs.Part.{same};
+ghost use Rattle.text.specs.Stands.{Stands};
 ghost use Rattle.path.specs.Text.{placeAt, component};
 ghost use Rattle.path.specs.Cut.{cutOf};
 
@@ -51,7 +52,7 @@ pub fn place_at(text: &[u8], cut: Cut, k: usize) -> Place
 // Component k of a text of at most seven components.
 pub fn component_at(text: &[u8], cut: Cut, k: usize) -> &[u8]
     requires { ⌜ (cut ≡ cutOf (now text)) × (k < cut .count) × (cut .count < 8) ⌝ }
-    ensures { λ r. ⌜ now r ≡ component (now (text .entry)) k ⌝ }
+    ensures { λ r. ⌜ Stands r (text .entry) (placeAt (now (text .entry)) k .start) (component (now (text .entry)) k) ⌝ }
 {
     let p = place_at(text, cut, k);
     let start = p.start;

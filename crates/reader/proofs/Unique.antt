@@ -4,8 +4,7 @@
 use mathlib.Core.Path.{sym, _∙_}
 use denote.Ref.{now}
 use Rattle.text.specs.Outcome.{One, OneWith, OnePart}
-use Rattle.text.specs.OutcomeLaws.{agree}
-use Rattle.path.specs.ViewLaws.{one-shown}
+use Rattle.text.specs.OutcomeLaws.{agree, one-part as same-part}
 use Rattle.reader.proofs.part.Reads as part
 use Rattle.reader.proofs.fault.Reads as fault
 use Rattle.reader.proofs.encode.write_view.Reads as write-view
@@ -31,10 +30,10 @@ pub one-write-reading : OneWith write-reading.Post (λ κs s. now (s .1 .0))
 one-write-reading κs a r₁ r₂ s₁ s₂ p q = agree p q
 
 pub one-part : OnePart part.Post
-one-part κs a r₁ r₂ s₁ s₂ p q = one-shown r₁ r₂ _ _ p q
+one-part κs a r₁ r₂ s₁ s₂ p q = same-part p q
 
 pub one-first-identifier : OnePart first-identifier.Post
-one-first-identifier κs a r₁ r₂ s₁ s₂ p q = one-shown r₁ r₂ _ _ p q
+one-first-identifier κs a r₁ r₂ s₁ s₂ p q = same-part p q
 
 pub one-second-identifier : OnePart second-identifier.Post
-one-second-identifier κs a r₁ r₂ s₁ s₂ p q = one-shown r₁ r₂ _ _ p q
+one-second-identifier κs a r₁ r₂ s₁ s₂ p q = same-part p q

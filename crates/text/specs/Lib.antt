@@ -15,6 +15,7 @@ pub mod Put
 pub mod PutLaws
 pub mod Refusal
 pub mod RefusalLaws
+pub mod Stands
 pub mod TableLaws
 pub mod WidthLaws
 pub mod WordLaws

@@ -46,7 +46,7 @@ insert-requires : tie.Need-insert-requires Inv-loop μ-loop
 insert-requires c κs = let at = c .before .before .before .slot-at .result in
     let k = copies _ _ _ (c .before .before .before .before .before .before .before .before .before .before .before .before .pre) (c .before .before .before .before .before .before .before .before .before .before .before .before .args .n - c .before .before .before .before .before .loop .left) (omega arith) in
     let e = c .before .before .before .slot-at .ensures in
-    omega (arith, ap length (c .before .key-at .ensures ∙ ap (stored (c .before .before .before .before .before .before .before .before .before .before .before .before .args .old .now)) e), k, c .before .before .before .before .before .loop .inv .2, length-part (at + 256) (at + 256 + 32 - (at + 256)) (c .before .before .before .before .before .before .before .before .before .before .before .before .args .old .now) (omega (arith, e, k)))
+    omega (arith, ap length (c .before .key-at .ensures .bytes ∙ ap (stored (c .before .before .before .before .before .before .before .before .before .before .before .before .args .old .now)) e), k, c .before .before .before .before .before .loop .inv .2, length-part (at + 256) (at + 256 + 32 - (at + 256)) (c .before .before .before .before .before .before .before .before .before .before .before .before .args .old .now) (omega (arith, e, k)))
 
 loop-less : tie.Need-loop-less Inv-loop μ-loop
 loop-less c = omega arith
@@ -56,7 +56,7 @@ loop-again c = let s = c .before .before .before .before .before .before .before
     let at = c .before .before .before .before .before .before .slot-at .result in
     let left = c .before .before .before .before .before .before .before .before .loop .left in
     let v = ap (λ (m : ℕ). take m (drop (at + 256) (s .args .old .now))) (let q : at + 256 + 32 - (at + 256) ≡ 32 = omega arith in q) in
-    (omega arith, copy-next _ _ _ (s .pre) (s .args .n - left) (omega arith) at (c .before .before .before .before .before .before .slot-at .ensures) _ _ (c .before .before .before .before .key-at .ensures) v _ _ (c .before .before .before .before .before .before .before .before .loop .inv .1) (c .before .before .insert .ensures) (s .args .n - (left - 1)) (omega arith), omega (arith, c .before .before .before .before .before .before .before .before .loop .inv .2))
+    (omega arith, copy-next _ _ _ (s .pre) (s .args .n - left) (omega arith) at (c .before .before .before .before .before .before .slot-at .ensures) _ _ (c .before .before .before .before .key-at .ensures .bytes) v _ _ (c .before .before .before .before .before .before .before .before .loop .inv .1) (c .before .before .insert .ensures) (s .args .n - (left - 1)) (omega arith), omega (arith, c .before .before .before .before .before .before .before .before .loop .inv .2))
 
 returns : tie.Need-returns Inv-loop μ-loop
 returns c = let e : c .before .before .before .before .before .before .before .before .args .n - c .before .loop .left ≡ c .before .before .before .before .before .before .before .before .args .n = omega arith in

@@ -10,7 +10,7 @@ use Rattle.faults.proofs.count_fault.Tie as tie
 
 returns : tie.Need-returns
 unfolding partFaults
-returns c = c .fault-at .ensures ∙ rw (c .before .component-at .ensures, c .before .before .place-at .ensures)
+returns c = c .fault-at .ensures ∙ rw (c .before .component-at .ensures .bytes, c .before .before .place-at .ensures)
 
 pub count-fault-spec : {M : Type 1} → statement M
 count-fault-spec =
@@ -18,5 +18,5 @@ count-fault-spec =
     (tie.spec
     (λ c κs. search needs)
     (λ c κs. search needs)
-    (λ c κs. omega (arith, component-ends _ _ _ _ (c .before .place-at .ensures) (c .component-at .ensures)))
+    (λ c κs. omega (arith, component-ends _ _ _ _ (c .before .place-at .ensures) (c .component-at .ensures .bytes)))
     returns)

@@ -8,7 +8,7 @@ use Rattle.faults.proofs.pair_fault.Statement.{statement}
 use Rattle.faults.proofs.pair_fault.Tie as tie
 
 returns : tie.Need-returns
-returns c = c .pair-fault-at .ensures ∙ rw (c .before .component-at .ensures, c .before .before .place-at .ensures)
+returns c = c .pair-fault-at .ensures ∙ rw (c .before .component-at .ensures .bytes, c .before .before .place-at .ensures)
 
 pub pair-fault-spec : {M : Type 1} → statement M
 pair-fault-spec =
@@ -16,5 +16,5 @@ pair-fault-spec =
     (tie.spec
     (λ c κs. search needs)
     (λ c κs. search needs)
-    (λ c κs. omega (arith, component-ends _ _ _ _ (c .before .place-at .ensures) (c .component-at .ensures)))
+    (λ c κs. omega (arith, component-ends _ _ _ _ (c .before .place-at .ensures) (c .component-at .ensures .bytes)))
     returns)

@@ -13,14 +13,14 @@ returns : tie.Need-returns
 returns c =
     let s = c .before .before .before .before in
     let n = cut-components (s .args .text .now) (s .args .cut) 3 (s .pre .0) (s .pre .1) (lit< tt) in
-    rw (upgrades-by _ n, ← c .before .before .component-at .ensures, ← c .before .name-fault .ensures, ne-eqb _ 0 (c .if1 .taken))
+    rw (upgrades-by _ n, ← c .before .before .component-at .ensures .bytes, ← c .before .name-fault .ensures, ne-eqb _ 0 (c .if1 .taken))
 
 returns-2 : tie.Need-returns-2
 returns-2 c =
     let s = c .before .before .before .before .before .before .before in
     let n = cut-components (s .args .text .now) (s .args .cut) 3 (s .pre .0) (s .pre .1) (lit< tt) in
     let b = c .before .before .before in
-    rw (upgrades-by _ n, ← b .before .before .component-at .ensures, ← b .before .name-fault .ensures, eq-eqb _ 0 (b .if1 .left), ← c .before .is-word .ensures, c .if2 .taken)
+    rw (upgrades-by _ n, ← b .before .before .component-at .ensures .bytes, ← b .before .name-fault .ensures, eq-eqb _ 0 (b .if1 .left), ← c .before .is-word .ensures, c .if2 .taken)
 
 returns-3 : tie.Need-returns-3
 returns-3 c =
@@ -28,7 +28,7 @@ returns-3 c =
     let n = cut-components (s .args .text .now) (s .args .cut) 3 (s .pre .0) (s .pre .1) (lit< tt) in
     let a = c .before .before in
     let b = a .before .before .before in
-    rw (upgrades-by _ n, ← b .before .before .component-at .ensures, ← b .before .name-fault .ensures, eq-eqb _ 0 (b .if1 .left), ← a .before .is-word .ensures, a .if2 .left) (c .is-word2 .ensures)
+    rw (upgrades-by _ n, ← b .before .before .component-at .ensures .bytes, ← b .before .name-fault .ensures, eq-eqb _ 0 (b .if1 .left), ← a .before .is-word .ensures, a .if2 .left) (c .is-word2 .ensures)
 
 pub suits-upgrades-spec : {M : Type 1} → statement M
 suits-upgrades-spec =

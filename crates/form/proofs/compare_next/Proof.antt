@@ -15,7 +15,7 @@ use Rattle.form.proofs.compare_next.Tie as tie
 returns : tie.Need-returns
 returns c =
     let a = c .before .before .before .before .before .before .before .args in
-    c .compare-key .ensures ∙ ap (λ (l : List ℕ). code (cmp l (stored (a .book .now) (a .at + a .by)))) (c .before .before .before .before .before .key-at .ensures)
+    c .compare-key .ensures ∙ ap (λ (l : List ℕ). code (cmp l (stored (a .book .now) (a .at + a .by)))) (c .before .before .before .before .before .key-at .ensures .bytes)
 
 returns-2 : tie.Need-returns-2
 returns-2 c =
@@ -27,7 +27,7 @@ returns-2 c =
     let g = c .before .before .before .before .before .before .before .before .before .shared-slice-known .given in
     let x = c .before .before .high-eight .ensures ∙ high-sum s (a .at + 1 + i .result) in
     let y = c .before .high-eight2 .ensures ∙ high-sum s (a .at + a .by + 1 + i .result) in
-    next-lt s _ (a .at) (a .by) (n .result) (i .result) (omega arith) (λ j. omega (arith, g j)) (k .ensures) (n .ensures .0) (omega (arith, c .before .before .before .before .before .before .wide .ensures, n .ensures)) (omega (arith, i .ensures .within)) (i .ensures .alike) (rw (← x, ← y) (c .if2 .taken))
+    next-lt s _ (a .at) (a .by) (n .result) (i .result) (omega arith) (λ j. omega (arith, g j)) (k .ensures .bytes) (n .ensures .0) (omega (arith, c .before .before .before .before .before .before .wide .ensures, n .ensures)) (omega (arith, i .ensures .within)) (i .ensures .alike) (rw (← x, ← y) (c .if2 .taken))
 
 returns-3 : tie.Need-returns-3
 returns-3 c =
@@ -39,7 +39,7 @@ returns-3 c =
     let g = c .before .before .before .before .before .before .before .before .before .before .shared-slice-known .given in
     let x = c .before .before .before .high-eight .ensures ∙ high-sum s (a .at + 1 + i .result) in
     let y = c .before .before .high-eight2 .ensures ∙ high-sum s (a .at + a .by + 1 + i .result) in
-    next-gt s _ (a .at) (a .by) (n .result) (i .result) (omega arith) (λ j. omega (arith, g j)) (k .ensures) (n .ensures .0) (omega (arith, c .before .before .before .before .before .before .before .wide .ensures, n .ensures)) (omega (arith, i .ensures .within)) (i .ensures .alike) (rw (← x, ← y) (c .if3 .taken))
+    next-gt s _ (a .at) (a .by) (n .result) (i .result) (omega arith) (λ j. omega (arith, g j)) (k .ensures .bytes) (n .ensures .0) (omega (arith, c .before .before .before .before .before .before .before .wide .ensures, n .ensures)) (omega (arith, i .ensures .within)) (i .ensures .alike) (rw (← x, ← y) (c .if3 .taken))
 
 compare-from-requires : tie.Need-compare-from-requires
 compare-from-requires c κs =
@@ -51,12 +51,12 @@ compare-from-requires c κs =
     let g = c .before .before .before .before .before .before .before .before .before .before .shared-slice-known .given in
     let x = c .before .before .before .high-eight .ensures ∙ high-sum s (a .at + 1 + i .result) in
     let y = c .before .before .high-eight2 .ensures ∙ high-sum s (a .at + a .by + 1 + i .result) in
-    (omega arith, next-same s _ (a .at) (a .by) (n .result) (i .result) (omega arith) (λ j. omega (arith, g j)) (k .ensures) (n .ensures .0) (omega (arith, c .before .before .before .before .before .before .before .wide .ensures, n .ensures)) (omega (arith, i .ensures .within)) (i .ensures .alike) (i .ensures .last) (sym x ∙ (let e : c .before .before .before .high-eight .result ≡ c .before .before .high-eight2 .result = omega arith in e) ∙ y))
+    (omega arith, next-same s _ (a .at) (a .by) (n .result) (i .result) (omega arith) (λ j. omega (arith, g j)) (k .ensures .bytes) (n .ensures .0) (omega (arith, c .before .before .before .before .before .before .before .wide .ensures, n .ensures)) (omega (arith, i .ensures .within)) (i .ensures .alike) (i .ensures .last) (sym x ∙ (let e : c .before .before .before .high-eight .result ≡ c .before .before .high-eight2 .result = omega arith in e) ∙ y))
 
 returns-4 : tie.Need-returns-4
 returns-4 c =
     let a = c .before .before .before .before .before .before .before .before .before .before .before .before .args in
-    c .compare-from .ensures ∙ ap (λ (l : List ℕ). code (cmp l (stored (a .book .now) (a .at + a .by)))) (c .before .before .before .before .before .before .before .before .before .before .key-at .ensures)
+    c .compare-from .ensures ∙ ap (λ (l : List ℕ). code (cmp l (stored (a .book .now) (a .at + a .by)))) (c .before .before .before .before .before .before .before .before .before .before .key-at .ensures .bytes)
 
 pub compare-next-spec : {M : Type 1} → statement M
 compare-next-spec =

@@ -3,7 +3,7 @@
 use Prim.Native.Nat.{_+_, _-_}
 use lib.ListN.{getD}
 use native.Mathlib.Omega.{arith}
-use mathlib.Core.Path.{_≡_}
+use mathlib.Core.Path.{_≡_, refl}
 use Rattle.form.specs.CompareLaws.{stored-part}
 use borrow.Author.Needs.{needs}
 use Rattle.form.proofs.text_at.Statement.{statement}
@@ -12,7 +12,8 @@ use Rattle.form.proofs.text_at.Tie as tie
 returns : tie.Need-returns
 returns c =
     let a = c .before .before .before .before .args in
-    stored-part (a .book .now) (a .at) _ (let q : a .at + 1 + c .before .wide .result - (a .at + 1) ≡ getD (a .book .now) (a .at) 0 = omega (arith, c .before .wide .ensures) in q)
+    let q : a .at + 1 + c .before .wide .result - (a .at + 1) ≡ getD (a .book .now) (a .at) 0 = omega (arith, c .before .wide .ensures) in
+    record { bytes = stored-part (a .book .now) (a .at) _ q; block = refl; offset = omega arith }
 
 pub text-at-spec : {M : Type 1} → statement M
 text-at-spec =

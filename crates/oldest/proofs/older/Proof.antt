@@ -1,10 +1,15 @@
 -- `oldest::older` meets its contract.
 -- Assumes nothing.
-use native.Mathlib.Omega.{arith}
-use Rattle.oldest.specs.OldestLaws.{none-first, none-second, smaller-number, larger-number, smaller-height, no-smaller-height}
+use Rattle.oldest.specs.OldestLaws.{none-first, none-second, second-lower, second-no-lower}
 use borrow.Author.Needs.{needs}
 use Rattle.oldest.proofs.older.Statement.{statement}
 use Rattle.oldest.proofs.older.Tie as tie
+
+returns-3 : tie.Need-returns-3
+returns-3 c = let s = c .before .before .before in second-lower _ _ _ _ (s .before .before .before .x .given .1) (s .y .given .1) _ (c .before .is-below .ensures) (c .if1 .taken)
+
+returns-4 : tie.Need-returns-4
+returns-4 c = let s = c .before .before .before in second-no-lower _ _ _ _ (s .before .before .before .x .given .1) (s .y .given .1) _ (c .before .is-below .ensures) (c .if1 .left)
 
 pub older-spec : {M : Type 1} → statement M
 older-spec =
@@ -16,7 +21,6 @@ older-spec =
     (λ c. search needs)
     (λ c. search needs)
     (λ c. none-second _ _ _ (c .before .before .before .x .given .1) (c .enum-told2 .given .1))
-    (λ c. let s = c .before .before in smaller-number _ _ _ _ _ _ (s .before .before .before .x .given .1) (s .y .given .1) (omega arith))
-    (λ c. let s = c .before .before .before in larger-number _ _ _ _ _ _ (s .before .before .before .x .given .1) (s .y .given .1) (omega arith))
-    (λ c. let s = c .before .before .before .before in smaller-height _ _ _ _ _ _ (s .before .before .before .x .given .1) (s .y .given .1) (omega arith) (omega arith))
-    (λ c. let s = c .before .before .before .before in no-smaller-height _ _ _ _ _ _ (s .before .before .before .x .given .1) (s .y .given .1) (omega arith) (omega arith)))
+    (λ c κs. search needs)
+    returns-3
+    returns-4)

@@ -24,7 +24,7 @@ returns-3 : tie.Need-returns-3
 returns-3 c = oldest-by Current _ _ _ (judged-holds _ _ _ (c .before .before .before .before .before .before .before .before .check-book .ensures) (c .before .before .before .before .before .before .n .given .1)) _ (c .before .before .before .before .validate-client-identifier .ensures) (c .before .before .before .if1 .left) _ (c .before .before .oldest-state .ensures) _ (c .enum-told2 .given .1)
 
 returns-4 : tie.Need-returns-4
-returns-4 c = oldest-by Current _ _ _ (judged-holds _ _ _ (c .before .before .before .before .before .before .before .before .before .check-book .ensures) (c .before .before .before .before .before .before .before .n .given .1)) _ (c .before .before .before .before .before .validate-client-identifier .ensures) (c .before .before .before .before .if1 .left) _ (c .before .before .before .oldest-state .ensures) _ (c .before .number .given .1)
+returns-4 c = oldest-by Current _ _ _ (judged-holds _ _ _ (c .before .before .before .before .before .before .before .before .before .check-book .ensures) (c .before .before .before .before .before .before .before .n .given .1)) _ (c .before .before .before .before .before .validate-client-identifier .ensures) (c .before .before .before .before .if1 .left) _ (c .before .before .before .oldest-state .ensures) _ (c .before .p .given .1)
 
 pub oldest-spec : {M : Type 1} → statement M
 oldest-spec =

@@ -33,13 +33,13 @@ loop-again : tie.Need-loop-again Inv-loop μ-loop
 loop-again c =
     let l = c .before .before .before .before .before .before .before in
     let s = l .before .before .before .before .before in
-    (omega arith, omega arith, oldest-next Current lawful _ (s .args .n) (s .pre .0) _ _ (s .pre .1) _ (l .before .place .ensures) (l .loop .best) (l .loop .i) (l .loop .inv .2) (omega arith) _ (c .before .before .key-at2 .ensures) _ _ (c .before .state-in .ensures) (c .older .ensures))
+    (omega arith, omega arith, oldest-next Current lawful _ (s .args .n) (s .pre .0) _ _ (s .pre .1) _ (l .before .place .ensures) (l .loop .best) (l .loop .i) (l .loop .inv .2) (omega arith) _ (c .before .before .key-at2 .ensures .bytes) _ _ (c .before .state-in .ensures) (c .older .ensures))
 
 returns : tie.Need-returns Inv-loop μ-loop
 returns c =
     let l = c .before .before .before .before in
     let s = l .before .before .before .before .before in
-    oldest-stop Current lawful _ (s .args .n) (s .pre .0) _ _ (s .pre .1) (l .before .place .result) (l .before .place .ensures) (l .loop .best) (l .loop .i) (l .loop .inv .2) (omega arith) _ (c .before .before .key-at .ensures) (omega arith) (sym (c .before .same-at .ensures) ∙ c .if1 .left)
+    oldest-stop Current lawful _ (s .args .n) (s .pre .0) _ _ (s .pre .1) (l .before .place .result) (l .before .place .ensures) (l .loop .best) (l .loop .i) (l .loop .inv .2) (omega arith) _ (c .before .before .key-at .ensures .bytes) (omega arith) (sym (c .before .same-at .ensures) ∙ c .if1 .left)
 
 returns-2 : tie.Need-returns-2 Inv-loop μ-loop
 returns-2 c =

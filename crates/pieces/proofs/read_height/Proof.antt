@@ -9,12 +9,12 @@ use Rattle.pieces.proofs.read_height.Tie as tie
 
 returns : tie.Need-returns
 unfolding heightAt
-returns c = rw (number-no _ _ _ (c .before .read-number .ensures) (c .before .before .component-at .ensures) (no-value (c .before .read-number .result) (c .match .keys2)))
+returns c = rw (number-no _ _ _ (c .before .read-number .ensures) (c .before .before .component-at .ensures .bytes) (no-value (c .before .read-number .result) (c .match .keys2)))
 
 returns-2 : tie.Need-returns-2
 unfolding heightAt
 returns-2 c =
-    let number = number-yes _ _ _ (c .before .before .before .read-number .ensures) (c .before .before .before .before .component-at .ensures) _ (c .before .n .given .1) in
+    let number = number-yes _ _ _ (c .before .before .before .read-number .ensures) (c .before .before .before .before .component-at .ensures .bytes) _ (c .before .n .given .1) in
     rw (number .0, number .1)
 
 pub read-height-spec : {M : Type 1} → statement M

@@ -16,7 +16,7 @@ returns-2 : tie.Need-returns-2
 unfolding revisionIn revisionAfter
 returns-2 c =
     let word = word-unless _ _ _ (c .before .before .before .is-word .ensures) true (c .before .before .if1 .left) in
-    c .revision-in .ensures ∙ rw (c .before .component-at .ensures, word, and-true)
+    c .revision-in .ensures ∙ rw (c .before .component-at .ensures .bytes, word, and-true)
 
 pub read-revision-spec : {M : Type 1} → statement M
 read-revision-spec =

@@ -14,13 +14,13 @@ returns c = rw (word-unless _ _ _ (c .before .is-word .ensures) false (c .if1 .t
 
 returns-2 : tie.Need-returns-2
 unfolding sequenceAfter
-returns-2 c = rw (number-no _ _ _ (c .before .read-number .ensures) (c .before .before .component-at .ensures) (no-value (c .before .read-number .result) (c .match .keys2)), and-false)
+returns-2 c = rw (number-no _ _ _ (c .before .read-number .ensures) (c .before .before .component-at .ensures .bytes) (no-value (c .before .read-number .result) (c .match .keys2)), and-false)
 
 returns-3 : tie.Need-returns-3
 unfolding sequenceAfter
 returns-3 c =
     let word = word-unless _ _ _ (c .before .before .before .before .before .before .is-word .ensures) true (c .before .before .before .before .before .if1 .left) in
-    let number = number-yes _ _ _ (c .before .before .before .read-number .ensures) (c .before .before .before .before .component-at .ensures) _ (c .before .n .given .1) in
+    let number = number-yes _ _ _ (c .before .before .before .read-number .ensures) (c .before .before .before .before .component-at .ensures .bytes) _ (c .before .n .given .1) in
     rw (word, number .0, number .1)
 
 pub read-sequence-spec : {M : Type 1} → statement M

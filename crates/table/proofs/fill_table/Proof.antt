@@ -34,7 +34,7 @@ cast-write-byte : tie.Need-cast-write-byte Inv-loop μ-loop
 cast-write-byte c = omega (arith, sizes Current lawful _ _ (c .before .before .before .before .before .before .before .before .before .before .before .before .before .pre .0) .most)
 
 loop-again : tie.Need-loop-again Inv-loop μ-loop
-loop-again c = (omega arith, fill-more _ _ _ _ (c .before .before .before .before .before .before .before .before .before .loop .i) _ _ (c .before .before .before .before .before .before .before .before .before .loop .inv .1) (c .before .before .before .before .before .before .key-at .ensures) (c .before .before .before .before .before .home .ensures .0) (c .before .before .before .before .free-spot .ensures) (c .before .before .write-byte .ensures .1))
+loop-again c = (omega arith, fill-more _ _ _ _ (c .before .before .before .before .before .before .before .before .before .loop .i) _ _ (c .before .before .before .before .before .before .before .before .before .loop .inv .1) (c .before .before .before .before .before .before .key-at .ensures .bytes) (c .before .before .before .before .before .home .ensures .0) (c .before .before .before .before .free-spot .ensures) (c .before .before .write-byte .ensures .1))
 
 same-length : tie.Need-same-length Inv-loop μ-loop
 same-length c = omega (arith, c .before .loop .inv .1 .size, c .before .before .before .before .before .before .before .before .pre .1)

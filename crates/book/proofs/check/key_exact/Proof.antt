@@ -6,10 +6,10 @@ use Rattle.book.proofs.check.key_exact.Statement.{statement}
 use Rattle.book.proofs.check.key_exact.Tie as tie
 
 returns : tie.Need-returns
-returns c = tells-refused _ _ _ _ (c .enum-told .given .1) (c .before .before .walk-path .ensures) (c .before .before .before .key-at .ensures)
+returns c = tells-refused _ _ _ _ (c .enum-told .given .1) (c .before .before .walk-path .ensures) (c .before .before .before .key-at .ensures .bytes)
 
 returns-2 : tie.Need-returns-2
-returns-2 c = tells-exact _ _ _ _ _ (c .before .exact .given .1) (c .before .before .before .walk-path .ensures) (c .before .before .before .before .key-at .ensures)
+returns-2 c = tells-exact _ _ _ _ _ (c .before .exact .given .1) (c .before .before .before .walk-path .ensures) (c .before .before .before .before .key-at .ensures .bytes)
 
 pub key-exact-spec : {M : Type 1} → statement M
 key-exact-spec =

@@ -1,6 +1,7 @@
 -- `letters::trim::wide_trim` meets its contract.
 -- Assumes nothing.
 use native.Mathlib.Omega.{arith}
+use mathlib.Core.Path.{refl}
 use borrow.Author.Needs.{needs}
 use Rattle.text.specs.PartLaws.{part-rest}
 use Rattle.letters.specs.TextLaws.{leading-narrow, end-within, trimmed-part}
@@ -28,7 +29,8 @@ part-result-end c = omega (arith, end-within _ _ (c .text-end .ensures))
 returns : tie.Need-returns
 returns c =
     let s = c .before .before .before .before .before .args .s .now in
-    trimmed-part s _ _ _ (c .before .before .before .white-end .ensures) (part-rest (c .before .before .before .white-end .result) s) (c .before .text-end .ensures)
+    let start = c .before .before .before .white-end .ensures in
+    record { bytes = trimmed-part s _ _ _ start (part-rest (c .before .before .before .white-end .result) s) (c .before .text-end .ensures); block = refl; offset = omega (arith, start) }
 
 pub wide-trim-spec : {M : Type 1} → statement M
 wide-trim-spec = tie.close (tie.spec (λ c κs. search needs) sub-body part-body-start part-body-end (λ c κs. search needs) sub-result part-result-start part-result-end returns)

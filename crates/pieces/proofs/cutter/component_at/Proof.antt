@@ -1,6 +1,8 @@
 -- `cutter::component_at` meets its contract.
 -- Assumes nothing.
 use native.Mathlib.Omega.{arith}
+use mathlib.Core.Path.{refl, ap}
+use Rattle.path.specs.declared.Place.{Place}
 use borrow.Author.Needs.{needs}
 use Rattle.pieces.specs.CutLaws.{place-ends, place-shows}
 use Rattle.pieces.proofs.cutter.component_at.Statement.{statement}
@@ -13,7 +15,9 @@ part-result-end : tie.Need-part-result-end
 part-result-end c = omega (arith, place-ends _ _ _ (c .before .place-at .ensures))
 
 returns : tie.Need-returns
-returns c = place-shows _ _ _ (c .before .before .place-at .ensures)
+returns c =
+    let place = c .before .before .place-at .ensures in
+    record { bytes = place-shows _ _ _ place; block = refl; offset = omega (arith, ap (λ (p : Place). p .start) place) }
 
 pub component-at-spec : {M : Type 1} → statement M
 component-at-spec =

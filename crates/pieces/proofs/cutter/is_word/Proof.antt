@@ -9,7 +9,7 @@ use Rattle.pieces.proofs.cutter.is_word.Statement.{statement}
 use Rattle.pieces.proofs.cutter.is_word.Tie as tie
 
 returns : tie.Need-returns
-returns c = c .equal .ensures ∙ ap (λ (l : List ℕ). same l (c .before .before .before .before .args .w .now)) (c .before .component-at .ensures)
+returns c = c .equal .ensures ∙ ap (λ (l : List ℕ). same l (c .before .before .before .before .args .w .now)) (c .before .component-at .ensures .bytes)
 
 pub is-word-spec : {M : Type 1} → statement M
 is-word-spec = tie.close (tie.spec (λ c κs. search needs) (λ c κs. search needs) returns)

@@ -25,14 +25,14 @@ text-at-requires : tie.Need-text-at-requires
 text-at-requires c κs = omega (arith, room _ _ _ _ (c .before .before .before .before .before .before .before .before .before .pre .0 .0) (told-taken _ _ _ (c .before .before .before .before .before .before .before .before .before .pre .0 .0) _ _ (c .before .before .before .before .probe .ensures) (c .before .before .p .given .1)))
 
 write-text-requires : tie.Need-write-text-requires
-write-text-requires c κs = omega (arith, ap length (c .text-at .ensures), room _ _ _ _ (c .before .before .before .before .before .before .before .before .before .before .pre .0 .0) (told-taken _ _ _ (c .before .before .before .before .before .before .before .before .before .before .pre .0 .0) _ _ (c .before .before .before .before .before .probe .ensures) (c .before .before .before .p .given .1)), c .before .before .before .before .before .before .before .before .before .before .pre .1)
+write-text-requires c κs = omega (arith, ap length (c .text-at .ensures .bytes), room _ _ _ _ (c .before .before .before .before .before .before .before .before .before .before .pre .0 .0) (told-taken _ _ _ (c .before .before .before .before .before .before .before .before .before .before .pre .0 .0) _ _ (c .before .before .before .before .before .probe .ensures) (c .before .before .before .p .given .1)), c .before .before .before .before .before .before .before .before .before .before .pre .1)
 
 returns-2 : tie.Need-returns-2
 returns-2 c =
     let w = c .before .before .write-text in
     let t = c .before .before .before .text-at in
     let q : w .result ≡ length (t .result .now) = omega (arith, w .ensures .0) in
-    look-taken _ _ _ _ (c .before .before .before .before .before .before .before .before .before .before .before .before .before .pre .0 .0) (told-taken _ _ _ (c .before .before .before .before .before .before .before .before .before .before .before .before .before .pre .0 .0) _ _ (c .before .before .before .before .before .before .before .before .probe .ensures) (c .before .before .before .before .before .before .p .given .1)) _ _ _ (w .result) (t .ensures) q (w .ensures .1)
+    look-taken _ _ _ _ (c .before .before .before .before .before .before .before .before .before .before .before .before .before .pre .0 .0) (told-taken _ _ _ (c .before .before .before .before .before .before .before .before .before .before .before .before .before .pre .0 .0) _ _ (c .before .before .before .before .before .before .before .before .probe .ensures) (c .before .before .before .before .before .before .p .given .1)) _ _ _ (w .result) (t .ensures .bytes) q (w .ensures .1)
 
 pub look-key-spec : {M : Type 1} → statement M
 look-key-spec = tie.close (tie.spec (λ c κs. search needs) (λ c. search needs) (λ c. search needs) returns mul-text-at add-text-at add-text-at-2 text-at-requires write-text-requires (λ c. search needs) returns-2)

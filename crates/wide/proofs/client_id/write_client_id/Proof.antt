@@ -21,7 +21,7 @@ returns-2 : tie.Need-returns-2
 returns-2 c =
     let x = c .before .before .before .before .before .before .before .args in
     let u = sym (c .before .before .before .before .is-utf8 .ensures) ∙ not-false _ (c .before .before .before .if1 .left) in
-    let t = c .before .before .wide-trim .ensures ∙ trim-wide (x .client-type .now) in
+    let t = c .before .before .wide-trim .ensures .bytes ∙ trim-wide (x .client-type .now) in
     let v = c .before .validate-client-type .ensures ∙ ap (checkIn wide clientType) t in
     gives-refusal (newClientIn wide (x .client-type .now) (x .counter)) (x .out .now) _ (new-refused (x .client-type .now) (x .counter) u (λ z. c .if2 .taken (v ∙ z)) ∙ ap refused (sym v))
 
@@ -29,7 +29,7 @@ returns-3 : tie.Need-returns-3
 returns-3 c =
     let x = c .before .before .before .before .before .before .before .before .before .before .before .args in
     let u = sym (c .before .before .before .before .before .before .before .before .is-utf8 .ensures) ∙ not-false _ (c .before .before .before .before .before .before .before .if1 .left) in
-    let t = c .before .before .before .before .before .before .wide-trim .ensures ∙ trim-wide (x .client-type .now) in
+    let t = c .before .before .before .before .before .before .wide-trim .ensures .bytes ∙ trim-wide (x .client-type .now) in
     let v = c .before .before .before .before .before .validate-client-type .ensures ∙ ap (checkIn wide clientType) t in
     let e = new-text (x .client-type .now) (x .counter) u (sym v ∙ c .before .before .before .before .if2 .left) in
     let w = c .before .before .write-named .ensures in

@@ -1,11 +1,11 @@
--- `iteration::block::is_below` meets its contract.
+-- `path::is_below` meets its contract.
 -- Assumes nothing.
 use mathlib.Core.Path.{sym}
 use mathlib.Core.Logic.{inl}
 use native.Mathlib.Omega.{arith}
-use Rattle.iteration.specs.BlockLaws.{is-below, not-below, below-height}
-use Rattle.iteration.proofs.block.is_below.Statement.{statement}
-use Rattle.iteration.proofs.block.is_below.Tie as tie
+use Rattle.path.specs.RevisionLaws.{is-below, not-below, below-height}
+use Rattle.path.proofs.is_below.Statement.{statement}
+use Rattle.path.proofs.is_below.Tie as tie
 
 returns : tie.Need-returns
 returns c = let x = c .before .before .before .args in sym (is-below (x .p) (x .q) (inl (c .if1 .taken)))
