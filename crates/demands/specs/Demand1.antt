@@ -344,7 +344,7 @@ hp-wide-validate-prefix-length-holds = checks (21 ∷ 6 ∷ []) (λ κs a. tt) (
 
 pub hp-wide-validate-named-u64-index-holds : Demand1 hp-wide-validate-named-u64-index.Pre hp-wide-validate-named-u64-index.Post wideNamed (λ κs r. r .refusal) (λ κs r. []) (λ κs a. []) (λ κs s. [])
 unfolding namedIndexFaultIn
-hp-wide-validate-named-u64-index-holds = checks wideNamed (λ κs a. tt) (λ κs r. r .refusal) (λ κs a r s p. subst (Listed wideNamed) (sym (ap (λ (f : Fault). f .refusal) p)) (named-index-number (Listed wideNamed) refl refl refl refl refl refl _ _))
+hp-wide-validate-named-u64-index-holds = checks wideNamed (λ κs a. tt) (λ κs r. r .refusal) (λ κs a r s p. subst (Listed wideNamed) (sym (ap (λ (f : Fault). f .refusal) p)) (wides.named-index-number (Listed wideNamed) refl refl refl refl refl refl _ _))
 
 pub hp-wide-validate-client-type-holds : Demand1 hp-wide-validate-client-type.Pre hp-wide-validate-client-type.Post (21 ∷ 5 ∷ 6 ∷ []) (λ κs r. r) (λ κs r. []) (λ κs a. []) (λ κs s. [])
 hp-wide-validate-client-type-holds = checks (21 ∷ 5 ∷ 6 ∷ []) (λ κs a. tt) (λ κs r. r) (λ κs a r s p. subst (Listed (21 ∷ 5 ∷ 6 ∷ [])) (sym p) (wides.plain-of (Listed (21 ∷ 5 ∷ 6 ∷ [])) refl refl refl refl 7 43 _))
@@ -565,7 +565,7 @@ wide-validate-prefix-length-holds = checks (21 ∷ 6 ∷ []) (λ κs a. tt) (λ 
 
 pub wide-validate-named-u64-index-holds : Demand1 wide-validate-named-u64-index.Pre wide-validate-named-u64-index.Post wideNamed (λ κs r. r .refusal) (λ κs r. []) (λ κs a. []) (λ κs s. [])
 unfolding namedIndexFaultIn
-wide-validate-named-u64-index-holds = checks wideNamed (λ κs a. tt) (λ κs r. r .refusal) (λ κs a r s p. subst (Listed wideNamed) (sym (ap (λ (f : Fault). f .refusal) p)) (named-index-number (Listed wideNamed) refl refl refl refl refl refl _ _))
+wide-validate-named-u64-index-holds = checks wideNamed (λ κs a. tt) (λ κs r. r .refusal) (λ κs a r s p. subst (Listed wideNamed) (sym (ap (λ (f : Fault). f .refusal) p)) (wides.named-index-number (Listed wideNamed) refl refl refl refl refl refl _ _))
 
 pub wide-validate-client-type-holds : Demand1 wide-validate-client-type.Pre wide-validate-client-type.Post (21 ∷ 5 ∷ 6 ∷ []) (λ κs r. r) (λ κs r. []) (λ κs a. []) (λ κs s. [])
 wide-validate-client-type-holds = checks (21 ∷ 5 ∷ 6 ∷ []) (λ κs a. tt) (λ κs r. r) (λ κs a r s p. subst (Listed (21 ∷ 5 ∷ 6 ∷ [])) (sym p) (wides.plain-of (Listed (21 ∷ 5 ∷ 6 ∷ [])) refl refl refl refl 7 43 _))
