@@ -11,3 +11,5 @@ pub mod CheckWayLaws
 pub mod Find
 pub mod FindLaws
 pub mod RecordLaws
+pub mod Open
+pub mod OpenLaws

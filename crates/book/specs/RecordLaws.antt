@@ -31,7 +31,6 @@ use Rattle.book.specs.CheckLaws.{book-good}
 use Rattle.book.specs.Find.{Placed, Spotted}
 use Rattle.book.specs.Outcome.{Changed, Found, Wrote, Removed, Looked, Made}
 use Rattle.book.specs.Outcome as o
-use Rattle.book.specs.OutcomeLaws.{changed-none, found-none}
 use Rattle.book.specs.FindLaws.{looked-found, looked-absent, write-replaced, write-inserted, write-full, remove-done, remove-absent}
 
 pub spotted : (b k : List ℕ) (n : ℕ) (s : Spot) (q : Spot) → Spotted Current b k n s → s ≡ q → Spotted Current b k n q
@@ -123,12 +122,6 @@ module _ (m : Manner) (b t field : List ℕ) (n : ℕ) (k : Keyed m t field n) (
 
   pub key-short : length key ≤ 255
   key-short = rw (ek ∙ k .here) (k .short)
-
-pub look-no-book : (b : List ℕ) (a : BookAnswer) → Judged Current b a → a ≡ Nothing → (m : Meaning) (out : List ℕ) → Found Current b m out (buffer.refusal 9) out
-look-no-book b a h e m out = found-none (judged-none b a h e)
-
-pub no-book : (b : List ℕ) (a : BookAnswer) → Judged Current b a → a ≡ Nothing → (m : Meaning) → Changed Current b m 9 b
-no-book b a h e m = changed-none (judged-none b a h e)
 
 -- ---- a new book
 module _ (b : List ℕ) (C : ℕ) (s : Slotted Current b C) where

@@ -6,7 +6,8 @@ pub mod record;
 use check::BookAnswer;
 use check::check_book;
 use check::slots_of;
-use field::key_into;
+use field::Key;
+use field::key_of;
 use form::Version;
 use form::clear;
 use form::put_header;
@@ -21,20 +22,42 @@ use text::refusal::NO_ROOM;
 ghost use mathlib.Core.Path.{_≡_};
 ghost use Rattle.book.specs.Book.{Current};
 ghost use Rattle.book.specs.Outcome.{Wrote, Removed, Looked, Made};
+ghost use Rattle.book.specs.Open.{Opens};
+
+// What a call starts from: a refusal, or the number of the book's records and the key of the text.
+pub struct Opened {
+    pub refusal: u8,
+    pub count: usize,
+    pub key: Key,
+}
+
+// Checks the book, then the text, as every call does: 9, 1, 2, 3 (17, 18, 19), in a plain call 20, 10.
+pub(crate) fn open_call(manner: Manner, book: &[u8], text: &[u8]) -> Opened
+    ensures { λ r. ⌜ Opens manner (now (book .entry)) (now (text .entry)) r ⌝ }
+{
+    let BookAnswer::Count(count) = check_book(book, Version::Two) else {
+        let bytes = [0u8; 255];
+        return Opened {
+            refusal: BAD_BOOK,
+            count: 0,
+            key: Key { bytes, len: 0 },
+        };
+    };
+    let made = key_of(manner, text);
+    let key = made.key;
+    Opened {
+        refusal: made.refusal,
+        count,
+        key,
+    }
+}
 
 // Copies what the path of a text holds, and answers its length: 9, 1, 2, 3 (17, 18, 19), in a plain call 20, 10, 4, 12.
 pub fn lookup(manner: Manner, book: &[u8], text: &[u8], out: &mut [u8]) -> Written
     ensures { λ r. ⌜ Looked Current manner (now (book .entry)) (now (text .entry)) (now (out .entry)) r (now (out .exit)) ⌝ }
 {
-    let BookAnswer::Count(n) = check_book(book, Version::Two) else {
-        return Written {
-            refusal: BAD_BOOK,
-            length: 0,
-        };
-    };
-    let mut field = [0u8; 255];
-    let w = key_into(manner, text, &mut field);
-    let refusal = w.refusal;
+    let opened = open_call(manner, book, text);
+    let refusal = opened.refusal;
     if refusal != 0 {
         return Written { refusal, length: 0 };
     }
@@ -44,20 +67,18 @@ pub fn lookup(manner: Manner, book: &[u8], text: &[u8], out: &mut [u8]) -> Writt
             length: 0,
         };
     }
-    let len = w.length as usize;
-    look_record(book, n, &field[0..len], out)
+    let key = opened.key;
+    let bytes = key.bytes;
+    let len = key.len;
+    look_record(book, opened.count, &bytes[0..len], out)
 }
 
 // Adds or replaces what the path of a text holds: 9, 1, 2, 3 (17, 18, 19), in a plain call 20, 10, 6, 11.
 pub fn write(manner: Manner, book: &mut [u8], text: &[u8], value: &[u8]) -> u8
     ensures { λ r. ⌜ Wrote Current manner (now (book .entry)) (now (text .entry)) (now (value .entry)) r (now (book .exit)) ⌝ }
 {
-    let BookAnswer::Count(n) = check_book(book, Version::Two) else {
-        return BAD_BOOK;
-    };
-    let mut field = [0u8; 255];
-    let w = key_into(manner, text, &mut field);
-    let refusal = w.refusal;
+    let opened = open_call(manner, book, text);
+    let refusal = opened.refusal;
     if refusal != 0 {
         return refusal;
     }
@@ -67,25 +88,25 @@ pub fn write(manner: Manner, book: &mut [u8], text: &[u8], value: &[u8]) -> u8
     if 64 < value.len() {
         return BAD_LENGTH;
     }
-    let len = w.length as usize;
-    put_record(book, n, &field[0..len], value)
+    let key = opened.key;
+    let bytes = key.bytes;
+    let len = key.len;
+    put_record(book, opened.count, &bytes[0..len], value)
 }
 
 // Removes what the path of a text holds: 9, 1, 2, 3 (17, 18, 19), in a plain call 20, 10, 12.
 pub fn remove(manner: Manner, book: &mut [u8], text: &[u8]) -> u8
     ensures { λ r. ⌜ Removed Current manner (now (book .entry)) (now (text .entry)) r (now (book .exit)) ⌝ }
 {
-    let BookAnswer::Count(n) = check_book(book, Version::Two) else {
-        return BAD_BOOK;
-    };
-    let mut field = [0u8; 255];
-    let w = key_into(manner, text, &mut field);
-    let refusal = w.refusal;
+    let opened = open_call(manner, book, text);
+    let refusal = opened.refusal;
     if refusal != 0 {
         return refusal;
     }
-    let len = w.length as usize;
-    take_record(book, n, &field[0..len])
+    let key = opened.key;
+    let bytes = key.bytes;
+    let len = key.len;
+    take_record(book, opened.count, &bytes[0..len])
 }
 
 // Makes a book of a buffer, with no records: 9 where the length is no book's.

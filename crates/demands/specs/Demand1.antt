@@ -5,7 +5,7 @@
 -- stands beside 17, 18 and 19 is told in `Faults`.
 -- Assumes nothing.
 use Prim.Native.Nat.{ℕ}
-use mathlib.Core.Path.{_≡_, refl, ap, subst, sym}
+use mathlib.Core.Path.{_≡_, refl, ap, subst, sym, _∙_}
 use mathlib.Core.List.{List, [], _∷_, _++_}
 use native.Mathlib.Omega.{arith}
 use denote.Ref.{now}
@@ -33,14 +33,16 @@ use Rattle.wide.specs.Check.{namedIndexFaultIn, faultIn, newClientIn}
 use Rattle.wide.specs.Read.{readFaultIn, readingBytesIn, keyIn as wideKeyIn}
 use Rattle.wide.specs.Render.{renderIn, textIn}
 use Rattle.keys.specs.declared.Manner.the-variants.{Plain, Lenient}
-use Rattle.keys.specs.Calls.{write, remove}
+use Rattle.keys.specs.Calls.{write, remove, keyFor}
+use Rattle.field.specs.declared.MadeKey.{MadeKey}
+use Rattle.field.specs.Field.{madeKey}
 use Rattle.iteration.specs.Block.{blockOf, firstAbove, lastBelow, scanned}
 use Rattle.iteration.specs.Key.{iterationKey, keyIn, answered, pairOf}
 use Rattle.packet.specs.Key.{packetWanted, packetOf}
-use Rattle.demands.specs.Numbers.{readings, renderings, clients, ends, wideReadings, wideRenderings, wideClients, wideEnds, packetReads, packetWrites, writeNumbers, removeNumbers, lookNumbers, named, indexes, wideNamed, wideIndexes, names, wideNames, unread, room}
-use Rattle.demands.specs.Shape.{Listed, Demand1}
+use Rattle.demands.specs.Numbers.{readings, renderings, clients, ends, wideReadings, wideRenderings, wideClients, wideEnds, packetReads, packetWrites, writeNumbers, removeNumbers, lookNumbers, named, indexes, wideNamed, wideIndexes, names, wideNames, unread, room, keyNumbers}
+use Rattle.demands.specs.Shape.{Listed, AllZero, Demand1}
 use Rattle.demands.specs.ShapeLaws.{writes, writes-number, checks, key-wants, reading-wants, render-wants, client-wants, channel-wants, leaf-wants, update-wants, parent-wants, packets-wants, plain-of, indexed-of, name-of, named-number, chars-number, length-number, prefix-number, named-index-number, bytes-wants, answer-listed}
-use Rattle.demands.specs.FunctionShapeLaws.{within-number, wide-chars-number, reading-number, shown-wants, written-listed, owned}
+use Rattle.demands.specs.FunctionShapeLaws.{within-number, wide-chars-number, reading-number, shown-wants, written-listed, owned, key-listed, key-empty}
 use Rattle.demands.specs.WideShapeLaws as wides
 use Rattle.demands.specs.IterationLaws.{pairs, key-refuses, scan-refuses}
 use Rattle.demands.specs.PacketLaws.{packet-wants, packets}
@@ -143,6 +145,7 @@ use Rattle.wide.proofs.rendering.acks_path.Reads as wide-acks-path
 use Rattle.wide.proofs.rendering.receipts_path.Reads as wide-receipts-path
 use Rattle.text.proofs.put.give.Reads as give
 use Rattle.text.proofs.refusal.give_sentence.Reads as give-sentence
+use Rattle.field.proofs.key_of.Reads as key-of
 use Rattle.identifiers.proofs.validate.validate_identifier_chars.Reads as validate-identifier-chars
 use Rattle.identifiers.proofs.validate.length_within.Reads as length-within
 use Rattle.identifiers.proofs.validate.check_named.Reads as check-named
@@ -588,6 +591,16 @@ pub wide-name-fault-holds : Demand1 wide-name-fault.Pre wide-name-fault.Post wid
 wide-name-fault-holds = checks wideNames (λ κs a. tt) (λ κs r. r) (λ κs a r s p. subst (Listed wideNames) (sym p) (wides.name-of (Listed wideNames) refl refl refl refl refl refl refl refl refl _ _))
 
 -- ---- owned identifiers: a refusal has length 0 and an array of zeros beside it
+pub key-of-holds : Demand1 key-of.Pre key-of.Post keyNumbers (λ κs r. r .refusal) (λ κs r. r .key .len ∷ r .key .bytes) (λ κs a. []) (λ κs s. [])
+unfolding madeKey
+key-of-holds =
+    record {
+      accepts = λ κs a. tt;
+      numbered = λ κs a r s p. subst (λ (x : MadeKey). Listed keyNumbers (x .refusal)) (sym p) (key-listed (a .0) (now (a .1 .0)));
+      nothing-else = λ κs a r s p h. subst (λ (x : MadeKey). AllZero (x .key .len ∷ x .key .bytes)) (sym p) (key-empty (keyFor (a .0) (now (a .1 .0))) (λ z. h (ap (λ (x : MadeKey). x .refusal) p ∙ z)));
+      keeps = λ κs a r s p h. refl;
+    }
+
 pub client-id-from-str-holds : Demand1 client-id-from-str.Pre client-id-from-str.Post (2 ∷ 5 ∷ 6 ∷ []) (λ κs r. r .refusal) (λ κs r. r .id .len ∷ r .id .bytes) (λ κs a. []) (λ κs s. [])
 unfolding madeClient
 client-id-from-str-holds = owned (2 ∷ 5 ∷ 6 ∷ []) 64 (λ κs a. tt) _ _ (λ κs a. asWritten check.client (now (a .0))) (λ κs a. written-listed (2 ∷ 5 ∷ 6 ∷ []) check.client _ 64 (omega arith) refl (plain-of (Listed (2 ∷ 5 ∷ 6 ∷ [])) refl refl refl refl 9 64 _)) (λ κs a r s p. (ap (λ (m : MadeClientId). m .refusal) p, ap (λ (m : MadeClientId). m .id .len ∷ m .id .bytes) p))

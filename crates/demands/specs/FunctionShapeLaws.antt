@@ -4,10 +4,11 @@ use Prim.Native.Nat.{ℕ, zero, suc, _≤_}
 use mathlib.Core.Path.{_≡_, refl, sym, ap, subst, _∙_}
 use mathlib.Core.Bool.{Bool, true, false, cond, _&&_}
 use mathlib.Core.List.{List, [], _∷_}
+use native.Mathlib.Omega.{arith}
 use lib.Dec.{eqb, leb}
 use lib.ListN.{length, length-replicate}
 use Rattle.text.specs.Part.{every}
-use Rattle.text.specs.Put.{Wanted, answer, left, refusal, done}
+use Rattle.text.specs.Put.{Wanted, refused, text, answer, left, refusal, done}
 use Rattle.text.specs.PutLaws.{refusal-keeps}
 use Rattle.identifiers.specs.Check.{Rule, unless, identifierByte, checkOf, within}
 use Rattle.identifiers.specs.Owned.{asWritten, zeros}
@@ -19,11 +20,13 @@ use Rattle.path.specs.declared.Reading.{Reading}
 use Rattle.path.specs.declared.Reading.the-variants.{Read, Refused}
 use Rattle.path.specs.Kinds.{carried}
 use Rattle.path.specs.Text.{shownOf}
-use Rattle.path.specs.Read.{render, partsOf, numberOf}
+use Rattle.path.specs.Read.{render, renderPath, partsOf, numberOf, readPath, keyBy, keyOf}
 use Rattle.path.specs.View.{kindOf, carriedOf}
 use Rattle.render.specs.Render.{short}
 use Rattle.key.specs.Key.{shownBy}
-use Rattle.demands.specs.Numbers.{readings}
+use Rattle.keys.specs.declared.Manner.{Manner}
+use Rattle.keys.specs.Calls.{isLoose, keyFor, keyAnswer}
+use Rattle.demands.specs.Numbers.{readings, keyNumbers}
 use Rattle.demands.specs.Shape.{Listed, AllZero, Demand1}
 use Rattle.demands.specs.ShapeLaws.{Wants, one-of, both-of, accepted-wants, reading-refusal, answer-zero}
 use Rattle.demands.specs.BookNumberLaws.{unread-of}
@@ -81,3 +84,33 @@ module _ {L : Type 0} {A R S : L → Type 0} {Pre : (κs : L) → A κs → Type
       empty w h =
           let e : length (zeros room) ≡ room = length-replicate room 0 in
           (answer-zero w room h, subst AllZero (sym (refusal-keeps w (zeros room) (λ q. h (ap (λ (n : ℕ). answer w n .refusal) (sym e) ∙ q)))) (all-zero room))
+
+-- ---- the owned key of a call
+pub key-listed : (m : Manner) (t : List ℕ) → Listed keyNumbers (keyAnswer (keyFor m t) .refusal)
+unfolding keyFor keyOf keyAnswer
+key-listed m t = go (isLoose m (readPath t)) (readPath t)
+  where
+    fits : (v : Bool) (n : ℕ) → Listed keyNumbers ((cond v (done n) (refusal 10)) .refusal)
+    fits true n = refl
+    fits false n = refl
+
+    go : (b : Bool) (r : Reading) → Listed keyNumbers (keyAnswer (cond b (refused 20) (keyBy t r)) .refusal)
+    go true r = refl
+    go false (Read p e) = fits (leb (length (renderPath t p)) 255) (length (renderPath t p))
+    go false (Refused w) = unread-of (Listed keyNumbers) refl refl refl refl refl refl w
+
+pub key-empty : (w : Wanted) → (keyAnswer w .refusal ≡ 0 → ⊥) → AllZero (keyAnswer w .length ∷ left w (zeros 255))
+unfolding keyAnswer answer left
+key-empty (refused n) h = (refl, all-zero 255)
+key-empty (text k) h = go (leb (length k) 255) refl h
+  where
+    short : leb (length k) 255 ≡ false → answer (text k) (length (zeros 255)) .refusal ≡ 0 → ⊥
+    short e q =
+        let l : length (zeros 255) ≡ 255 = length-replicate {A = ℕ} 255 0 in
+        let f : answer (text k) 255 .refusal ≡ 4 = rw e in
+        let g : answer (text k) (length (zeros 255)) .refusal ≡ 4 = ap (λ (n : ℕ). answer (text k) n .refusal) l ∙ f in
+        omega (arith, g, q)
+
+    go : (v : Bool) → leb (length k) 255 ≡ v → ((cond v (done (length k)) (refusal 10)) .refusal ≡ 0 → ⊥) → AllZero ((cond v (done (length k)) (refusal 10)) .length ∷ left (text k) (zeros 255))
+    go true e h = absurd (h refl)
+    go false e h = (refl, subst AllZero (sym (refusal-keeps (text k) (zeros 255) (short e))) (all-zero 255))

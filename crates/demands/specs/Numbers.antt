@@ -75,3 +75,7 @@ unread = 1 ∷ 2 ∷ 3 ∷ 17 ∷ 18 ∷ 19 ∷ []
 -- a text that is always there: only the room can lack
 abbrev pub room : List ℕ
 room = 4 ∷ []
+
+-- the key of a call's text, of either manner
+abbrev pub keyNumbers : List ℕ
+keyNumbers = 1 ∷ 2 ∷ 3 ∷ 17 ∷ 18 ∷ 19 ∷ 20 ∷ 10 ∷ []

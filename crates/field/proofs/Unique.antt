@@ -1,9 +1,8 @@
--- The contract, as the source has it, leaves one outcome: the result, and the content of the field.
+-- The contract, as the source has it, leaves one outcome.
 -- Assumes nothing.
-use denote.Ref.{now}
-use Rattle.text.specs.Outcome.{OneWith}
-use Rattle.text.specs.OutcomeLaws.{agree}
-use Rattle.field.proofs.key_into.Reads as key-into
+use mathlib.Core.Path.{sym, _∙_}
+use Rattle.text.specs.Outcome.{One}
+use Rattle.field.proofs.key_of.Reads as key-of
 
-pub one-key-into : OneWith key-into.Post (λ κs s. now (s .1 .1 .0))
-one-key-into κs a r₁ r₂ s₁ s₂ p q = agree p q
+pub one-key-of : One key-of.Post
+one-key-of κs a r₁ r₂ s₁ s₂ p q = p ∙ sym q

@@ -1,2 +1,4 @@
--- What the proofs of `field` use. Files that end in `Laws` hold consequences, which a reader may skip.
+-- What the contract of `field` cites. Files that end in `Laws` hold consequences, which a reader may skip.
+pub mod Field
 pub mod FieldLaws
+pub mod MadeLaws

@@ -1,4 +1,4 @@
-// The key of a text.
+// The key of a call: the rendering of its text, owned, in the field of 255 bytes that a book keeps.
 use key::write_read;
 use keys::Manner;
 use path::Reading;
@@ -11,6 +11,19 @@ ghost use mathlib.Core.Path.{_≡_};
 ghost use lib.ListN.{length};
 ghost use Rattle.text.specs.Put.{left};
 ghost use Rattle.keys.specs.Calls.{isLoose, keyFor, keyAnswer};
+ghost use Rattle.field.specs.Field.{madeKey};
+
+// A key: its bytes, zero after the last, and their number.
+pub struct Key {
+    pub bytes: [u8; 255],
+    pub len: usize,
+}
+
+// The key of a text, or a refusal number beside an empty one.
+pub struct MadeKey {
+    pub refusal: u8,
+    pub key: Key,
+}
 
 // Whether a call of that manner refuses what was read for its spelling.
 fn is_loose(manner: Manner, reading: Reading) -> bool
@@ -26,7 +39,7 @@ fn is_loose(manner: Manner, reading: Reading) -> bool
 }
 
 // Writes the key of a text into a field of 255 bytes: 1, 2, 3, in a plain call 20, 10. A refusal leaves the field as it was.
-pub fn key_into(manner: Manner, text: &[u8], field: &mut [u8]) -> Written
+fn key_into(manner: Manner, text: &[u8], field: &mut [u8]) -> Written
     requires { ⌜ length (now field) ≡ 255 ⌝ }
     ensures { λ r. ⌜ r ≡ keyAnswer (keyFor manner (now (text .entry))) ⌝ }
     ensures { λ _. ⌜ now (field .exit) ≡ left (keyFor manner (now (text .entry))) (now (field .entry)) ⌝ }
@@ -46,4 +59,19 @@ pub fn key_into(manner: Manner, text: &[u8], field: &mut [u8]) -> Written
         };
     }
     w
+}
+
+// The key of a text in a call of that manner: 1, 2, 3 (17, 18, 19), in a plain call 20, 10.
+pub fn key_of(manner: Manner, text: &[u8]) -> MadeKey
+    ensures { λ r. ⌜ r ≡ madeKey (keyFor manner (now (text .entry))) ⌝ }
+{
+    let mut bytes = [0u8; 255];
+    let made = key_into(manner, text, &mut bytes);
+    MadeKey {
+        refusal: made.refusal,
+        key: Key {
+            bytes,
+            len: made.length as usize,
+        },
+    }
 }

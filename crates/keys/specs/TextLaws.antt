@@ -19,7 +19,6 @@ use Rattle.path.specs.declared.Reading.the-variants.{Read, Refused}
 use Rattle.path.specs.Read.{keyOf, readPath, refusalOf}
 use Rattle.keys.specs.declared.Manner.{Manner}
 use Rattle.keys.specs.Act.{Meaning, refuses, writes, removes, looks}
-use Rattle.text.specs.declared.Written.{Written}
 use Rattle.keys.specs.Refusals.{HasKey, bad-length, no-room}
 use Rattle.keys.specs.CallLaws.{declined-means, writing-means, removing-means, looking-means}
 use Rattle.keys.specs.Calls.{Asked, to-write, to-remove, to-look, write, remove, look, under, meaning, Spelled, keyFor, ValueFits, keyed, keyAnswer}
@@ -143,12 +142,3 @@ module _ (m : Manner) (t field : List ℕ) (n : ℕ) (k : Keyed m t field n) whe
 
   pub remove-means : meaning (remove m t) ≡ removes (k .key)
   remove-means = removing-means (remove m t) (k .key) (record { asked = refl; key = has to-remove })
-
--- the same, from what the writer of the field answers
-module _ (m : Manner) (t : List ℕ) (w : Written) (e : w ≡ keyAnswer (keyFor m t)) where
-  pub refused-by : (q : Asked) → (w .refusal ≡ 0 → ⊥) → meaning (record { manner = m; text = t; asked = q }) ≡ refuses (w .refusal)
-  unfolding meaning
-  refused-by q h = rw e (keyed-by (keyFor m t) (under q) (λ z. h (ap (λ (v : Written). v .refusal) e ∙ z)))
-
-  pub key-of : (field blank : List ℕ) → length blank ≡ 255 → w .refusal ≡ 0 → field ≡ put.left (keyFor m t) blank → Keyed m t field (w .length)
-  key-of field blank lb h f = key-here m t field blank (w .length) lb (sym (ap (λ (v : Written). v .refusal) e) ∙ h) (ap (λ (v : Written). v .length) e) f

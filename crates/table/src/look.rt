@@ -1,7 +1,7 @@
 // Lookups in a book by the table that filling gives. Each answers what the plain lookup answers.
 use crate::Slot;
 use crate::probe;
-use field::key_into;
+use field::key_of;
 use form::HEAD;
 use form::KEY;
 use form::SLOT;
@@ -45,12 +45,13 @@ pub(crate) fn look_text(book: &[u8], n: usize, table: &[u8], text: &[u8], out: &
     requires { ⌜ 64 ≤ length (now out) ⌝ }
     ensures { λ r. ⌜ Looked Current Plain (now (book .entry)) (now (text .entry)) (now (out .entry)) r (now (out .exit)) ⌝ }
 {
-    let mut field = [0u8; 255];
-    let w = key_into(Manner::Plain, text, &mut field);
-    let refusal = w.refusal;
+    let made = key_of(Manner::Plain, text);
+    let refusal = made.refusal;
     if refusal != 0 {
         return Written { refusal, length: 0 };
     }
-    let len = w.length as usize;
-    look_key(book, n, table, &field[0..len], out)
+    let key = made.key;
+    let bytes = key.bytes;
+    let len = key.len;
+    look_key(book, n, table, &bytes[0..len], out)
 }

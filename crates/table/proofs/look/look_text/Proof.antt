@@ -1,7 +1,8 @@
 -- `table::look::look_text` meets its contract.
 -- Assumes nothing.
 use mathlib.Core.Path.{refl}
-use Rattle.keys.specs.TextLaws.{refused-by, key-of}
+use Rattle.keys.specs.Calls.{to-look}
+use Rattle.field.specs.MadeLaws.{made-refuses, made-keyed}
 use Rattle.book.specs.Book.{Current}
 use Rattle.book.specs.FindLaws.{looked-refused}
 use Rattle.book.specs.RecordLaws.{look-text}
@@ -10,19 +11,18 @@ use Rattle.table.proofs.look.look_text.Statement.{statement}
 use Rattle.table.proofs.look.look_text.Tie as tie
 
 returns : tie.Need-returns
-returns c = looked-refused Current _ _ (c .before .before .before .before .before .before .before .before .pre .0 .0) _ _ (refused-by _ _ _ (c .before .before .key-into .ensures .0) _ (c .if1 .taken)) _
+returns c = looked-refused Current _ _ (c .before .before .before .before .before .before .pre .0 .0) _ _ (made-refuses _ _ _ (c .before .key-of .ensures) (c .if1 .taken) (to-look _)) _
 
 part-look-key-end : tie.Need-part-look-key-end
-part-look-key-end c = (key-of _ _ _ (c .before .before .before .key-into .ensures .0) _ _ refl (c .before .if1 .left) (c .before .before .before .key-into .ensures .1)) .room
+part-look-key-end c = (made-keyed _ _ _ (c .before .before .before .before .key-of .ensures) (c .before .before .before .if1 .left)) .room
 
 returns-2 : tie.Need-returns-2
-returns-2 c = look-text _ _ _ _ _ (key-of _ _ _ (c .before .before .before .before .before .before .before .before .key-into .ensures .0) _ _ refl (c .before .before .before .before .before .before .if1 .left) (c .before .before .before .before .before .before .before .before .key-into .ensures .1)) _ refl _ _ _ (c .before .before .before .before .before .before .before .before .before .before .before .before .before .before .pre .1) (c .before .before .look-key .ensures)
+returns-2 c = look-text _ _ _ _ _ (made-keyed _ _ _ (c .before .before .before .before .before .before .before .before .before .key-of .ensures) (c .before .before .before .before .before .before .before .before .if1 .left)) _ refl _ _ _ (c .before .before .before .before .before .before .before .before .before .before .before .before .before .before .pre .1) (c .before .before .look-key .ensures)
 
 pub look-text-spec : {M : Type 1} → statement M
 look-text-spec =
     tie.close
     (tie.spec
-    (λ c. search needs)
     (λ c κs. search needs)
     returns
     (λ c. search needs)

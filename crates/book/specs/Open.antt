@@ -1,0 +1,21 @@
+-- What every call on a book starts from.
+-- Assumes nothing.
+use Prim.Native.Nat.{ℕ}
+use mathlib.Core.Path.{_≡_}
+use mathlib.Core.List.{List}
+use Rattle.text.specs.Refusal.{badBook}
+use Rattle.keys.specs.declared.Manner.{Manner}
+use Rattle.keys.specs.Calls.{keyFor}
+use Rattle.field.specs.declared.MadeKey.{MadeKey}
+use Rattle.field.specs.Field.{madeKey}
+use Rattle.book.specs.declared.Opened.{Opened}
+use Rattle.book.specs.Book.{Current, Book, Counts}
+
+-- the key, or its refusal
+abbrev pub keyIn : Opened → MadeKey
+keyIn o = record { refusal = o .refusal; key = o .key }
+
+-- the bytes b are no book; or they are one with so many records, and the key is that of the text t
+pub data Opens (m : Manner) (b t : List ℕ) (o : Opened) : Type 0 where
+  no-book : (Book Current b → ⊥) → o .refusal ≡ badBook → Opens m b t o
+  this-book : Counts Current b (o .count) → keyIn o ≡ madeKey (keyFor m t) → Opens m b t o
