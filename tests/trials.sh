@@ -47,7 +47,7 @@ comm -3 "$work/titles" "$work/printed" >"$work/parted"
 while read -r title; do fail "on record, or printed by bin/contracts, and not both: $title"; done <"$work/parted"
 passed=$((passed + $(comm -12 "$work/titles" "$work/printed" | grep -c '')))
 
-sed -n '/^## Edits that must fail/,$s,^| \([a-z]*\) | `\([a-z0-9_]*\)` |.*,crates/\1/must-fail/\2.edit,p' docs/CONTRACTS.md | sort >"$work/listed"
+sed -n '/^## Edits that must fail/,$s,^| \([a-z_]*\) | `\([a-z0-9_]*\)` |.*,crates/\1/must-fail/\2.edit,p' docs/CONTRACTS.md | sort >"$work/listed"
 ls crates/*/must-fail/*.edit | sort >"$work/there"
 while read -r edit; do
     if grep -qxF "$edit" "$work/listed"; then passed=$((passed + 1)); else fail "not in the table of edits that must fail: $edit"; fi

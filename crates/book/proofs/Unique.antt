@@ -2,8 +2,8 @@
 -- Assumes nothing.
 use denote.Ref.{now}
 use Rattle.text.specs.Outcome.{One, OneWith}
-use Rattle.form.specs.Version.{formOf}
-use Rattle.form.specs.VersionLaws.{version-lawful}
+use Rattle.book_form.specs.Version.{formOf}
+use Rattle.book_form.specs.VersionLaws.{version-lawful}
 use Rattle.book.specs.Book.{Current}
 use Rattle.book.specs.BookLaws.{lawful, one-judged}
 use Rattle.book.specs.OutcomeLaws.{one-changed, one-found, one-made}

@@ -6,11 +6,11 @@ use mathlib.Core.Bool.{Bool}
 use mathlib.Core.List.{List, [], _∷_}
 use Prim.Native.Nat.{ℕ, _≤_}
 use lib.ListN.{length}
-use Rattle.keys.specs.Records.{Key, Sorted}
-use Rattle.keys.specs.Act.{Rec, Meaning, Answer, fullAt, actIn}
-use Rattle.keys.specs.Calls.{Exact}
-use Rattle.form.specs.Form.{Form, AllFit, layout, place}
-use Rattle.form.specs.Version.{V2}
+use Rattle.book_records.specs.Records.{Key, Sorted}
+use Rattle.book_records.specs.Act.{Rec, Meaning, Answer, fullAt, actIn}
+use Rattle.book_records.specs.Calls.{Exact}
+use Rattle.book_form.specs.Form.{Form, AllFit, layout, place}
+use Rattle.book_form.specs.Version.{V2}
 use Rattle.book.specs.declared.check.BookAnswer.{BookAnswer}
 use Rattle.book.specs.declared.check.BookAnswer.the-variants.{Count, Nothing}
 

@@ -8,13 +8,13 @@ use native.Mathlib.Omega.{arith}
 use lib.ListN.{length, take, drop, getElem?, take-append-drop}
 use lib.Seq.{drop-at, length-take-le}
 use Rattle.text.specs.PlaceLaws.{at-lt, drop-place}
-use Rattle.keys.specs.Act.{Rec}
-use Rattle.form.specs.Form.{Form, AllFit, slots, layout, zeros, place, keyAt}
-use Rattle.form.specs.FormLaws.{Lawful, layout-parted, length-before, length-layout, layout-inj, fit-take, place-up, place-back}
+use Rattle.book_records.specs.Act.{Rec}
+use Rattle.book_form.specs.Form.{Form, AllFit, slots, layout, zeros, place, keyAt}
+use Rattle.book_form.specs.FormLaws.{Lawful, layout-parted, length-before, length-layout, layout-inj, fit-take, place-up, place-back}
 use Rattle.book.specs.declared.check.BookAnswer.{BookAnswer}
 use Rattle.book.specs.declared.check.BookAnswer.the-variants.{Count, Nothing}
-use Rattle.form.specs.declared.Version.the-variants.{Two}
-use Rattle.form.specs.VersionLaws.{version-lawful}
+use Rattle.book_form.specs.declared.Version.the-variants.{Two}
+use Rattle.book_form.specs.VersionLaws.{version-lawful}
 use Rattle.book.specs.Book.{Current, Book, Counts, Judged}
 
 -- the form that the calls take is lawful

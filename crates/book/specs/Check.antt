@@ -5,8 +5,8 @@ use mathlib.Core.List.{List}
 use Prim.Native.Nat.{ℕ, _+_, _<_, _≤_}
 use lib.ListN.{take, drop}
 use Rattle.text.specs.Order.{Before}
-use Rattle.keys.specs.Calls.{Exact}
-use Rattle.form.specs.Form.{Form, place, keyAt, SlotOk}
+use Rattle.book_records.specs.Calls.{Exact}
+use Rattle.book_form.specs.Form.{Form, place, keyAt, SlotOk}
 use Rattle.book.specs.declared.check.BookAnswer.{BookAnswer}
 use Rattle.book.specs.declared.check.BookAnswer.the-variants.{Count, Nothing}
 use Rattle.book.specs.Book.{Sized, Book}

@@ -14,13 +14,13 @@ use lib.Seq.{take-at, drop-at, drop-drop}
 use Rattle.text.specs.Order.{Before}
 use Rattle.text.specs.Part.{every}
 use Rattle.text.specs.PlaceLaws.{at-some, at-lt}
-use Rattle.keys.specs.Records.{Sorted}
-use Rattle.keys.specs.RecordLaws.{after-trans}
-use Rattle.keys.specs.Act.{Rec}
-use Rattle.keys.specs.Calls.{Exact}
-use Rattle.form.specs.Form.{Form, AllFit, slots, layout, zeros, place, keyAt, SlotOk}
-use Rattle.form.specs.FormLaws.{Lawful, length-before, place-up, blank-zeros, zeros-blank}
-use Rattle.form.specs.Tells.{Tells}
+use Rattle.book_records.specs.Records.{Sorted}
+use Rattle.book_records.specs.RecordLaws.{after-trans}
+use Rattle.book_records.specs.Act.{Rec}
+use Rattle.book_records.specs.Calls.{Exact}
+use Rattle.book_form.specs.Form.{Form, AllFit, slots, layout, zeros, place, keyAt, SlotOk}
+use Rattle.book_form.specs.FormLaws.{Lawful, length-before, place-up, blank-zeros, zeros-blank}
+use Rattle.book_form.specs.Tells.{Tells}
 use Rattle.book.specs.Book.{Book, AllExact, Counts}
 use Rattle.book.specs.BookLaws.{fit-at, size-is, slot-there, record-is, key-is}
 use Rattle.book.specs.Check.{Frame, Framed, SlotGood, SlotsGood, Rises, Rising}

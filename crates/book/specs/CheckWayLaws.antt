@@ -14,15 +14,15 @@ use Rattle.path.specs.declared.Refusal.{Refusal}
 use Rattle.path.specs.declared.Reading.{Reading}
 use Rattle.path.specs.declared.Reading.the-variants.{Read, Refused}
 use Rattle.path.specs.Read.{readPath}
-use Rattle.keys.specs.Calls.{Exact}
-use Rattle.keys.specs.MannerLaws.{exact-yes, exact-no, exact-refused}
-use Rattle.form.specs.declared.Version.{Version}
-use Rattle.form.specs.Form.{layout, place, keyAt, SlotOk}
-use Rattle.form.specs.Counted.{stored}
-use Rattle.form.specs.Version.{numberOf, formOf, header, countIn}
-use Rattle.form.specs.VersionLaws.{version-lawful}
-use Rattle.form.specs.Compare.{code}
-use Rattle.form.specs.Tells.{Tells, tells-true, tells-false}
+use Rattle.book_records.specs.Calls.{Exact}
+use Rattle.book_records.specs.MannerLaws.{exact-yes, exact-no, exact-refused}
+use Rattle.book_form.specs.declared.Version.{Version}
+use Rattle.book_form.specs.Form.{layout, place, keyAt, SlotOk}
+use Rattle.book_form.specs.Counted.{stored}
+use Rattle.book_form.specs.Version.{numberOf, formOf, header, countIn}
+use Rattle.book_form.specs.VersionLaws.{version-lawful}
+use Rattle.book_form.specs.Compare.{code}
+use Rattle.book_form.specs.Tells.{Tells, tells-true, tells-false}
 use Rattle.book.specs.Book.{Book}
 use Rattle.book.specs.SizeLaws.{book-sized, book-slots}
 use Rattle.book.specs.Check.{Slotted, Frame, SlotGood, Rises}

@@ -4,7 +4,7 @@ use mathlib.Core.Path.{_≡_}
 use mathlib.Core.List.{List}
 use Prim.Native.Nat.{ℕ, _<_, _≤_, Ordering·eq, Ordering·gt}
 use Rattle.text.specs.Order.{cmp}
-use Rattle.form.specs.Form.{Form, keyAt}
+use Rattle.book_form.specs.Form.{Form, keyAt}
 use Rattle.book.specs.declared.find.Spot.{Spot}
 use Rattle.book.specs.declared.find.Spot.the-variants.{Taken, Free}
 

@@ -13,13 +13,13 @@ use Rattle.text.specs.OrderLaws.{cmp-flip, flip-gt, before-trans, Keys, key-lt,
 use Rattle.text.specs.PlaceLaws.{at-some, drop-place}
 use Rattle.text.specs.Put.{put}
 use Rattle.text.specs.Put as buffer
-use Rattle.keys.specs.Records.{get, del, After}
-use Rattle.keys.specs.Records as records
-use Rattle.keys.specs.SplitLaws.{AllBefore, put-between, put-over, get-between, get-over, del-over, sorted-at, sorted-drop, after-head, before-take}
-use Rattle.keys.specs.Act.{Meaning, refuses, writes, removes, looks, says, done, gives, Rec}
-use Rattle.form.specs.Form.{Form, AllFit, layout, place, keyAt, inserted, removed}
-use Rattle.form.specs.FormLaws.{Lawful, layout-inserted, layout-replaced, layout-removed, fit-take, fit-drop}
-use Rattle.form.specs.Compare.{code}
+use Rattle.book_records.specs.Records.{get, del, After}
+use Rattle.book_records.specs.Records as records
+use Rattle.book_records.specs.SplitLaws.{AllBefore, put-between, put-over, get-between, get-over, del-over, sorted-at, sorted-drop, after-head, before-take}
+use Rattle.book_records.specs.Act.{Meaning, refuses, writes, removes, looks, says, done, gives, Rec}
+use Rattle.book_form.specs.Form.{Form, AllFit, layout, place, keyAt, inserted, removed}
+use Rattle.book_form.specs.FormLaws.{Lawful, layout-inserted, layout-replaced, layout-removed, fit-take, fit-drop}
+use Rattle.book_form.specs.Compare.{code}
 use Rattle.book.specs.Book.{Book, Counts}
 use Rattle.book.specs.BookLaws.{parted, sizes, record-is, key-is}
 use Rattle.book.specs.Find.{Placed, Spotted}

@@ -4,10 +4,10 @@ use Prim.Native.Nat.{ℕ}
 use mathlib.Core.Path.{_≡_}
 use mathlib.Core.List.{List}
 use Rattle.text.specs.Refusal.{badBook}
-use Rattle.keys.specs.declared.Manner.{Manner}
-use Rattle.keys.specs.Calls.{keyFor}
-use Rattle.field.specs.declared.MadeKey.{MadeKey}
-use Rattle.field.specs.Field.{madeKey}
+use Rattle.book_records.specs.declared.Manner.{Manner}
+use Rattle.book_records.specs.Calls.{keyFor}
+use Rattle.book_key.specs.declared.MadeKey.{MadeKey}
+use Rattle.book_key.specs.Field.{madeKey}
 use Rattle.book.specs.declared.Opened.{Opened}
 use Rattle.book.specs.Book.{Current, Book, Counts}
 

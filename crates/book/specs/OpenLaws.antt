@@ -6,11 +6,11 @@ use mathlib.Core.List.{List}
 use native.Mathlib.Omega.{arith}
 use Rattle.text.specs.Put as buffer
 use Rattle.text.specs.declared.Written.{Written}
-use Rattle.keys.specs.declared.Manner.{Manner}
-use Rattle.keys.specs.Calls.{Asked, Call, meaning, keyFor}
-use Rattle.keys.specs.TextLaws.{Keyed}
-use Rattle.field.specs.Field.{madeKey}
-use Rattle.field.specs.MadeLaws.{made-refuses, made-keyed}
+use Rattle.book_records.specs.declared.Manner.{Manner}
+use Rattle.book_records.specs.Calls.{Asked, Call, meaning, keyFor}
+use Rattle.book_records.specs.TextLaws.{Keyed}
+use Rattle.book_key.specs.Field.{madeKey}
+use Rattle.book_key.specs.MadeLaws.{made-refuses, made-keyed}
 use Rattle.book.specs.declared.Opened.{Opened}
 use Rattle.book.specs.declared.check.BookAnswer.{BookAnswer}
 use Rattle.book.specs.declared.check.BookAnswer.the-variants.{Count, Nothing}

@@ -9,10 +9,10 @@ use Rattle.text.specs.Refusal.{badBook}
 use Rattle.text.specs.declared.Written.{Written}
 use Rattle.text.specs.Put.{put}
 use Rattle.text.specs.Put as buffer
-use Rattle.keys.specs.Act.{Meaning, Answer, says, done, gives, number}
-use Rattle.keys.specs.declared.Manner.{Manner}
-use Rattle.keys.specs.Calls.{write, remove, look, meaning}
-use Rattle.form.specs.Form.{Form, layout}
+use Rattle.book_records.specs.Act.{Meaning, Answer, says, done, gives, number}
+use Rattle.book_records.specs.declared.Manner.{Manner}
+use Rattle.book_records.specs.Calls.{write, remove, look, meaning}
+use Rattle.book_form.specs.Form.{Form, layout}
 use Rattle.book.specs.Book.{Sized, Book, bytesWith, acts}
 
 -- a call that means m, on the buffer b: its answer, and the bytes after

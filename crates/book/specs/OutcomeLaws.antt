@@ -6,9 +6,9 @@ use Prim.Native.Nat.{ℕ}
 use native.Mathlib.Omega.{arith}
 use Rattle.text.specs.declared.Written.{Written}
 use Rattle.text.specs.Put as buffer
-use Rattle.keys.specs.Act.{Rec, Meaning, Answer, says, number, actIn}
-use Rattle.form.specs.Form.{Form, layout}
-use Rattle.form.specs.FormLaws.{Lawful, place-back}
+use Rattle.book_records.specs.Act.{Rec, Meaning, Answer, says, number, actIn}
+use Rattle.book_form.specs.Form.{Form, layout}
+use Rattle.book_form.specs.FormLaws.{Lawful, place-back}
 use Rattle.book.specs.Book.{Book, bytesWith, acts}
 use Rattle.book.specs.BookLaws.{one-book}
 use Rattle.book.specs.Outcome.{Outcome, no-book, this-book, Changed, writtenBy, Found, shown, Made}

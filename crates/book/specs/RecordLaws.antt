@@ -11,15 +11,15 @@ use Rattle.text.specs.declared.Written.{Written}
 use Rattle.text.specs.Put.{put}
 use Rattle.text.specs.Put as buffer
 use Rattle.text.specs.PutLaws.{put-zero}
-use Rattle.keys.specs.Act.{Meaning, writes, removes, looks}
-use Rattle.keys.specs.declared.Manner.{Manner}
-use Rattle.keys.specs.Calls.{ValueFits}
-use Rattle.keys.specs.TextLaws.{Keyed, look-means, write-means, remove-means}
-use Rattle.form.specs.Form.{layout, slots, inserted, removed, zeros, keyAt}
-use Rattle.form.specs.FormLaws.{length-zeros}
-use Rattle.form.specs.Counted.{countedIn, stored}
-use Rattle.form.specs.Version.{header}
-use Rattle.form.specs.VersionLaws.{value-length}
+use Rattle.book_records.specs.Act.{Meaning, writes, removes, looks}
+use Rattle.book_records.specs.declared.Manner.{Manner}
+use Rattle.book_records.specs.Calls.{ValueFits}
+use Rattle.book_records.specs.TextLaws.{Keyed, look-means, write-means, remove-means}
+use Rattle.book_form.specs.Form.{layout, slots, inserted, removed, zeros, keyAt}
+use Rattle.book_form.specs.FormLaws.{length-zeros}
+use Rattle.book_form.specs.Counted.{countedIn, stored}
+use Rattle.book_form.specs.Version.{header}
+use Rattle.book_form.specs.VersionLaws.{value-length}
 use Rattle.book.specs.declared.check.BookAnswer.{BookAnswer}
 use Rattle.book.specs.declared.check.BookAnswer.the-variants.{Count, Nothing}
 use Rattle.book.specs.declared.find.Spot.{Spot}

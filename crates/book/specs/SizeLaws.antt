@@ -9,8 +9,8 @@ use native.Mathlib.Omega.{arith}
 use lib.Dec.{eqb}
 use lib.ListN.{length}
 use borrow.Author.Tests.{eqb-true, eqb-false}
-use Rattle.form.specs.Form.{Form}
-use Rattle.form.specs.FormLaws.{Lawful, place-back}
+use Rattle.book_form.specs.Form.{Form}
+use Rattle.book_form.specs.FormLaws.{Lawful, place-back}
 use Rattle.book.specs.Book.{Sized, Book}
 use Rattle.book.specs.BookLaws.{size-is}
 use Rattle.book.specs.Check.{Slotted}

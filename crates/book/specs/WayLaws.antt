@@ -6,9 +6,9 @@ use mathlib.Core.List.{List}
 use mathlib.Core.Option.{none, some}
 use lib.ListN.{length}
 use borrow.Author.Tests.{eq-eqb, ne-eqb}
-use Rattle.keys.specs.Records.{Key, get, put, del}
-use Rattle.keys.specs.Act.{Rec, Meaning, refuses, writes, removes, looks, Answer, says, done, gives, act}
-use Rattle.form.specs.Form.{Form}
+use Rattle.book_records.specs.Records.{Key, get, put, del}
+use Rattle.book_records.specs.Act.{Rec, Meaning, refuses, writes, removes, looks, Answer, says, done, gives, act}
+use Rattle.book_form.specs.Form.{Form}
 use Rattle.book.specs.Book.{Book, bytesWith, acts}
 use Rattle.book.specs.Outcome.{Outcome, this-book}
 

@@ -1,7 +1,7 @@
 // Where a key stands in a book.
-use form::HEAD;
-use form::SLOT;
-use form::compare_key;
+use book_form::HEAD;
+use book_form::SLOT;
+use book_form::compare_key;
 ghost use mathlib.Core.Path.{_≡_};
 ghost use Prim.Native.Nat.{_+_, _*_, _≤_, _<_};
 ghost use lib.ListN.{length};

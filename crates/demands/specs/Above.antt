@@ -13,7 +13,7 @@ use Rattle.text.specs.Number.{decimal}
 use Rattle.text.specs.Part.{startsWith}
 use Rattle.path.specs.Kinds.{Carried}
 use Rattle.path.specs.Read.{render, partsOf}
-use Rattle.keys.specs.Act.{Rec}
+use Rattle.book_records.specs.Act.{Rec}
 
 -- the text t followed by `/` begins the text u
 abbrev pub Above : List ℕ → List ℕ → Type 0

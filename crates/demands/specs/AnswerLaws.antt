@@ -6,7 +6,7 @@ use Prim.Native.Nat.{ℕ}
 use lib.ListN.{length, take, drop}
 use lib.Seq.{take-at}
 use Rattle.text.specs.PutLaws.{put-zero}
-use Rattle.keys.specs.Act.{Answer, says, done, gives, seen}
+use Rattle.book_records.specs.Act.{Answer, says, done, gives, seen}
 use Rattle.book.specs.Outcome.{writtenBy, shown}
 
 pub written-number : (a : Answer) → writtenBy a .refusal ≡ seen a .number

@@ -13,7 +13,7 @@ use Rattle.text.specs.Order.{cmp, Before}
 use Rattle.text.specs.Part.{startsWith}
 use Rattle.path.specs.Kinds.{Carried}
 use Rattle.path.specs.Valid.{Valid}
-use Rattle.keys.specs.SplitLaws.{sorted-at}
+use Rattle.book_records.specs.SplitLaws.{sorted-at}
 use Rattle.book.specs.Book.{Current, Book}
 use Rattle.demands.specs.PathCalls.{RenderCall}
 use Rattle.demands.specs.Demand2 as demand2

@@ -29,7 +29,7 @@ use Rattle.path.specs.ReadLaws.{upFrom, up-at}
 use Rattle.path.specs.BackLaws.{rendered-cut, render-one}
 use Rattle.path.specs.LengthLaws.{longest}
 use Rattle.iteration.specs.ReadLaws.{starts-is}
-use Rattle.oldest.specs.PrefixLaws.{starts-own}
+use Rattle.book_oldest.specs.PrefixLaws.{starts-own}
 use Rattle.demands.specs.Above.{Above, renders, Upgrade, ItsTimeOrHeight, CounterWord, AboveUpgrade, a-counter, a-port, SomeAbove}
 
 -- ---- the cut of a text

@@ -11,10 +11,10 @@ use borrow.Fn.World.{ArgsD, ResD}
 use borrow.Fn.Kinds.{endedOf}
 use denote.Triple.Clauses.{AtExit}
 use Rattle.text.specs.declared.Written.{Written}
-use Rattle.keys.specs.Act.{Seen}
-use Rattle.keys.specs.declared.Manner.{Manner}
-use Rattle.keys.specs.declared.Manner.the-variants.{Plain, Lenient}
-use Rattle.keys.specs.Calls.{Asked, to-write, to-remove, to-look, Call, look, meaning}
+use Rattle.book_records.specs.Act.{Seen}
+use Rattle.book_records.specs.declared.Manner.{Manner}
+use Rattle.book_records.specs.declared.Manner.the-variants.{Plain, Lenient}
+use Rattle.book_records.specs.Calls.{Asked, to-write, to-remove, to-look, Call, look, meaning}
 use Rattle.book.specs.Book.{Current}
 use Rattle.book.specs.Outcome.{Found, Wrote, Removed, Looked}
 use Rattle.demands.specs.Permitted.{Permitted}

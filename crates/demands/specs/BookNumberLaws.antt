@@ -16,22 +16,22 @@ use Rattle.path.specs.declared.Refusal.the-variants.{TooLong, NotAscii, NotAPat
 use Rattle.path.specs.Read.{whyNot, refusalOf}
 use Rattle.path.specs.View.{provable, provableFlag}
 use Rattle.text.specs.declared.Written.{Written}
-use Rattle.keys.specs.Records.{Key, get, put, del}
-use Rattle.keys.specs.Act.{Rec, Meaning, Answer, act, addTo, takeFrom, lookIn, seen}
-use Rattle.keys.specs.declared.Manner.{Manner}
-use Rattle.keys.specs.declared.Manner.the-variants.{Plain, Lenient}
-use Rattle.keys.specs.Calls.{Call, write, remove, look, Spelled, meaning}
-use Rattle.keys.specs.Refusals.{GoodWrite, GoodRemoval, GoodLookup, Declined, too-long, not-ascii, not-a-path, loose, key-too-long, bad-length, no-room}
-use Rattle.keys.specs.CallLaws.{Means, declines, writing, removing, looking, means}
+use Rattle.book_records.specs.Records.{Key, get, put, del}
+use Rattle.book_records.specs.Act.{Rec, Meaning, Answer, act, addTo, takeFrom, lookIn, seen}
+use Rattle.book_records.specs.declared.Manner.{Manner}
+use Rattle.book_records.specs.declared.Manner.the-variants.{Plain, Lenient}
+use Rattle.book_records.specs.Calls.{Call, write, remove, look, Spelled, meaning}
+use Rattle.book_records.specs.Refusals.{GoodWrite, GoodRemoval, GoodLookup, Declined, too-long, not-ascii, not-a-path, loose, key-too-long, bad-length, no-room}
+use Rattle.book_records.specs.CallLaws.{Means, declines, writing, removing, looking, means}
 use Rattle.book.specs.Book.{Current, fullIn}
 use Rattle.book.specs.Outcome.{Outcome, no-book, this-book, Changed, Found, Looked, Made, no-size, new-book}
-use Rattle.convert.specs.Convert.{Converted, no-old, other-size, converted}
-use Rattle.oldest.specs.declared.StateAnswer.{StateAnswer}
-use Rattle.oldest.specs.declared.StateAnswer.the-variants.{State, Nothing}
+use Rattle.book_convert.specs.Convert.{Converted, no-old, other-size, converted}
+use Rattle.book_oldest.specs.declared.StateAnswer.{StateAnswer}
+use Rattle.book_oldest.specs.declared.StateAnswer.the-variants.{State, Nothing}
 use Rattle.path.specs.declared.Pair.{Pair}
 use Rattle.path.specs.Pair.{pair}
-use Rattle.oldest.specs.Oldest.{oldestState, pairOf, oldestIn, Oldest}
-use Rattle.oldest.specs.Oldest as oldest
+use Rattle.book_oldest.specs.Oldest.{oldestState, pairOf, oldestIn, Oldest}
+use Rattle.book_oldest.specs.Oldest as oldest
 use Rattle.demands.specs.KeepsLaws.{made-keeps, changed-keeps, found-keeps, converted-keeps}
 use Rattle.demands.specs.AnswerLaws.{written-number, written-zero}
 use Rattle.demands.specs.Shape.{oneOf, Listed, AllZero, Demand1}

@@ -24,12 +24,12 @@ use Rattle.path.specs.Text.{cutAt, joinBy, placesFrom, shownOf}
 use Rattle.path.specs.Kinds.{Carried, carried, kinds}
 use Rattle.path.specs.declared.Pair.{Pair}
 use Rattle.path.specs.Pair.{pair}
-use Rattle.oldest.specs.Oldest.{stateOf, oldestState, oldestIn}
+use Rattle.book_oldest.specs.Oldest.{stateOf, oldestState, oldestIn}
 use Rattle.text.specs.Order.{cmp}
 use Rattle.path.specs.Read.{nameFault, fits, fitsKind, suits, suitsKind, partFaults, kindFaults, faultsAs, whyNot, readKind, readFirst, readPath, show, render, partsOf, renderPath, namesFault, renderOf, keyOf}
-use Rattle.keys.specs.declared.Manner.{Manner}
-use Rattle.keys.specs.declared.Manner.the-variants.{Plain, Lenient}
-use Rattle.keys.specs.Calls.{keyFor, keyAnswer}
+use Rattle.book_records.specs.declared.Manner.{Manner}
+use Rattle.book_records.specs.declared.Manner.the-variants.{Plain, Lenient}
+use Rattle.book_records.specs.Calls.{keyFor, keyAnswer}
 
 -- what is asked: to read a text, to check an identifier, for the oldest state of a client in a book with these keys, for the key of a text
 -- in a call on a book, whether one text stands above another, or to render by kind, identifiers and numbers into that much room

@@ -14,13 +14,14 @@ use borrow.Fn.Kinds.{endedOf}
 use denote.Triple.Clauses.{AtExit}
 use Rattle.text.specs.declared.Written.{Written}
 use Rattle.text.specs.Put.{refusal}
-use Rattle.text.specs.Refusal.{badBook, noRoom, noRecord}
-use Rattle.keys.specs.Records.{Key, get}
-use Rattle.keys.specs.Calls.{look}
-use Rattle.keys.specs.declared.Manner.{Manner}
-use Rattle.keys.specs.Refusals.{GoodLookup}
-use Rattle.form.specs.Form.{place}
-use Rattle.form.specs.Version.{V1}
+use Rattle.text.specs.Refusal.{badBook, noRoom}
+use Rattle.text.specs.Refusal.{absent}
+use Rattle.book_records.specs.Records.{Key, get}
+use Rattle.book_records.specs.Calls.{look}
+use Rattle.book_records.specs.declared.Manner.{Manner}
+use Rattle.book_records.specs.Refusals.{GoodLookup}
+use Rattle.book_form.specs.Form.{place}
+use Rattle.book_form.specs.Version.{V1}
 use Rattle.book.specs.Book.{Current, Book}
 use Rattle.demands.specs.Held.{ProperBook}
 use Rattle.demands.specs.Written.{Done}
@@ -48,7 +49,7 @@ SameSlots x new = length new ≡ place Current (x .slots)
 -- a lookup gives what is held: the value, or 12
 abbrev pub Gives : Option (List ℕ) → Written → List ℕ → Type 0
 Gives (some u) w out₁ = Done u w out₁
-Gives none w out₁ = w ≡ refusal noRecord
+Gives none w out₁ = w ≡ refusal absent
 
 pub record Conversion (old new : List ℕ) (r : ℕ) (new₁ : List ℕ) : Type 0 where
   -- each answer exactly when

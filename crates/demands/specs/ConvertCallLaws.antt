@@ -11,21 +11,21 @@ use lib.Seq.{take-at}
 use denote.Ref.{now}
 use Rattle.text.specs.declared.Written.{Written}
 use Rattle.text.specs.PutLaws.{put-zero}
-use Rattle.keys.specs.Records.{Key, get}
-use Rattle.keys.specs.Act.{Rec, Answer, lookIn, act}
-use Rattle.keys.specs.declared.Manner.{Manner}
-use Rattle.keys.specs.Calls.{look}
-use Rattle.keys.specs.Refusals.{GoodLookup}
-use Rattle.keys.specs.CallLaws.{looking-means}
-use Rattle.form.specs.declared.Version.the-variants.{One}
-use Rattle.form.specs.Form.{layout, place}
-use Rattle.form.specs.Version.{V1}
-use Rattle.form.specs.VersionLaws.{version-lawful}
+use Rattle.book_records.specs.Records.{Key, get}
+use Rattle.book_records.specs.Act.{Rec, Answer, lookIn, act}
+use Rattle.book_records.specs.declared.Manner.{Manner}
+use Rattle.book_records.specs.Calls.{look}
+use Rattle.book_records.specs.Refusals.{GoodLookup}
+use Rattle.book_records.specs.CallLaws.{looking-means}
+use Rattle.book_form.specs.declared.Version.the-variants.{One}
+use Rattle.book_form.specs.Form.{layout, place}
+use Rattle.book_form.specs.Version.{V1}
+use Rattle.book_form.specs.VersionLaws.{version-lawful}
 use Rattle.book.specs.Book.{Current, Book, acts}
 use Rattle.book.specs.BookLaws.{one-book}
 use Rattle.book.specs.Outcome.{writtenBy, shown, Looked}
-use Rattle.convert.specs.Convert.{Converted, no-old, other-size, converted}
-use Rattle.convert.specs.ConvertLaws.{converted-book}
+use Rattle.book_convert.specs.Convert.{Converted, no-old, other-size, converted}
+use Rattle.book_convert.specs.ConvertLaws.{converted-book}
 use Rattle.demands.specs.Held.{ProperBook}
 use Rattle.demands.specs.PermittedLaws.{on-book}
 use Rattle.demands.specs.BookCalls.{Looks, looked}

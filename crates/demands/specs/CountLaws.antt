@@ -10,12 +10,12 @@ use Rattle.path.specs.declared.Reading.the-variants.{Refused as Unread}
 use Rattle.path.specs.declared.Refusal.the-variants.{NotAPath}
 use Rattle.path.specs.Read.{readPath, keyOf}
 use Rattle.demands.specs.Cases.{Outcome, gives, cases-hold}
-use Rattle.form.specs.Form.{layout, slots, AllFit, zeros}
-use Rattle.form.specs.FormLaws.{append-parts}
-use Rattle.form.specs.Counted.{counted}
-use Rattle.form.specs.Version.{slot}
+use Rattle.book_form.specs.Form.{layout, slots, AllFit, zeros}
+use Rattle.book_form.specs.FormLaws.{append-parts}
+use Rattle.book_form.specs.Counted.{counted}
+use Rattle.book_form.specs.Version.{slot}
 use Rattle.book.specs.BookLaws.{lawful}
-use Rattle.keys.specs.Act.{Rec}
+use Rattle.book_records.specs.Act.{Rec}
 use Rattle.demands.specs.Held.{ProperBook}
 use Rattle.book.specs.Book.{Current, AllExact}
 

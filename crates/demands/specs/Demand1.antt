@@ -32,10 +32,10 @@ use Rattle.wide.specs.Mode.{wide}
 use Rattle.wide.specs.Check.{namedIndexFaultIn, faultIn, newClientIn}
 use Rattle.wide.specs.Read.{readFaultIn, readingBytesIn, keyIn as wideKeyIn}
 use Rattle.wide.specs.Render.{renderIn, textIn}
-use Rattle.keys.specs.declared.Manner.the-variants.{Plain, Lenient}
-use Rattle.keys.specs.Calls.{write, remove, keyFor}
-use Rattle.field.specs.declared.MadeKey.{MadeKey}
-use Rattle.field.specs.Field.{madeKey}
+use Rattle.book_records.specs.declared.Manner.the-variants.{Plain, Lenient}
+use Rattle.book_records.specs.Calls.{write, remove, keyFor}
+use Rattle.book_key.specs.declared.MadeKey.{MadeKey}
+use Rattle.book_key.specs.Field.{madeKey}
 use Rattle.iteration.specs.Block.{blockOf, firstAbove, lastBelow, scanned}
 use Rattle.iteration.specs.Key.{iterationKey, keyIn, answered, pairOf}
 use Rattle.packet.specs.Key.{packetWanted, packetOf}
@@ -145,7 +145,7 @@ use Rattle.wide.proofs.rendering.acks_path.Reads as wide-acks-path
 use Rattle.wide.proofs.rendering.receipts_path.Reads as wide-receipts-path
 use Rattle.text.proofs.put.give.Reads as give
 use Rattle.text.proofs.refusal.give_sentence.Reads as give-sentence
-use Rattle.field.proofs.key_of.Reads as key-of
+use Rattle.book_key.proofs.key_of.Reads as key-of
 use Rattle.identifiers.proofs.validate.validate_identifier_chars.Reads as validate-identifier-chars
 use Rattle.identifiers.proofs.validate.length_within.Reads as length-within
 use Rattle.identifiers.proofs.validate.check_named.Reads as check-named
@@ -190,10 +190,10 @@ use Rattle.book.proofs.new_book.Reads as new-book
 use Rattle.book.proofs.write.Reads as book-write
 use Rattle.book.proofs.remove.Reads as book-remove
 use Rattle.book.proofs.lookup.Reads as book-lookup
-use Rattle.oldest.proofs.oldest.Reads as oldest
-use Rattle.convert.proofs.convert.Reads as convert
-use Rattle.table.proofs.many.fill.Reads as fill
-use Rattle.table.proofs.many.look_many.Reads as look-many
+use Rattle.book_oldest.proofs.oldest.Reads as oldest
+use Rattle.book_convert.proofs.convert.Reads as convert
+use Rattle.book_table.proofs.many.fill.Reads as fill
+use Rattle.book_table.proofs.many.look_many.Reads as look-many
 
 -- ---- calls that write a text
 pub hp-client-id-new-holds : Demand1 hp-client-id-new.Pre hp-client-id-new.Post clients (λ κs r. r .refusal) (λ κs r. r .length ∷ []) (λ κs a. now (a .1 .1 .0)) (λ κs s. now (s .1 .1 .0))

@@ -1,6 +1,6 @@
 -- Demand 3, sentence by sentence, of any functions: `Does b c a b₁` says that the call c, made on the bytes b, may be answered by a and
--- leave the bytes b₁. What a call and its path are is said in `keys` (Calls), a proper book in `book` (Book), document 01's refusals in
--- `keys` and here (Refusals).
+-- leave the bytes b₁. What a call and its path are is said in `book_records` (Calls), a proper book in `book` (Book), document 01's refusals in
+-- `book_records` and here (Refusals).
 -- Assumes nothing.
 use Prim.Native.Nat.{ℕ, _<_}
 use mathlib.Core.Path.{_≡_}
@@ -10,10 +10,10 @@ use mathlib.Core.Option.{Option, none, some}
 use lib.ListN.{length, getElem?}
 use Rattle.runs.specs.Rearranged.{Rearranged}
 use Rattle.runs.specs.Runs.{Runs, before}
-use Rattle.keys.specs.Records.{Key}
-use Rattle.keys.specs.Act.{Seen}
-use Rattle.keys.specs.Refusals.{GoodLookup}
-use Rattle.keys.specs.Calls.{Call, PathOf, SamePath}
+use Rattle.book_records.specs.Records.{Key}
+use Rattle.book_records.specs.Act.{Seen}
+use Rattle.book_records.specs.Refusals.{GoodLookup}
+use Rattle.book_records.specs.Calls.{Call, PathOf, SamePath}
 use Rattle.book.specs.Book.{Book}
 use Rattle.demands.specs.Held.{Room, Holds, Looks, Accepted, leaves, ProperBook}
 use Rattle.demands.specs.Refusals.{Refused}

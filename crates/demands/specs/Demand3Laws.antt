@@ -13,14 +13,14 @@ use Rattle.runs.specs.MachineLaws.{answers, final, answer-at, Enough, SameKey, 
 use Rattle.runs.specs.MachineLaws as machine
 use Rattle.runs.specs.Runs.{Runs}
 use Rattle.runs.specs.RunsLaws.{does-at, kept-at, kept-end, simulates}
-use Rattle.keys.specs.Records.{Key, get, put, del}
-use Rattle.keys.specs.Act.{Rec, Meaning, addTo, takeFrom, lookIn, act, Seen, seen}
-use Rattle.keys.specs.ActLaws.{keyIn, ansOf}
-use Rattle.keys.specs.Calls.{Call, meaning, PathOf, SamePath}
+use Rattle.book_records.specs.Records.{Key, get, put, del}
+use Rattle.book_records.specs.Act.{Rec, Meaning, addTo, takeFrom, lookIn, act, Seen, seen}
+use Rattle.book_records.specs.ActLaws.{keyIn, ansOf}
+use Rattle.book_records.specs.Calls.{Call, meaning, PathOf, SamePath}
 use Rattle.book.specs.Book.{Book, bytesWith, fullIn, acts}
 use Rattle.demands.specs.Held.{Holds, Looks, leaves, ProperBook}
 use Rattle.demands.specs.Permitted.{Permitted}
-use Rattle.keys.specs.CallLaws.{Means, declines, writing, removing, looking, means, declined-not}
+use Rattle.book_records.specs.CallLaws.{Means, declines, writing, removing, looking, means, declined-not}
 use Rattle.demands.specs.HeldLaws.{holds-in}
 use Rattle.demands.specs.Refusals.{Refused, not-found}
 use Rattle.demands.specs.PermittedLaws.{no-look-write, no-look-remove, permitted-book, refused-exactly}

@@ -7,10 +7,10 @@ use mathlib.Core.Logic.{_↔_}
 use mathlib.Core.List.{List, []}
 use mathlib.Core.Option.{Option, none, some}
 use lib.ListN.{length}
-use Rattle.keys.specs.Records.{Key}
-use Rattle.keys.specs.Act.{Seen}
-use Rattle.keys.specs.Calls.{Call, PathOf}
-use Rattle.keys.specs.Refusals.{GoodWrite, GoodRemoval, GoodLookup}
+use Rattle.book_records.specs.Records.{Key}
+use Rattle.book_records.specs.Act.{Seen}
+use Rattle.book_records.specs.Calls.{Call, PathOf}
+use Rattle.book_records.specs.Refusals.{GoodWrite, GoodRemoval, GoodLookup}
 use Rattle.demands.specs.Held.{Updates, Accepted, leaves, Looks, ProperBook, Full, Holds}
 use Rattle.demands.specs.Refusals.{Refused}
 

@@ -8,11 +8,11 @@ use mathlib.Core.Option.{Option, none, some}
 use native.Mathlib.Omega.{arith}
 use lib.ListN.{length, take}
 use Rattle.text.specs.declared.Written.{Written}
-use Rattle.keys.specs.Records.{Key, get, put, del}
-use Rattle.keys.specs.RecordLaws.{get-put-same, get-put-other, get-del-same, get-del-other}
-use Rattle.keys.specs.Act.{Meaning, Answer, addTo, takeFrom, lookIn, act, Seen, seen}
-use Rattle.keys.specs.Calls.{Asked, to-write, to-remove, to-look, Call, meaning, PathOf}
-use Rattle.keys.specs.CallLaws.{Means, declines, writing, removing, looking, means, writing-means, removing-means, looking-means, declined-not, one-path}
+use Rattle.book_records.specs.Records.{Key, get, put, del}
+use Rattle.book_records.specs.RecordLaws.{get-put-same, get-put-other, get-del-same, get-del-other}
+use Rattle.book_records.specs.Act.{Meaning, Answer, addTo, takeFrom, lookIn, act, Seen, seen}
+use Rattle.book_records.specs.Calls.{Asked, to-write, to-remove, to-look, Call, meaning, PathOf}
+use Rattle.book_records.specs.CallLaws.{Means, declines, writing, removing, looking, means, writing-means, removing-means, looking-means, declined-not, one-path}
 use Rattle.book.specs.Book.{Current, fullIn, acts}
 use Rattle.book.specs.Outcome.{Outcome, no-book, this-book}
 use Rattle.demands.specs.Held.{Updates, leftBy, leaves, IsLook, ProperBook, Holds}

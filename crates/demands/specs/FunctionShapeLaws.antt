@@ -24,8 +24,8 @@ use Rattle.path.specs.Read.{render, renderPath, partsOf, numberOf, readPath, ke
 use Rattle.path.specs.View.{kindOf, carriedOf}
 use Rattle.render.specs.Render.{short}
 use Rattle.key.specs.Key.{shownBy}
-use Rattle.keys.specs.declared.Manner.{Manner}
-use Rattle.keys.specs.Calls.{isLoose, keyFor, keyAnswer}
+use Rattle.book_records.specs.declared.Manner.{Manner}
+use Rattle.book_records.specs.Calls.{isLoose, keyFor, keyAnswer}
 use Rattle.demands.specs.Numbers.{readings, keyNumbers}
 use Rattle.demands.specs.Shape.{Listed, AllZero, Demand1}
 use Rattle.demands.specs.ShapeLaws.{Wants, one-of, both-of, accepted-wants, reading-refusal, answer-zero}

@@ -5,9 +5,9 @@ use mathlib.Core.Path.{_≡_}
 use mathlib.Core.List.{List}
 use mathlib.Core.Option.{Option, none, some}
 use lib.ListN.{length}
-use Rattle.keys.specs.Records.{Key, get}
-use Rattle.keys.specs.Act.{Seen}
-use Rattle.keys.specs.Calls.{Asked, to-write, to-remove, to-look, Call}
+use Rattle.book_records.specs.Records.{Key, get}
+use Rattle.book_records.specs.Act.{Seen}
+use Rattle.book_records.specs.Calls.{Asked, to-write, to-remove, to-look, Call}
 use Rattle.runs.specs.Total.{total}
 use Rattle.book.specs.Book.{Current, Book}
 

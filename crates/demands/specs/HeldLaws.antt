@@ -12,16 +12,16 @@ use Rattle.text.specs.Order.{by, cmp}
 use Rattle.text.specs.Put.{text}
 use Rattle.path.specs.Read.{keyOf}
 use Rattle.path.specs.BackLaws.{key-exact}
-use Rattle.form.specs.Form.{AllFit}
-use Rattle.form.specs.FormLaws.{length-layout}
-use Rattle.keys.specs.Records.{Key, get, put, del}
+use Rattle.book_form.specs.Form.{AllFit}
+use Rattle.book_form.specs.FormLaws.{length-layout}
+use Rattle.book_records.specs.Records.{Key, get, put, del}
 use Rattle.text.specs.OrderLaws.{Keys, key-lt, key-eq, key-gt, keys}
-use Rattle.keys.specs.Act.{Rec, Meaning, refuses, writes, removes, looks, addTo, takeFrom, lookIn, act}
-use Rattle.keys.specs.Calls.{Call, meaning}
+use Rattle.book_records.specs.Act.{Rec, Meaning, refuses, writes, removes, looks, addTo, takeFrom, lookIn, act}
+use Rattle.book_records.specs.Calls.{Call, meaning}
 use Rattle.book.specs.Book.{Current, AllExact, bytesWith, fullIn}
 use Rattle.book.specs.BookLaws.{lawful, size-is, one-book}
 use Rattle.demands.specs.Held.{Full, Holds, ProperBook}
-use Rattle.keys.specs.CallLaws.{Means, declines, writing, removing, looking, means}
+use Rattle.book_records.specs.CallLaws.{Means, declines, writing, removing, looking, means}
 
 -- ---- facts of every record, kept by each call
 module _ (All : List Rec → Type 0) (P : Rec → Type 0) (nil : All []) (cons : (r : Rec) (s : List Rec) → P r → All s → All (r ∷ s))

@@ -6,11 +6,11 @@ use mathlib.Core.Bool.{Bool, true, false}
 use mathlib.Core.List.{List}
 use mathlib.Core.Option.{Option, none, some}
 use Rattle.text.specs.declared.Written.{Written}
-use Rattle.keys.specs.Records.{Key, get, put, del}
-use Rattle.keys.specs.Act.{Rec, Meaning, refuses, writes, removes, looks, Answer, says, done, gives, addTo, takeFrom, lookIn, act, seen}
+use Rattle.book_records.specs.Records.{Key, get, put, del}
+use Rattle.book_records.specs.Act.{Rec, Meaning, refuses, writes, removes, looks, Answer, says, done, gives, addTo, takeFrom, lookIn, act, seen}
 use Rattle.book.specs.Book.{Current, bytesWith, fullIn}
 use Rattle.book.specs.Outcome.{Outcome, no-book, this-book, Changed, Found, shown, Made, no-size, new-book}
-use Rattle.convert.specs.Convert.{Converted, no-old, other-size, converted}
+use Rattle.book_convert.specs.Convert.{Converted, no-old, other-size, converted}
 use Rattle.demands.specs.AnswerLaws.{written-number}
 
 -- ---- a refusal changes no byte

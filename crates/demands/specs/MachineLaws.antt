@@ -10,18 +10,18 @@ use native.Mathlib.Omega.{arith}
 use lib.Dec.{eqb}
 use lib.ListN.{length}
 use Rattle.runs.specs.MachineLaws.{Independent, Enough}
-use Rattle.keys.specs.Records.{Key, get}
-use Rattle.keys.specs.RecordLaws.{records-ext}
-use Rattle.keys.specs.Act.{Rec, Meaning, refuses, Answer, says, act, Seen, seen}
-use Rattle.keys.specs.ActLaws.{keyIn, ansOf, effOf, dec-some, countOf, chargeOf, Proper, good, pays, declines, answersBy, leaves, spares}
-use Rattle.keys.specs.Calls.{Asked, to-write, to-remove, to-look, Call, meaning, PathOf}
+use Rattle.book_records.specs.Records.{Key, get}
+use Rattle.book_records.specs.RecordLaws.{records-ext}
+use Rattle.book_records.specs.Act.{Rec, Meaning, refuses, Answer, says, act, Seen, seen}
+use Rattle.book_records.specs.ActLaws.{keyIn, ansOf, effOf, dec-some, countOf, chargeOf, Proper, good, pays, declines, answersBy, leaves, spares}
+use Rattle.book_records.specs.Calls.{Asked, to-write, to-remove, to-look, Call, meaning, PathOf}
 use Rattle.demands.specs.Held as calls
-use Rattle.form.specs.Form.{AllFit}
+use Rattle.book_form.specs.Form.{AllFit}
 use Rattle.book.specs.Book.{Current, AllExact, bytesWith, fullIn}
 use Rattle.demands.specs.Held.{Room, asWrite, isWrite, Updates, Accepted, leftBy, ProperBook}
 use Rattle.demands.specs.Permitted.{Permitted}
-use Rattle.keys.specs.CallLaws.{Means, writing, removing, looking, means, one-path, declined-not}
-use Rattle.keys.specs.CallLaws as by-case
+use Rattle.book_records.specs.CallLaws.{Means, writing, removing, looking, means, one-path, declined-not}
+use Rattle.book_records.specs.CallLaws as by-case
 use Rattle.demands.specs.HeldLaws.{fit-act, exact-act, length-with}
 use Rattle.demands.specs.PermittedLaws.{permitted-book}
 

@@ -1,5 +1,5 @@
 -- Request L6, of the generated contracts: a plain call that is not refused with 20 and the lenient call on the same text do the same.
--- That 20 is given exactly where the call is plain and its text is not its own key is a row of `keys` (Refusals), and so part of demand 3.
+-- That 20 is given exactly where the call is plain and its text is not its own key is a row of `book_records` (Refusals), and so part of demand 3.
 -- Assumes nothing.
 use Prim.Native.Nat.{ℕ}
 use mathlib.Core.Path.{_≡_, sym, ap, subst, _∙_}
@@ -8,10 +8,10 @@ use mathlib.Core.List.{List}
 use lib.ListN.{length}
 use Rattle.text.specs.Refusal.{loose}
 use Rattle.text.specs.declared.Written.{Written}
-use Rattle.keys.specs.declared.Manner.the-variants.{Plain, Lenient}
-use Rattle.keys.specs.Act.{Meaning, refuses, Answer, number, act}
-use Rattle.keys.specs.Calls.{to-write, to-remove, to-look}
-use Rattle.keys.specs.MannerLaws.{plain-or-loose}
+use Rattle.book_records.specs.declared.Manner.the-variants.{Plain, Lenient}
+use Rattle.book_records.specs.Act.{Meaning, refuses, Answer, number, act}
+use Rattle.book_records.specs.Calls.{to-write, to-remove, to-look}
+use Rattle.book_records.specs.MannerLaws.{plain-or-loose}
 use Rattle.book.specs.Book.{Current, acts}
 use Rattle.book.specs.BookLaws.{lawful}
 use Rattle.book.specs.Outcome.{Outcome, no-book, this-book, Changed, Found, writtenBy, shown}

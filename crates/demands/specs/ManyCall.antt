@@ -14,11 +14,11 @@ use borrow.Fn.Kinds.{endedOf}
 use denote.Triple.Clauses.{AtExit}
 use Rattle.text.specs.declared.Written.{Written}
 use Rattle.text.specs.Refusal.{badBook, badTable, noRoom}
-use Rattle.keys.specs.declared.Manner.the-variants.{Plain}
-use Rattle.form.specs.Form.{zeros}
+use Rattle.book_records.specs.declared.Manner.the-variants.{Plain}
+use Rattle.book_form.specs.Form.{zeros}
 use Rattle.book.specs.Book.{Current, Book}
-use Rattle.table.specs.Lines.{lines}
-use Rattle.table.specs.Many.{tableOf}
+use Rattle.book_table.specs.Lines.{lines}
+use Rattle.book_table.specs.Many.{tableOf}
 use Rattle.demands.specs.BookCalls.{Looks}
 use Rattle.hostpath.proofs.hp_book_fill as f
 use Rattle.hostpath.proofs.hp_book_fill.Kinds as fk

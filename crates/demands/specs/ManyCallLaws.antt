@@ -12,19 +12,19 @@ use denote.Ref.{now}
 use Rattle.text.specs.declared.Written.{Written}
 use Rattle.text.specs.Put.{put, text, answer, done}
 use Rattle.text.specs.PutLaws.{put-zero}
-use Rattle.keys.specs.Act.{Answer, says, gives}
-use Rattle.keys.specs.Act as act
-use Rattle.keys.specs.declared.Manner.the-variants.{Plain}
-use Rattle.form.specs.Form.{zeros}
-use Rattle.form.specs.FormLaws.{length-zeros}
+use Rattle.book_records.specs.Act.{Answer, says, gives}
+use Rattle.book_records.specs.Act as act
+use Rattle.book_records.specs.declared.Manner.the-variants.{Plain}
+use Rattle.book_form.specs.Form.{zeros}
+use Rattle.book_form.specs.FormLaws.{length-zeros}
 use Rattle.book.specs.Book.{Current, Book}
 use Rattle.book.specs.BookLaws.{lawful}
 use Rattle.book.specs.Outcome.{Looked, writtenBy, shown}
-use Rattle.table.specs.Lines.{lines}
-use Rattle.table.specs.Many.{entryOf, entries, tableOf, lookedUp, Fills, LooksMany}
-use Rattle.table.specs.Many as many
-use Rattle.table.specs.ManyLaws.{table-size, value-most, entry-size, entries-size, answer-is}
-use Rattle.table.specs.OneLaws.{one-table}
+use Rattle.book_table.specs.Lines.{lines}
+use Rattle.book_table.specs.Many.{entryOf, entries, tableOf, lookedUp, Fills, LooksMany}
+use Rattle.book_table.specs.Many as many
+use Rattle.book_table.specs.ManyLaws.{table-size, value-most, entry-size, entries-size, answer-is}
+use Rattle.book_table.specs.OneLaws.{one-table}
 use Rattle.demands.specs.RoomLaws.{Way, short, fits, way, number}
 use Rattle.demands.specs.BookCalls.{Looks, looked}
 use Rattle.demands.specs.ManyCall.{FillsTable, LooksUpMany, Filling, entryAt, Many, ManyDemand}

@@ -30,13 +30,13 @@ use Rattle.path.specs.View.{kindOf, carriedOf}
 use Rattle.path.specs.Valid.{Valid}
 use Rattle.path.specs.ReadLaws.{upFrom}
 use Rattle.path.specs.BackLaws.{rendered-cut, key-read, read-valid}
-use Rattle.keys.specs.Act.{Rec}
-use Rattle.keys.specs.Calls.{Exact}
-use Rattle.keys.specs.SplitLaws.{sorted-at}
-use Rattle.form.specs.Form.{Form}
+use Rattle.book_records.specs.Act.{Rec}
+use Rattle.book_records.specs.Calls.{Exact}
+use Rattle.book_records.specs.SplitLaws.{sorted-at}
+use Rattle.book_form.specs.Form.{Form}
 use Rattle.book.specs.Book.{Book}
 use Rattle.book.specs.CheckLaws.{exact-at}
-use Rattle.oldest.specs.PrefixLaws.{starts-own, starts-below, starts-between}
+use Rattle.book_oldest.specs.PrefixLaws.{starts-own, starts-below, starts-between}
 use Rattle.iteration.specs.ReadLaws.{starts-is}
 use Rattle.demands.specs.Above.{Above, renders, Stands, Neighbours}
 use Rattle.demands.specs.BelowLaws.{cut-after, join-after, over, shown-over, one-of, state-only, five-same}

@@ -6,8 +6,8 @@ use mathlib.Core.List.{List, []}
 use native.Mathlib.Omega.{arith}
 use lib.ListN.{length}
 use denote.Ref.{now}
-use Rattle.form.specs.Form.{layout, place}
-use Rattle.form.specs.FormLaws.{length-layout}
+use Rattle.book_form.specs.Form.{layout, place}
+use Rattle.book_form.specs.FormLaws.{length-layout}
 use Rattle.book.specs.Book.{Current, Sized}
 use Rattle.book.specs.BookLaws.{lawful}
 use Rattle.book.specs.SizeLaws.{book-sized, one-size}

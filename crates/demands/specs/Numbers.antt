@@ -2,8 +2,8 @@
 -- Assumes nothing.
 use Prim.Native.Nat.{ℕ}
 use mathlib.Core.List.{List, [], _∷_}
-use Rattle.keys.specs.declared.Manner.{Manner}
-use Rattle.keys.specs.declared.Manner.the-variants.{Plain, Lenient}
+use Rattle.book_records.specs.declared.Manner.{Manner}
+use Rattle.book_records.specs.declared.Manner.the-variants.{Plain, Lenient}
 
 abbrev pub readings : List ℕ
 readings = 1 ∷ 2 ∷ 3 ∷ 17 ∷ 18 ∷ 19 ∷ 4 ∷ []

@@ -12,14 +12,15 @@ use denote.Ref.{now}
 use borrow.Fn.World.{ArgsD, ResD}
 use borrow.Fn.Kinds.{endedOf}
 use denote.Triple.Clauses.{AtExit}
-use Rattle.text.specs.Refusal.{badBook, noRecord}
+use Rattle.text.specs.Refusal.{badBook}
+use Rattle.text.specs.Refusal as refusal
 use Rattle.identifiers.specs.Check.{checkOf}
 use Rattle.identifiers.specs.Check as check
-use Rattle.keys.specs.Act.{Rec}
-use Rattle.oldest.specs.declared.StateAnswer.the-variants.{State}
+use Rattle.book_records.specs.Act.{Rec}
+use Rattle.book_oldest.specs.declared.StateAnswer.the-variants.{State}
 use Rattle.path.specs.declared.Pair.{Pair}
 use Rattle.path.specs.Revision.{revision, below}
-use Rattle.oldest.specs.Oldest.{stateOf}
+use Rattle.book_oldest.specs.Oldest.{stateOf}
 use Rattle.demands.specs.Held.{ProperBook}
 use Rattle.hostpath.proofs.hp_book_oldest as o
 use Rattle.hostpath.proofs.hp_book_oldest.Kinds as ok
@@ -48,8 +49,8 @@ pub record OldestSays (b client : List ℕ) (x : Pair) : Type 0 where
   -- each answer exactly when: 9 on what is no book; on a book the number of the client's check, where that refuses the client; of a client
   -- that it accepts 12 where the book holds nothing, and 0 where it holds something
   pub bad-book : (x .refusal ≡ badBook) ↔ (ProperBook b → ⊥)
-  pub bad-client : (n : ℕ) → (n ≡ 0 → ⊥) → (n ≡ badBook → ⊥) → (n ≡ noRecord → ⊥) → (x .refusal ≡ n) ↔ (ProperBook b × (checkOf check.client client ≡ n))
-  pub absent : (x .refusal ≡ noRecord) ↔ (ProperBook b × (checkOf check.client client ≡ 0) × ((m h : ℕ) → HoldsState b client m h → ⊥))
+  pub bad-client : (n : ℕ) → (n ≡ 0 → ⊥) → (n ≡ badBook → ⊥) → (n ≡ refusal.absent → ⊥) → (x .refusal ≡ n) ↔ (ProperBook b × (checkOf check.client client ≡ n))
+  pub absent : (x .refusal ≡ refusal.absent) ↔ (ProperBook b × (checkOf check.client client ≡ 0) × ((m h : ℕ) → HoldsState b client m h → ⊥))
   pub done : (x .refusal ≡ 0) ↔ ((checkOf check.client client ≡ 0) × (m : ℕ) × (h : ℕ) × HoldsState b client m h)
   -- the answer is held
   pub held : x .refusal ≡ 0 → HoldsState b client (x .number) (x .height)

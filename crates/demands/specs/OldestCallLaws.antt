@@ -12,18 +12,18 @@ use borrow.Author.Tests.{eqb-true, eqb-false}
 use denote.Ref.{now}
 use Rattle.identifiers.specs.Check.{checkOf}
 use Rattle.identifiers.specs.Check as check
-use Rattle.keys.specs.Act.{Rec}
-use Rattle.oldest.specs.declared.StateAnswer.{StateAnswer}
-use Rattle.oldest.specs.declared.StateAnswer.the-variants.{State, Nothing}
+use Rattle.book_records.specs.Act.{Rec}
+use Rattle.book_oldest.specs.declared.StateAnswer.{StateAnswer}
+use Rattle.book_oldest.specs.declared.StateAnswer.the-variants.{State, Nothing}
 use Rattle.path.specs.declared.Pair.{Pair}
 use Rattle.path.specs.declared.Revision.{Revision}
 use Rattle.path.specs.Pair.{pair}
 use Rattle.path.specs.Revision.{revision}
 use Rattle.book.specs.Book.{Current}
 use Rattle.book.specs.BookLaws.{one-book, lawful}
-use Rattle.oldest.specs.Oldest.{stateOf, oldestState, oldestIn, Oldest}
-use Rattle.oldest.specs.Oldest as oldest
-use Rattle.oldest.specs.OldestLaws.{oldest-nothing, oldest-held, oldest-least}
+use Rattle.book_oldest.specs.Oldest.{stateOf, oldestState, oldestIn, Oldest}
+use Rattle.book_oldest.specs.Oldest as oldest
+use Rattle.book_oldest.specs.OldestLaws.{oldest-nothing, oldest-held, oldest-least}
 use Rattle.demands.specs.Held.{ProperBook}
 use Rattle.demands.specs.ShapeLaws.{plain-of}
 use Rattle.demands.specs.OldestCall.{HoldsState, OldestSays, OldestDemand}

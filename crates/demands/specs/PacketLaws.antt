@@ -20,9 +20,9 @@ use Rattle.identifiers.specs.Check.{checkOf, client}
 use Rattle.path.specs.declared.Reading.the-variants.{Refused as Unread}
 use Rattle.path.specs.declared.Refusal.the-variants.{NotAscii, NotAPath}
 use Rattle.path.specs.Read.{readPath, readFault, readingBytes, whyNot, refusalOf, placeOf}
-use Rattle.keys.specs.Act.{Seen}
-use Rattle.keys.specs.Calls.{Call}
-use Rattle.keys.specs.Refusals.{Declined, not-ascii, not-a-path}
+use Rattle.book_records.specs.Act.{Seen}
+use Rattle.book_records.specs.Calls.{Call}
+use Rattle.book_records.specs.Refusals.{Declined, not-ascii, not-a-path}
 use Rattle.packet.specs.declared.KindAnswer.{KindAnswer}
 use Rattle.packet.specs.declared.KindAnswer.the-variants.{Kind, Unknown}
 use Rattle.packet.specs.declared.Packet.{Packet}

@@ -13,8 +13,8 @@ use Rattle.text.specs.Number.{Bytes}
 use Rattle.text.specs.Part.{ascii}
 use Rattle.text.specs.Refusal.{notAscii, notAPath}
 use Rattle.identifiers.specs.Check.{checkOf, client}
-use Rattle.keys.specs.Act.{Seen}
-use Rattle.keys.specs.Calls.{Call}
+use Rattle.book_records.specs.Act.{Seen}
+use Rattle.book_records.specs.Calls.{Call}
 use Rattle.packet.specs.declared.Packet.{Packet}
 use Rattle.packet.specs.declared.PacketKind.{PacketKind}
 use Rattle.packet.specs.Key.{markerOf, packetKey}

@@ -5,8 +5,8 @@ use mathlib.Core.Path.{_≡_}
 use mathlib.Core.List.{List, []}
 use lib.ListN.{length, take}
 use Rattle.text.specs.declared.Written.{Written}
-use Rattle.keys.specs.Act.{Seen}
-use Rattle.keys.specs.Calls.{Asked, to-write, to-remove, to-look, Call, meaning}
+use Rattle.book_records.specs.Act.{Seen}
+use Rattle.book_records.specs.Calls.{Asked, to-write, to-remove, to-look, Call, meaning}
 use Rattle.book.specs.Book.{Current}
 use Rattle.book.specs.Outcome.{Changed, Found}
 

@@ -7,15 +7,15 @@ use mathlib.Core.List.{List, []}
 use mathlib.Core.Option.{Option, none, some}
 use lib.ListN.{length, take, replicate, length-replicate}
 use Rattle.text.specs.declared.Written.{Written}
-use Rattle.keys.specs.Records.{Key, get, put, del}
-use Rattle.keys.specs.Act.{Rec, Meaning, Answer, gives, addTo, takeFrom, lookIn, act, Seen, seen}
-use Rattle.keys.specs.Calls.{Asked, to-write, to-remove, to-look, Call, meaning}
+use Rattle.book_records.specs.Records.{Key, get, put, del}
+use Rattle.book_records.specs.Act.{Rec, Meaning, Answer, gives, addTo, takeFrom, lookIn, act, Seen, seen}
+use Rattle.book_records.specs.Calls.{Asked, to-write, to-remove, to-look, Call, meaning}
 use Rattle.book.specs.Book.{Current, bytesWith, fullIn, acts}
 use Rattle.book.specs.Outcome.{Outcome, no-book, this-book, writtenBy, Found, shown}
 use Rattle.demands.specs.Held.{Looks, ProperBook}
 use Rattle.demands.specs.Permitted.{PermittedTo, Permitted}
 use Rattle.demands.specs.Refusals.{Refused, bad-book, declined, book-full, absent, not-found}
-use Rattle.keys.specs.CallLaws.{Means, declines, writing, removing, looking, means, declined-means, writing-means, removing-means, looking-means}
+use Rattle.book_records.specs.CallLaws.{Means, declines, writing, removing, looking, means, declined-means, writing-means, removing-means, looking-means}
 use Rattle.book.specs.BookLaws.{lawful}
 use Rattle.book.specs.OutcomeLaws.{one-outcome}
 use Rattle.demands.specs.HeldLaws.{holds-in, is-full, full-is, full-as}

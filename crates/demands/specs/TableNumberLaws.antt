@@ -7,9 +7,9 @@ use lib.ListN.{length}
 use Rattle.text.specs.declared.Written.{Written}
 use Rattle.text.specs.Put.{text, answer}
 use Rattle.book.specs.Book.{Current}
-use Rattle.table.specs.Lines.{lines}
-use Rattle.table.specs.Many.{tableOf, entries, lookedUp, Fills, LooksMany}
-use Rattle.table.specs.Many as many
+use Rattle.book_table.specs.Lines.{lines}
+use Rattle.book_table.specs.Many.{tableOf, entries, lookedUp, Fills, LooksMany}
+use Rattle.book_table.specs.Many as many
 use Rattle.demands.specs.RoomLaws.{Way, short, fits, way, number}
 use Rattle.demands.specs.Shape.{Listed, AllZero, Demand1}
 

@@ -26,17 +26,17 @@ use Rattle.path.specs.ReadLaws.{reads-one}
 use Rattle.path.specs.BackLaws.{exact-renders, read-short, read-ascii, read-reads}
 use Rattle.demands.specs.Cases.{Outcome, gives, cases-hold}
 use Rattle.runs.specs.Runs.{Runs, stop, next, before}
-use Rattle.form.specs.Form.{layout, slots, zeros}
-use Rattle.form.specs.FormLaws.{length-zeros}
+use Rattle.book_form.specs.Form.{layout, slots, zeros}
+use Rattle.book_form.specs.FormLaws.{length-zeros}
 use Rattle.text.specs.OrderLaws.{cmp-self}
-use Rattle.keys.specs.Records.{Key, get, put}
-use Rattle.keys.specs.Act.{writes, act, done, Seen, seen}
-use Rattle.keys.specs.declared.Manner.the-variants.{Plain}
-use Rattle.keys.specs.Calls.{Call, write, remove, look, meaning, ValueFits}
+use Rattle.book_records.specs.Records.{Key, get, put}
+use Rattle.book_records.specs.Act.{writes, act, done, Seen, seen}
+use Rattle.book_records.specs.declared.Manner.the-variants.{Plain}
+use Rattle.book_records.specs.Calls.{Call, write, remove, look, meaning, ValueFits}
 use Rattle.book.specs.Book.{Current, acts}
 use Rattle.demands.specs.Held.{Holds, isWrite, ProperBook}
 use Rattle.demands.specs.Permitted.{Permitted}
-use Rattle.keys.specs.CallLaws.{writing-means, one-path}
+use Rattle.book_records.specs.CallLaws.{writing-means, one-path}
 use Rattle.demands.specs.HeldLaws.{one-held}
 use Rattle.demands.specs.CountLaws.{count-right}
 use Rattle.demands.specs.PermittedLaws.{permitted-book, permitted-exists, row-says}

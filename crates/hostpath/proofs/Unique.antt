@@ -7,9 +7,9 @@ use Rattle.text.specs.OutcomeLaws.{agree}
 use Rattle.book.specs.Book.{Current}
 use Rattle.book.specs.BookLaws.{lawful}
 use Rattle.book.specs.OutcomeLaws.{one-changed, one-found, one-made}
-use Rattle.convert.specs.ConvertLaws.{one-converted}
-use Rattle.oldest.specs.OldestLaws.{one-oldest}
-use Rattle.table.specs.OneLaws.{one-fills, one-many}
+use Rattle.book_convert.specs.ConvertLaws.{one-converted}
+use Rattle.book_oldest.specs.OldestLaws.{one-oldest}
+use Rattle.book_table.specs.OneLaws.{one-fills, one-many}
 use Rattle.hostpath.proofs.hp_validate_identifier_chars.Reads as hp-validate-identifier-chars
 use Rattle.hostpath.proofs.hp_validate_identifier_length.Reads as hp-validate-identifier-length
 use Rattle.hostpath.proofs.hp_validate_prefix_length.Reads as hp-validate-prefix-length

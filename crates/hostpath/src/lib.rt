@@ -1,10 +1,10 @@
 // The C interface: what a program that is not Rattle's calls. Each function only hands its arguments on.
 // `bin/interface` makes of this file what declares and calls the interface elsewhere. The comment above a function says what
 // it gives and its refusals in the order in which they are looked for; a comment that stands alone heads what follows.
+use book_records::Manner;
 use identifiers::channel_id::write_channel_id;
 use identifiers::client_id::write_client_id;
 use identifiers::validate;
-use keys::Manner;
 use packet::Packet;
 use path::Pair;
 use path::Revision;
@@ -34,12 +34,12 @@ ghost use Rattle.wide.specs.Mode.{wide};
 ghost use Rattle.wide.specs.Check.{charsIn, lengthIn, prefixLengthIn, namedIndexFaultIn, checkIn, faultIn, newClientIn};
 ghost use Rattle.wide.specs.Read.{readFaultIn, readingBytesIn, keyIn as wideKeyIn};
 ghost use Rattle.wide.specs.Render.{renderIn, textIn};
-ghost use Rattle.keys.specs.declared.Manner.the-variants.{Plain, Lenient};
+ghost use Rattle.book_records.specs.declared.Manner.the-variants.{Plain, Lenient};
 ghost use Rattle.book.specs.Book.{Current};
 ghost use Rattle.book.specs.Outcome.{Wrote, Removed, Looked, Made};
-ghost use Rattle.convert.specs.Convert.{Converted};
-ghost use Rattle.oldest.specs.Oldest.{Oldest};
-ghost use Rattle.table.specs.Many.{Fills, LooksMany};
+ghost use Rattle.book_convert.specs.Convert.{Converted};
+ghost use Rattle.book_oldest.specs.Oldest.{Oldest};
+ghost use Rattle.book_table.specs.Many.{Fills, LooksMany};
 
 // Identifier checks.
 
@@ -612,7 +612,7 @@ pub extern "C" fn hp_book_lookup_lenient(book: &[u8], text: &[u8], out: &mut [u8
 pub extern "C" fn hp_book_oldest(book: &[u8], client: &[u8]) -> Pair
     ensures { λ r. ⌜ Oldest Current (now (book .entry)) (now (client .entry)) r ⌝ }
 {
-    oldest::oldest(book, client)
+    book_oldest::oldest(book, client)
 }
 
 // Makes the second buffer, whatever it holds, the book of version 2 that has the slots and the records of `old`, a book
@@ -621,7 +621,7 @@ pub extern "C" fn hp_book_oldest(book: &[u8], client: &[u8]) -> Pair
 pub extern "C" fn hp_book_convert(old: &[u8], book: &mut [u8]) -> u8
     ensures { λ r. ⌜ Converted (now (old .entry)) (now (book .entry)) r (now (book .exit)) ⌝ }
 {
-    convert::convert(old, book)
+    book_convert::convert(old, book)
 }
 
 // Fills the first 512 bytes of the table with the buckets by which the book's records are found: 9, 4.
@@ -629,7 +629,7 @@ pub extern "C" fn hp_book_convert(old: &[u8], book: &mut [u8]) -> u8
 pub extern "C" fn hp_book_fill(book: &[u8], table: &mut [u8]) -> u8
     ensures { λ r. ⌜ Fills Current (now (book .entry)) (now (table .entry)) r (now (table .exit)) ⌝ }
 {
-    table::many::fill(book, table)
+    book_table::many::fill(book, table)
 }
 
 // What hp_book_lookup gives for each text of `texts`, which byte 10 ends, by a table of 512 bytes that was filled from this book
@@ -644,7 +644,7 @@ pub extern "C" fn hp_book_lookup_many(
 ) -> Written
     ensures { λ r. ⌜ LooksMany Current (now (book .entry)) (now (table .entry)) (now (texts .entry)) (now (out .entry)) r (now (out .exit)) ⌝ }
 {
-    table::many::look_many(book, table, texts, out)
+    book_table::many::look_many(book, table, texts, out)
 }
 
 // What refusals mean.

@@ -8,7 +8,8 @@ use mathlib.Core.List.{List, [], _∷_, _++_}
 use mathlib.Core.Option.{Option, none, some}
 use lib.Dec.{eqb}
 use lib.ListN.{length, take, drop}
-use Rattle.text.specs.Refusal.{noRecord, badBlock}
+use Rattle.text.specs.Refusal.{badBlock}
+use Rattle.text.specs.Refusal as refusal
 use Rattle.path.specs.declared.Revision.{Revision}
 use Rattle.path.specs.Revision.{below}
 use Rattle.iteration.specs.declared.KeyAnswer.{KeyAnswer}
@@ -64,7 +65,7 @@ lastBelow p (q ∷ qs) = orElse (lastBelow p qs) (cond (below q p) (some q) none
 -- what a scan answers: 16 where there is no block, 12 where none of its keys qualifies
 abbrev pub scanned : (List Revision → Option Revision) → Option (List Revision) → KeyAnswer
 scanned f none = Refused badBlock
-scanned f (some ps) = answered noRecord (f ps)
+scanned f (some ps) = answered refusal.absent (f ps)
 
 -- ---- what is said of blocks beside the calls
 -- q is one of the revisions

@@ -61,7 +61,7 @@ pub fn fault(text: &[u8]) -> Refusal
     ensures { λ r. ⌜ r ≡ cond (ascii (now (text .entry))) (whyNot (now (text .entry))) NotAscii ⌝ }
 {
     if text::part::all_ascii(text) {
-        faults::number_fault(text)
+        read_faults::number_fault(text)
     } else {
         Refusal::NotAscii
     }
@@ -75,7 +75,7 @@ pub fn read_path(text: &[u8]) -> Reading
     if 4096 < text.len() {
         return Reading::Refused(Refusal::TooLong);
     }
-    let PathAnswer::Found(path) = parse::parse_path(text) else {
+    let PathAnswer::Found(path) = read_kinds::parse_path(text) else {
         return Reading::Refused(fault(text));
     };
     let v = path::view(path);

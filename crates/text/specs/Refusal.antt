@@ -44,12 +44,12 @@ abbrev pub keyTooLong : ℕ
 keyTooLong = 10
 
 -- FULL: no free slot for a new key
-abbrev pub noSlot : ℕ
-noSlot = 11
+abbrev pub full : ℕ
+full = 11
 
 -- ABSENT: no record of the key
-abbrev pub noRecord : ℕ
-noRecord = 12
+abbrev pub absent : ℕ
+absent = 12
 
 -- `/` in an upgrade path
 abbrev pub badSegment : ℕ
@@ -108,8 +108,8 @@ sentences =
     ∷ (badPrefix, bytes "the identifier is not its name, a dash and a number without leading zeros: write it as in channel-7")
     ∷ (badBook, bytes "the buffer holds no book of the version that the call takes: make a new one in it, or convert a book of version 1")
     ∷ (keyTooLong, bytes "the path's key has more than the 255 bytes that a book keeps: shorten its upgrade path")
-    ∷ (noSlot, bytes "every slot of the book holds another key: remove a record, or take a book of more slots")
-    ∷ (noRecord, bytes "the book holds no such record, or the block no such key: ask for the key of the text to see which record was looked for")
+    ∷ (full, bytes "every slot of the book holds another key: remove a record, or take a book of more slots")
+    ∷ (absent, bytes "the book holds no such record, or the block no such key: ask for the key of the text to see which record was looked for")
     ∷ (badSegment, bytes "the upgrade path has a slash: give it as one piece, such as upgradedIBCState")
     ∷ (badKind, bytes "the kind is not a number from 1 to 19: take it from the table of kinds")
     ∷ (badIterKey, bytes "the bytes are not iterateConsensusStates and 16 more, 38 in all: give one whole iteration key")

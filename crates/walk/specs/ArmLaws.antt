@@ -13,11 +13,11 @@ use Rattle.path.specs.Text.{nowhere}
 use Rattle.path.specs.Kinds.{Part, word, name, count, carried, kinds, kind1, kind2, kind3, kind9, kind10, kind11, kind12, kind13, kind14, kind15, kind16, kind17}
 use Rattle.path.specs.Read.{readFirst}
 use Rattle.path.specs.ReadLaws.{kind-has}
-use Rattle.scan.specs.Tail.{none, some, tailOf}
-use Rattle.scan.specs.TailLaws.{word-more, word-last, word-longer}
-use Rattle.families.specs.declared.Walked.{Walked}
-use Rattle.families.specs.Walked.{nothing, read, walked, flat, counters, listed, clientKinds, endsParts, packetParts}
-use Rattle.families.specs.FlatLaws.{skip, none-left}
+use Rattle.walk_scan.specs.Tail.{none, some, tailOf}
+use Rattle.walk_scan.specs.TailLaws.{word-more, word-last, word-longer}
+use Rattle.walk_families.specs.declared.Walked.{Walked}
+use Rattle.walk_families.specs.Walked.{nothing, read, walked, flat, counters, listed, clientKinds, endsParts, packetParts}
+use Rattle.walk_families.specs.FlatLaws.{skip, none-left}
 use Rattle.walk.specs.Opening.{NoneOf, openings}
 use Rattle.walk.specs.OpenLaws.{single, only, only-listed, rest-listed, shut, after-ports}
 

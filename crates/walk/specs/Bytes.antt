@@ -6,7 +6,7 @@ use Rattle.text.specs.declared.Fault.{Fault}
 use Rattle.text.specs.Put.{text, answer}
 use Rattle.path.specs.declared.PathView.{PathView}
 use Rattle.reader.specs.Encode.{viewBytes}
-use Rattle.families.specs.declared.Walked.{Walked}
+use Rattle.walk_families.specs.declared.Walked.{Walked}
 
 abbrev pub viewed : Walked → PathView
 viewed w = record { kind = w .kind; first = w .first; second = w .second; a = w .a; b = w .b }

@@ -11,8 +11,8 @@ use Rattle.path.specs.declared.Reading.the-variants.{Read}
 use Rattle.path.specs.Kinds.{kinds}
 use Rattle.path.specs.Read.{readFirst, readingBytes, readFault}
 use Rattle.reader.specs.EncodeLaws.{bytes-read, fault-read, answer-reading, bytes-reading}
-use Rattle.families.specs.declared.Walked.{Walked}
-use Rattle.families.specs.Walked.{flat}
+use Rattle.walk_families.specs.declared.Walked.{Walked}
+use Rattle.walk_families.specs.Walked.{flat}
 use Rattle.walk.specs.Bytes.{viewed, walkBytes, putFault}
 use Rattle.walk.specs.ViewLaws.{view-read}
 

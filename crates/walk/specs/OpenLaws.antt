@@ -18,11 +18,11 @@ use Rattle.path.specs.Kinds.{Part, word, name, count, pair, Carried, Kind, kind
 use Rattle.path.specs.Read.{readFirst}
 use Rattle.path.specs.Reads.{Has, here}
 use Rattle.path.specs.View.{kindOf}
-use Rattle.scan.specs.Tail.{Tail, none, some, tailOf}
-use Rattle.scan.specs.TailLaws.{word-more, word-other}
-use Rattle.families.specs.declared.Walked.{Walked}
-use Rattle.families.specs.Walked.{nothing, walked, flat, listed, clientKinds, endsParts, packetParts}
-use Rattle.families.specs.FlatLaws.{skip, found, none-left}
+use Rattle.walk_scan.specs.Tail.{Tail, none, some, tailOf}
+use Rattle.walk_scan.specs.TailLaws.{word-more, word-other}
+use Rattle.walk_families.specs.declared.Walked.{Walked}
+use Rattle.walk_families.specs.Walked.{nothing, walked, flat, listed, clientKinds, endsParts, packetParts}
+use Rattle.walk_families.specs.FlatLaws.{skip, found, none-left}
 use Rattle.walk.specs.Opening.{NoneOf}
 
 pub false-true : {P : Type 0} → false ≡ true → P

@@ -8,9 +8,9 @@ use lib.ListN.{length, drop}
 use Rattle.text.specs.Bytes.{bytes}
 use Rattle.text.specs.Part.{startsWith}
 use Rattle.path.specs.Read.{readFirst}
-use Rattle.scan.specs.Tail.{tailOf}
-use Rattle.families.specs.declared.Walked.{Walked}
-use Rattle.families.specs.Walked.{walked, flat, listed, endsOf}
+use Rattle.walk_scan.specs.Tail.{tailOf}
+use Rattle.walk_families.specs.declared.Walked.{Walked}
+use Rattle.walk_families.specs.Walked.{walked, flat, listed, endsOf}
 use Rattle.walk.specs.declared.opening.Opening.{Opening}
 
 -- a text that starts with none of hs

@@ -10,10 +10,10 @@ use Rattle.text.specs.Bytes.{bytes}
 use Rattle.text.specs.Part.{startsWith}
 use Rattle.text.specs.PartLaws.{and-left, and-right}
 use Rattle.path.specs.Read.{readFirst}
-use Rattle.scan.specs.Tail.{tailOf}
-use Rattle.scan.specs.WordLaws.{starts-room}
-use Rattle.families.specs.declared.Walked.{Walked}
-use Rattle.families.specs.Walked.{walked, flat, listed, endsOf}
+use Rattle.walk_scan.specs.Tail.{tailOf}
+use Rattle.walk_scan.specs.WordLaws.{starts-room}
+use Rattle.walk_families.specs.declared.Walked.{Walked}
+use Rattle.walk_families.specs.Walked.{walked, flat, listed, endsOf}
 use Rattle.walk.specs.declared.opening.Opening.{Opening}
 use Rattle.walk.specs.Opening.{NoneOf, openings, shown, Opens}
 use Rattle.walk.specs.ArmLaws.{is-11, is-12, is-13, is-14, is-15, is-16, is-17}

@@ -22,10 +22,10 @@ use Rattle.path.specs.Reads.{kindAt}
 use Rattle.path.specs.ReadLaws.{is-reads, made-range, path-made}
 use Rattle.path.specs.AsciiLaws.{first-low, kinds-low}
 use Rattle.path.specs.View.{kindOf, carriedOf, seen, viewOf}
-use Rattle.pieces.specs.CountLaws.{read-append}
+use Rattle.read_pieces.specs.CountLaws.{read-append}
 use Rattle.reader.specs.ReadingLaws.{no-path}
-use Rattle.families.specs.declared.Walked.{Walked}
-use Rattle.families.specs.Walked.{nothing, flat, counters, listed, upgrades}
+use Rattle.walk_families.specs.declared.Walked.{Walked}
+use Rattle.walk_families.specs.Walked.{nothing, flat, counters, listed, upgrades}
 
 -- ---- a table in two parts
 path-kind : (p : Path) → kindOf p ≡ 0 → ⊥

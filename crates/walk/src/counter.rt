@@ -1,18 +1,18 @@
 // Kinds 1 to 3, which are a word each: the length of a text chooses the one that it can be.
-use families::Walked;
-use families::bare;
-use families::no_path;
+use walk_families::Walked;
+use walk_families::bare;
+use walk_families::no_path;
 ghost use mathlib.Core.Path.{_≡_};
 ghost use lib.ListN.{length};
 ghost use Rattle.path.specs.Read.{readFirst};
-ghost use Rattle.families.specs.Walked.{flat, counters};
+ghost use Rattle.walk_families.specs.Walked.{flat, counters};
 
 // Kind 1.
 fn next_client(text: &[u8]) -> Walked
     requires { ⌜ length (now text) ≡ 18 ⌝ }
     ensures { λ r. ⌜ r ≡ flat (now (text .entry)) (readFirst counters (now (text .entry))) ⌝ }
 {
-    if words::is_next_client_sequence(text, 0) {
+    if walk_words::is_next_client_sequence(text, 0) {
         return bare(1, 0, 0);
     }
     no_path()
@@ -23,7 +23,7 @@ fn next_connection(text: &[u8]) -> Walked
     requires { ⌜ length (now text) ≡ 22 ⌝ }
     ensures { λ r. ⌜ r ≡ flat (now (text .entry)) (readFirst counters (now (text .entry))) ⌝ }
 {
-    if words::is_next_connection_sequence(text, 0) {
+    if walk_words::is_next_connection_sequence(text, 0) {
         return bare(2, 0, 0);
     }
     no_path()
@@ -34,7 +34,7 @@ fn next_channel(text: &[u8]) -> Walked
     requires { ⌜ length (now text) ≡ 19 ⌝ }
     ensures { λ r. ⌜ r ≡ flat (now (text .entry)) (readFirst counters (now (text .entry))) ⌝ }
 {
-    if words::is_next_channel_sequence(text, 0) {
+    if walk_words::is_next_channel_sequence(text, 0) {
         return bare(3, 0, 0);
     }
     no_path()

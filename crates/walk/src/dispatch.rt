@@ -1,26 +1,26 @@
 // The family of a text, chosen by its first eight bytes.
 use crate::opening::find_opening;
-use families::Walked;
-use families::client::client;
-use families::ends::after_ports;
-use families::name::connection;
-use families::name::port;
-use families::no_path;
+use walk_families::Walked;
+use walk_families::client::client;
+use walk_families::ends::after_ports;
+use walk_families::name::connection;
+use walk_families::name::port;
+use walk_families::no_path;
 ghost use mathlib.Core.Path.{_≡_};
 ghost use mathlib.Core.Bool.{true};
 ghost use Rattle.text.specs.Bytes.{bytes};
 ghost use Rattle.text.specs.Part.{startsWith};
 ghost use Rattle.path.specs.Kinds.{kind10};
 ghost use Rattle.path.specs.Read.{readFirst};
-ghost use Rattle.scan.specs.Tail.{tailOf};
-ghost use Rattle.families.specs.Walked.{walked, flat, listed};
+ghost use Rattle.walk_scan.specs.Tail.{tailOf};
+ghost use Rattle.walk_families.specs.Walked.{walked, flat, listed};
 
 // Kind 9.
 fn connections(text: &[u8]) -> Walked
     requires { ⌜ startsWith (bytes "connecti") (now text) ≡ true ⌝ }
     ensures { λ r. ⌜ r ≡ flat (now (text .entry)) (readFirst listed (now (text .entry))) ⌝ }
 {
-    if words::is_connections(text, 0) {
+    if walk_words::is_connections(text, 0) {
         return connection(text, 12);
     }
     no_path()
@@ -30,7 +30,7 @@ fn connections(text: &[u8]) -> Walked
 fn ports(text: &[u8]) -> Walked
     ensures { λ r. ⌜ r ≡ walked 10 (tailOf (kind10 .parts) 0 (now (text .entry))) ⌝ }
 {
-    if words::is_ports(text, 0) {
+    if walk_words::is_ports(text, 0) {
         return port(text, 6);
     }
     no_path()
@@ -40,14 +40,14 @@ fn ports(text: &[u8]) -> Walked
 pub(crate) fn by_word(text: &[u8]) -> Walked
     ensures { λ r. ⌜ r ≡ flat (now (text .entry)) (readFirst listed (now (text .entry))) ⌝ }
 {
-    if words::is_clients_open(text, 0) {
+    if walk_words::is_clients_open(text, 0) {
         return client(text);
     }
     let o = find_opening(text);
     if o.kind != 0 {
         return after_ports(text, o.at, o.kind);
     }
-    if words::is_head_connections(text, 0) {
+    if walk_words::is_head_connections(text, 0) {
         return connections(text);
     }
     ports(text)

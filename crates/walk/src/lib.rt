@@ -5,21 +5,21 @@ mod opening;
 mod typed;
 
 use crate::counter::counter;
-use families::Walked;
-use families::upgrade::upgrade;
 use path::PathView;
 use path::Reading;
 use path::Refusal;
 use reader::encode::write_view;
 use reader::fault;
 use text::Fault;
+use walk_families::Walked;
+use walk_families::upgrade::upgrade;
 ghost use mathlib.Core.Path.{_≡_};
 ghost use mathlib.Core.List.{_++_};
 ghost use lib.ListN.{length};
 ghost use Rattle.text.specs.Put.{text, left};
 ghost use Rattle.path.specs.Kinds.{kinds};
 ghost use Rattle.path.specs.Read.{readFirst, readPath, readingBytes, readFault};
-ghost use Rattle.families.specs.Walked.{flat, listed, upgrades};
+ghost use Rattle.walk_families.specs.Walked.{flat, listed, upgrades};
 ghost use Rattle.walk.specs.Bytes.{walkBytes, putFault};
 
 // Kinds 4 to 19: 18 and 19 get their turn wherever no other kind is read.

@@ -1,5 +1,4 @@
 // The typed path of a walk.
-use families::Walked;
 use path::ChannelPlaces;
 use path::ClientPlaces;
 use path::ConnectionPlaces;
@@ -12,6 +11,7 @@ use path::RevisionHeight;
 use path::RevisionNumber;
 use path::Sequence;
 use path::UpgradePlaces;
+use walk_families::Walked;
 ghost use mathlib.Core.Path.{_≡_};
 ghost use Prim.Native.Nat.{_≤_};
 ghost use Rattle.path.specs.Kinds.{carried};

@@ -1,8 +1,8 @@
 -- `book::lookup` meets its contract.
 -- Assumes nothing.
 use mathlib.Core.Path.{refl}
-use Rattle.keys.specs.Calls.{to-look}
-use Rattle.keys.specs.TextLaws.{look-short}
+use Rattle.book_records.specs.Calls.{to-look}
+use Rattle.book_records.specs.TextLaws.{look-short}
 use Rattle.book.specs.Book.{Current}
 use Rattle.book.specs.FindLaws.{looked-refused}
 use Rattle.book.specs.OpenLaws.{open-found, open-counts, open-keyed}

@@ -1,7 +1,7 @@
 -- `book::remove` meets its contract.
 -- Assumes nothing.
 use mathlib.Core.Path.{refl}
-use Rattle.keys.specs.Calls.{to-remove}
+use Rattle.book_records.specs.Calls.{to-remove}
 use Rattle.book.specs.OpenLaws.{open-changed, open-counts, open-keyed}
 use Rattle.book.specs.RecordLaws.{remove-text}
 use borrow.Author.Needs.{needs}

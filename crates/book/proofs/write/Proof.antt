@@ -1,8 +1,8 @@
 -- `book::write` meets its contract.
 -- Assumes nothing.
 use mathlib.Core.Path.{refl}
-use Rattle.keys.specs.Calls.{to-write}
-use Rattle.keys.specs.TextLaws.{write-bad}
+use Rattle.book_records.specs.Calls.{to-write}
+use Rattle.book_records.specs.TextLaws.{write-bad}
 use Rattle.book.specs.Book.{Current}
 use Rattle.book.specs.FindLaws.{changed-refused}
 use Rattle.book.specs.OpenLaws.{open-changed, open-counts, open-keyed}

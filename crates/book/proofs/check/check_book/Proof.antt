@@ -2,8 +2,8 @@
 -- Assumes nothing.
 use mathlib.Core.Path.{sym, _∙_}
 use borrow.Author.Tests.{not-true, not-false}
-use Rattle.form.specs.Version.{formOf}
-use Rattle.form.specs.VersionLaws.{version-lawful}
+use Rattle.book_form.specs.Version.{formOf}
+use Rattle.book_form.specs.VersionLaws.{version-lawful}
 use Rattle.book.specs.CheckLaws.{framed, frame-room, no-good, no-rising, no-rest, to-book}
 use borrow.Author.Needs.{needs}
 use Rattle.book.proofs.check.check_book.Statement.{statement}

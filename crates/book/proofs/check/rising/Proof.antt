@@ -2,10 +2,10 @@
 -- Assumes nothing.
 use Prim.Native.Nat.{ℕ, _+_, _-_, _<_, _≤_}
 use borrow.Author.Count.{below-more}
-use Rattle.form.specs.FormLaws.{place-up}
-use Rattle.form.specs.Tells.{tells-true, tells-false}
-use Rattle.form.specs.Version.{formOf}
-use Rattle.form.specs.VersionLaws.{version-lawful}
+use Rattle.book_form.specs.FormLaws.{place-up}
+use Rattle.book_form.specs.Tells.{tells-true, tells-false}
+use Rattle.book_form.specs.Version.{formOf}
+use Rattle.book_form.specs.VersionLaws.{version-lawful}
 use Rattle.book.specs.Check.{Rises}
 use Rattle.book.specs.CheckWayLaws.{rises-yes, rises-no}
 use native.Mathlib.Omega.{arith}

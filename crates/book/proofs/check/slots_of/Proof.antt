@@ -1,8 +1,8 @@
 -- `book::check::slots_of` meets its contract.
 -- Assumes nothing.
 use mathlib.Core.Path.{refl}
-use Rattle.form.specs.Version.{formOf}
-use Rattle.form.specs.VersionLaws.{version-lawful}
+use Rattle.book_form.specs.Version.{formOf}
+use Rattle.book_form.specs.VersionLaws.{version-lawful}
 use Rattle.book.specs.SizeLaws.{slots-short, slots-odd, slots-many, slots-are}
 use borrow.Author.Needs.{needs}
 use Rattle.book.proofs.check.slots_of.Statement.{statement}

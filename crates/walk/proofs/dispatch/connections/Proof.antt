@@ -2,7 +2,7 @@
 -- Assumes nothing.
 use mathlib.Core.Path.{sym, _∙_}
 use Rattle.text.specs.Bytes.{bytes}
-use Rattle.scan.specs.WordLaws.{starts-room}
+use Rattle.walk_scan.specs.WordLaws.{starts-room}
 use Rattle.walk.specs.ArmLaws.{is-9, not-9}
 use borrow.Author.Needs.{needs}
 use Rattle.walk.proofs.dispatch.connections.Statement.{statement}

@@ -1,0 +1,3 @@
+-- What the contracts of `book_convert` cite. Files that end in `Laws` hold consequences, which a reader may skip.
+pub mod Convert
+pub mod ConvertLaws

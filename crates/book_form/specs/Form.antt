@@ -1,0 +1,60 @@
+-- A form of the book: how the header and a record stand in bytes, and so the whole book. Each version is a form (Version).
+-- Assumes nothing.
+use mathlib.Core.Path.{_≡_}
+use mathlib.Core.List.{List, [], _∷_, _++_}
+use Prim.Native.Nat.{ℕ, suc, _+_, _*_, _-_}
+use lib.ListN.{length, take, drop, replicate}
+use Rattle.text.specs.Put.{put}
+use Rattle.book_records.specs.Records.{Key}
+use Rattle.book_records.specs.Act.{Rec}
+use Rattle.book_form.specs.Moves.{raised, lowered}
+
+abbrev pub zeros : ℕ → List ℕ
+zeros n = replicate n 0
+
+pub record Form : Type 1 where
+  -- what the header says besides the number of records
+  pub Extra : Type 0
+  -- the header's bytes, for a number of records, and how many bytes these are
+  pub header : Extra → ℕ → List ℕ
+  pub head : ℕ
+  -- the records that a slot can hold, the bytes of a slot, and how many bytes these are
+  pub Fit : Rec → Type 0
+  pub slot : Rec → List ℕ
+  pub width : ℕ
+  -- the record in the slot at the front of some bytes
+  pub recordOf : List ℕ → Rec
+
+module _ (F : Form) where
+  abbrev pub AllFit : List Rec → Type 0
+  AllFit [] = Unit {0}
+  AllFit (r ∷ rs) = F .Fit r × AllFit rs
+
+  unfoldable pub slots : List Rec → List ℕ
+  slots [] = []
+  slots (r ∷ rs) = F .slot r ++ slots rs
+
+  -- the bytes of the book with room for C records that holds these
+  unfoldable pub layout : ℕ → F .Extra → List Rec → List ℕ
+  layout C e rs = F .header e (length rs) ++ (slots rs ++ zeros (F .width * (C - length rs)))
+
+  -- where slot i starts, and the key in it
+  abbrev pub place : ℕ → ℕ
+  place i = F .head + F .width * i
+
+  abbrev pub keyAt : List ℕ → ℕ → Key
+  keyAt b i = F .recordOf (drop (place i) b) .0
+
+  -- the slot at the front of some bytes is a record's, filled with zeros
+  pub record SlotOk (x : List ℕ) : Type 0 where
+    pub bytes : take (F .width) x ≡ F .slot (F .recordOf x)
+    pub fit : F .Fit (F .recordOf x)
+
+  -- A record put in at slot p of n: the slots after it move up, its slot is written, and the header is written again.
+  unfoldable pub inserted : F .Extra → ℕ → ℕ → List ℕ → Rec → List ℕ
+  inserted e p n b r = put (put (raised (place p) (place n) (F .width) b) (place p) (F .slot r)) 0 (F .header e (suc n))
+
+  -- The record of slot p taken out, so that n are left: the slots after it move down, the last slot is cleared, and the header is written
+  -- again.
+  unfoldable pub removed : F .Extra → ℕ → ℕ → List ℕ → List ℕ
+  removed e p n b = put (put (lowered (place (suc p)) (place (suc n)) (F .width) b) (place n) (zeros (F .width))) 0 (F .header e n)

@@ -1,0 +1,77 @@
+// The key of a call: the rendering of its text, owned, in the field of 255 bytes that a book keeps.
+use book_records::Manner;
+use key::write_read;
+use path::Reading;
+use text::Written;
+use text::refusal::KEY_TOO_LONG;
+use text::refusal::LOOSE;
+use text::refusal::NO_ROOM;
+use walk::walk_path;
+ghost use mathlib.Core.Path.{_≡_};
+ghost use lib.ListN.{length};
+ghost use Rattle.text.specs.Put.{left};
+ghost use Rattle.book_records.specs.Calls.{isLoose, keyFor, keyAnswer};
+ghost use Rattle.book_key.specs.Field.{madeKey};
+
+// A key: its bytes, zero after the last, and their number.
+pub struct Key {
+    pub bytes: [u8; 255],
+    pub len: usize,
+}
+
+// The key of a text, or a refusal number beside an empty one.
+pub struct MadeKey {
+    pub refusal: u8,
+    pub key: Key,
+}
+
+// Whether a call of that manner refuses what was read for its spelling.
+fn is_loose(manner: Manner, reading: Reading) -> bool
+    ensures { λ r. ⌜ r ≡ isLoose manner reading ⌝ }
+{
+    let Reading::Read { path: _, exact } = reading else {
+        return false;
+    };
+    match manner {
+        Manner::Plain => !exact,
+        Manner::Lenient => false,
+    }
+}
+
+// Writes the key of a text into a field of 255 bytes: 1, 2, 3, in a plain call 20, 10. A refusal leaves the field as it was.
+fn key_into(manner: Manner, text: &[u8], field: &mut [u8]) -> Written
+    requires { ⌜ length (now field) ≡ 255 ⌝ }
+    ensures { λ r. ⌜ r ≡ keyAnswer (keyFor manner (now (text .entry))) ⌝ }
+    ensures { λ _. ⌜ now (field .exit) ≡ left (keyFor manner (now (text .entry))) (now (field .entry)) ⌝ }
+{
+    let reading = walk_path(text);
+    if is_loose(manner, reading) {
+        return Written {
+            refusal: LOOSE,
+            length: 0,
+        };
+    }
+    let w = write_read(text, reading, field);
+    if w.refusal == NO_ROOM {
+        return Written {
+            refusal: KEY_TOO_LONG,
+            length: 0,
+        };
+    }
+    w
+}
+
+// The key of a text in a call of that manner: 1, 2, 3 (17, 18, 19), in a plain call 20, 10.
+pub fn key_of(manner: Manner, text: &[u8]) -> MadeKey
+    ensures { λ r. ⌜ r ≡ madeKey (keyFor manner (now (text .entry))) ⌝ }
+{
+    let mut bytes = [0u8; 255];
+    let made = key_into(manner, text, &mut bytes);
+    MadeKey {
+        refusal: made.refusal,
+        key: Key {
+            bytes,
+            len: made.length as usize,
+        },
+    }
+}

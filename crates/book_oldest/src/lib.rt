@@ -1,0 +1,125 @@
+// The oldest state of a client.
+use book::check::BookAnswer;
+use book::check::check_book;
+use book::find::place;
+use book_form::HEAD;
+use book_form::SLOT;
+use book_form::Version;
+use book_form::key_at;
+use path::Pair;
+use path::Reading;
+use path::Revision;
+use path::RevisionHeight;
+use path::RevisionNumber;
+use path::is_below;
+use text::part::same_at;
+use text::refusal::ABSENT;
+use text::refusal::BAD_BOOK;
+use writers::parents::write_consensus_parent;
+ghost use mathlib.Core.Path.{_≡_};
+ghost use Prim.Native.Nat.{_≤_};
+ghost use lib.ListN.{length};
+ghost use Rattle.writers.specs.Texts.{parentText};
+ghost use Rattle.book.specs.Book.{Current, Counts};
+ghost use Rattle.book_oldest.specs.Oldest.{stateOf, older, OldestIs, Oldest};
+
+pub enum StateAnswer {
+    State(Revision),
+    Nothing,
+}
+
+// The revision in a key, where it is a state of the client.
+fn state_in(key: &[u8], client: &[u8]) -> StateAnswer
+    ensures { λ r. ⌜ r ≡ stateOf (now (client .entry)) (now (key .entry)) ⌝ }
+{
+    let Reading::Read { path, exact: _ } = walk::walk_path(key) else {
+        return StateAnswer::Nothing;
+    };
+    let v = path::view(path);
+    let kind = v.kind;
+    if kind != 5 {
+        return StateAnswer::Nothing;
+    }
+    if !text::part::equal(reader::part(key, v.first), client) {
+        return StateAnswer::Nothing;
+    }
+    StateAnswer::State(Revision {
+        number: RevisionNumber(v.a),
+        height: RevisionHeight(v.b),
+    })
+}
+
+// The lower one, where there are two.
+fn older(x: StateAnswer, y: StateAnswer) -> StateAnswer
+    ensures { λ r. ⌜ r ≡ older x y ⌝ }
+{
+    let StateAnswer::State(p) = x else {
+        return y;
+    };
+    let StateAnswer::State(q) = y else {
+        return x;
+    };
+    if is_below(q, p) {
+        return y;
+    }
+    x
+}
+
+// The oldest state of the client in a book with n records. All its states stand below `parent`, so together in key order.
+fn oldest_below(book: &[u8], n: usize, client: &[u8], parent: &[u8]) -> StateAnswer
+    requires { ⌜ Counts Current (now book) n ⌝ }
+    requires { ⌜ now parent ≡ parentText (now client) ⌝ }
+    ensures { λ r. ⌜ OldestIs Current (now (book .entry)) (now (client .entry)) r ⌝ }
+{
+    let mut best = StateAnswer::Nothing;
+    let mut i = place(book, n, parent);
+    while i < n && same_at(key_at(book, HEAD + SLOT * i), 0, parent) {
+        best = older(best, state_in(key_at(book, HEAD + SLOT * i), client));
+        i += 1;
+    }
+    best
+}
+
+// The same, for a client of at most 64 bytes.
+fn oldest_state(book: &[u8], n: usize, client: &[u8]) -> StateAnswer
+    requires { ⌜ Counts Current (now book) n ⌝ }
+    requires { ⌜ length (now client) ≤ 64 ⌝ }
+    ensures { λ r. ⌜ OldestIs Current (now (book .entry)) (now (client .entry)) r ⌝ }
+{
+    let mut field = [0; 88];
+    let end = write_consensus_parent(&mut field, 0, client);
+    oldest_below(book, n, client, &field[0..end])
+}
+
+// The oldest state of a client: 9, the client checks, 12.
+pub fn oldest(book: &[u8], client: &[u8]) -> Pair
+    ensures { λ r. ⌜ Oldest Current (now (book .entry)) (now (client .entry)) r ⌝ }
+{
+    let BookAnswer::Count(n) = check_book(book, Version::Two) else {
+        return Pair {
+            refusal: BAD_BOOK,
+            number: 0,
+            height: 0,
+        };
+    };
+    let refusal = identifiers::validate::validate_client_identifier(client);
+    if refusal != 0 {
+        return Pair {
+            refusal,
+            number: 0,
+            height: 0,
+        };
+    }
+    let StateAnswer::State(p) = oldest_state(book, n, client) else {
+        return Pair {
+            refusal: ABSENT,
+            number: 0,
+            height: 0,
+        };
+    };
+    Pair {
+        refusal: 0,
+        number: p.number.0,
+        height: p.height.0,
+    }
+}

@@ -1,0 +1,210 @@
+-- Calls on a book's records are independent of each other: an answer and what a key holds go by the calls on that key alone.
+-- Assumes nothing.
+use mathlib.Core.Path.{_≡_, refl, sym, ap, _∙_}
+use mathlib.Core.Bool.{Bool, true, false}
+use mathlib.Core.List.{List, List-discrete}
+use mathlib.Core.Option.{Option, none, some}
+use Prim.Native.Nat.{ℕ, _+_, _-_, _≤_}
+use native.Mathlib.Decide.{ℕ-discrete}
+use native.Mathlib.Omega.{arith}
+use lib.Dec.{eqb}
+use borrow.Author.Tests.{eqb-true, eqb-false}
+use Rattle.runs.specs.Total.{total}
+use Rattle.runs.specs.CellLaws.{pick, pick-yes, pick-no}
+use Rattle.book_records.specs.Records.{Key, get, put, del, Sorted}
+use Rattle.book_records.specs.RecordLaws.{get-put-same, get-put-other, get-del-same, get-del-other, sorted-put, sorted-del, total-put-new, total-put-old, total-del}
+use Rattle.book_records.specs.Act.{Rec, Meaning, refuses, writes, removes, looks, Answer, says, done, gives, addTo, takeFrom, lookIn, act}
+
+abbrev pub keyIn : Meaning → Option Key
+keyIn (refuses n) = none
+keyIn (writes k v) = some k
+keyIn (removes k) = some k
+keyIn (looks k) = some k
+
+-- an answer from what the key holds: 12 ABSENT is given exactly when it holds nothing
+abbrev pub ansOf : Meaning → Option (List ℕ) → Answer
+ansOf (refuses n) x = says n
+ansOf (writes k v) x = done
+ansOf (removes k) none = says 12
+ansOf (removes k) (some u) = done
+ansOf (looks k) none = says 12
+ansOf (looks k) (some u) = gives u
+
+abbrev pub effOf : Meaning → Option (List ℕ) → Option (List ℕ)
+effOf (refuses n) x = x
+effOf (writes k v) x = some v
+effOf (removes k) x = none
+effOf (looks k) x = x
+
+pub dec-some : (o : Option Key) (k : Key) → Dec (o ≡ some k)
+dec-some none k = no (λ e. let z : _≡_ {A = ℕ} 0 1 = cc in omega arith)
+dec-some (some j) k = go (List-discrete ℕ-discrete j k)
+  where
+    go : Dec (j ≡ k) → Dec (some j ≡ some k)
+    go (yes e) = yes (ap {B = Option Key} some e)
+    go (no n) = no (λ e. n (let z : j ≡ k = cc in z))
+
+-- Each key's record is paid from a purse. A book with one owner has one purse, with C slots; one with owners has a purse for each.
+module _ {Purse : Type 0} (purse : Key → Purse) (samePurse : (p q : Purse) → Dec (p ≡ q)) where
+  abbrev pub costs : Purse → Rec → ℕ
+  costs p r = pick (samePurse (purse (r .0)) p) 1 0
+
+  abbrev pub countOf : List Rec → Purse → ℕ
+  countOf s p = total (costs p) s
+
+module _
+    {Purse : Type 0} (purse : Key → Purse) (samePurse : (p q : Purse) → Dec (p ≡ q)) (quota : Purse → ℕ)
+    (full : Key → List Rec → Bool) (tells : (k : Key) (s : List Rec) → full k s ≡ eqb (countOf purse samePurse s (purse k)) (quota (purse k))) where
+  abbrev cost : Purse → Rec → ℕ
+  cost p r = costs purse samePurse p r
+
+  abbrev count : List Rec → Purse → ℕ
+  count = countOf purse samePurse
+
+  is-full : (k : Key) (s : List Rec) → full k s ≡ true → count s (purse k) ≡ quota (purse k)
+  is-full k s e = eqb-true (count s (purse k)) (quota (purse k)) (sym (tells k s) ∙ e)
+
+  not-full : (k : Key) (s : List Rec) → full k s ≡ false → count s (purse k) ≡ quota (purse k) → ⊥
+  not-full k s e = eqb-false (count s (purse k)) (quota (purse k)) (sym (tells k s) ∙ e)
+
+  -- records in order, and no purse over its quota
+  pub record Proper (s : List Rec) : Type 0 where
+    pub sorted : Sorted s
+    pub within : (p : Purse) → count s p ≤ quota p
+
+  abbrev pub free : List Rec → Purse → ℕ
+  free s p = quota p - count s p
+
+  abbrev pub chargeOf : Purse → Meaning → ℕ
+  chargeOf p (refuses n) = 0
+  chargeOf p (writes k v) = cost p (k, v)
+  chargeOf p (removes k) = 0
+  chargeOf p (looks k) = 0
+
+  abbrev Room : List Rec → Meaning → Type 0
+  Room s m = (p : Purse) → chargeOf p m ≤ free s p
+
+  write-room : (s : List Rec) (k : Key) (v : List ℕ) → Room s (writes k v) → act full (writes k v) s ≡ (done, put s k v)
+  unfolding act
+  write-room s k v h = go (get s k) (full k s) refl
+    where
+      go : (x : Option (List ℕ)) (d : Bool) → full k s ≡ d → addTo x d (put s k v) s ≡ (done, put s k v)
+      go (some u) d f = refl
+      go none false f = refl
+      go none true f =
+          let p = is-full k s f in
+          let one : cost (purse k) (k, v) ≡ 1 = pick-yes (samePurse (purse k) (purse k)) 1 0 refl in
+          absurd (let z : ⊥ = omega (arith, h (purse k)) in z)
+
+  pub good : (s : List Rec) (m : Meaning) → Proper s → Proper (act full m s .1)
+  unfolding act
+  good s (refuses n) g = g
+  good s (writes k v) g = go (get s k) refl (full k s) refl
+    where
+      go : (x : Option (List ℕ)) → get s k ≡ x → (d : Bool) → full k s ≡ d → Proper (addTo x d (put s k v) s .1)
+      go (some u) e d f = record { sorted = sorted-put s k v (g .sorted); within = λ p. omega (arith, g .within p, total-put-old (cost p) (λ j a b. refl) s k u v (g .sorted) e) }
+      go none e true f = g
+      go none e false f = record { sorted = sorted-put s k v (g .sorted); within = room }
+        where
+          room : (p : Purse) → count (put s k v) p ≤ quota p
+          room p = fits (samePurse (purse k) p)
+            where
+              new : count (put s k v) p ≡ count s p + cost p (k, v)
+              new = total-put-new (cost p) (λ j a b. refl) s k v e
+
+              fits : Dec (purse k ≡ p) → count (put s k v) p ≤ quota p
+              fits (yes q) =
+                  let one : cost p (k, v) ≡ 1 = pick-yes (samePurse (purse k) p) 1 0 q in
+                  let less : count s p ≡ quota p → ⊥ = λ w. not-full k s f (rw q w) in
+                  omega (arith, new, g .within p, less)
+              fits (no q) =
+                  let nil : cost p (k, v) ≡ 0 = pick-no (samePurse (purse k) p) 1 0 q in
+                  omega (arith, new, g .within p)
+  good s (removes k) g = go (get s k)
+    where
+      go : (x : Option (List ℕ)) → Proper (takeFrom x (del s k) s .1)
+      go none = g
+      go (some u) = record { sorted = sorted-del s k (g .sorted); within = λ p. omega (arith, g .within p, total-del (cost p) (λ j a b. refl) s k) }
+  good s (looks k) g = go (get s k)
+    where
+      go : (x : Option (List ℕ)) → Proper (lookIn x s .1)
+      go none = g
+      go (some u) = g
+
+  pub pays : (s : List Rec) (m : Meaning) → Proper s → (p : Purse) → free s p ≤ free (act full m s .1) p + chargeOf p m
+  unfolding act
+  pays s (refuses n) g p = omega arith
+  pays s (writes k v) g p = go (get s k) refl (full k s) refl
+    where
+      go : (x : Option (List ℕ)) → get s k ≡ x → (d : Bool) → full k s ≡ d → free s p ≤ free (addTo x d (put s k v) s .1) p + cost p (k, v)
+      go (some u) e d f = omega (arith, total-put-old (cost p) (λ j a b. refl) s k u v (g .sorted) e)
+      go none e true f = omega arith
+      go none e false f = omega (arith, total-put-new (cost p) (λ j a b. refl) s k v e)
+  pays s (removes k) g p = go (get s k)
+    where
+      go : (x : Option (List ℕ)) → free s p ≤ free (takeFrom x (del s k) s .1) p + 0
+      go none = omega arith
+      go (some u) = omega (arith, total-del (cost p) (λ j a b. refl) s k)
+  pays s (looks k) g p = go (get s k)
+    where
+      go : (x : Option (List ℕ)) → free s p ≤ free (lookIn x s .1) p + 0
+      go none = omega arith
+      go (some u) = omega arith
+
+  pub declines : (s : List Rec) (m : Meaning) → keyIn m ≡ none → act full m s .0 ≡ ansOf m none
+  unfolding act
+  declines s (refuses n) e = refl
+  declines s (writes k v) e = cc
+  declines s (removes k) e = cc
+  declines s (looks k) e = cc
+
+  pub answersBy : (s : List Rec) (m : Meaning) → Room s m → (k : Key) → keyIn m ≡ some k → act full m s .0 ≡ ansOf m (get s k)
+  unfolding act
+  answersBy s (refuses n) h k e = cc
+  answersBy s (writes j v) h k e = ap (λ (q : Answer × List Rec). q .0) (write-room s j v h)
+  answersBy s (removes j) h k e = go (get s j) ∙ ap (λ (i : Key). ansOf (removes j) (get s i)) (let q : j ≡ k = cc in q)
+    where
+      go : (x : Option (List ℕ)) → takeFrom x (del s j) s .0 ≡ ansOf (removes j) x
+      go none = refl
+      go (some u) = refl
+  answersBy s (looks j) h k e = go (get s j) ∙ ap (λ (i : Key). ansOf (looks j) (get s i)) (let q : j ≡ k = cc in q)
+    where
+      go : (x : Option (List ℕ)) → lookIn x s .0 ≡ ansOf (looks j) x
+      go none = refl
+      go (some u) = refl
+
+  pub leaves : (s : List Rec) (m : Meaning) → Proper s → Room s m → (k : Key) → keyIn m ≡ some k → get (act full m s .1) k ≡ effOf m (get s k)
+  unfolding act
+  leaves s (refuses n) g h k e = cc
+  leaves s (writes j v) g h k e =
+      let q : j ≡ k = cc in
+      ap (λ (w : Answer × List Rec). get (w .1) k) (write-room s j v h) ∙ ap (λ (i : Key). get (put s i v) k) q ∙ get-put-same s k v
+  leaves s (removes j) g h k e = go (get s j) refl
+    where
+      q : j ≡ k
+      q = cc
+
+      go : (x : Option (List ℕ)) → get s j ≡ x → get (takeFrom x (del s j) s .1) k ≡ none
+      go none w = ap (λ (i : Key). get s i) (sym q) ∙ w
+      go (some u) w = ap (λ (i : Key). get (del s i) k) q ∙ get-del-same s k (g .sorted)
+  leaves s (looks j) g h k e = go (get s j)
+    where
+      go : (x : Option (List ℕ)) → get (lookIn x s .1) k ≡ get s k
+      go none = refl
+      go (some u) = refl
+
+  pub spares : (s : List Rec) (m : Meaning) → Room s m → (k : Key) → (keyIn m ≡ some k → ⊥) → get (act full m s .1) k ≡ get s k
+  unfolding act
+  spares s (refuses n) h k e = refl
+  spares s (writes j v) h k e =
+      ap (λ (w : Answer × List Rec). get (w .1) k) (write-room s j v h) ∙ get-put-other s j v k (λ q. e (ap {B = Option Key} some (sym q)))
+  spares s (removes j) h k e = go (get s j)
+    where
+      go : (x : Option (List ℕ)) → get (takeFrom x (del s j) s .1) k ≡ get s k
+      go none = refl
+      go (some u) = get-del-other s j k (λ q. e (ap {B = Option Key} some (sym q)))
+  spares s (looks j) h k e = go (get s j)
+    where
+      go : (x : Option (List ℕ)) → get (lookIn x s .1) k ≡ get s k
+      go none = refl
+      go (some u) = refl

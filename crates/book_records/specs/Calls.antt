@@ -1,0 +1,92 @@
+-- The calls on a book: writes, removals and lookups on texts, and what each means.
+-- Assumes nothing.
+use Prim.Native.Nat.{ℕ, _≤_}
+use mathlib.Core.Path.{_≡_}
+use mathlib.Core.Bool.{Bool, false, cond, not, _&&_}
+use mathlib.Core.List.{List}
+use lib.Dec.{leb}
+use lib.ListN.{length}
+use Rattle.text.specs.Refusal.{noRoom, badLength, keyTooLong, loose}
+use Rattle.text.specs.Put.{Wanted, refused, text}
+use Rattle.text.specs.Put as put
+use Rattle.text.specs.declared.Written.{Written}
+use Rattle.path.specs.declared.Reading.{Reading}
+use Rattle.path.specs.declared.Reading.the-variants.{Read, Refused}
+use Rattle.path.specs.Read.{readPath, keyOf}
+use Rattle.book_records.specs.declared.Manner.{Manner}
+use Rattle.book_records.specs.declared.Manner.the-variants.{Plain, Lenient}
+use Rattle.book_records.specs.Records.{Key}
+use Rattle.book_records.specs.Act.{Meaning, refuses, writes, removes, looks}
+
+-- what is asked: to write a value, to remove, or to look up with that many bytes of room
+pub data Asked : Type 0 where
+  to-write : List ℕ → Asked
+  to-remove : Asked
+  to-look : ℕ → Asked
+
+pub record Call : Type 0 where
+  pub manner : Manner
+  pub text : List ℕ
+  pub asked : Asked
+
+abbrev pub write : Manner → List ℕ → List ℕ → Call
+write m t v = record { manner = m; text = t; asked = to-write v }
+
+abbrev pub remove : Manner → List ℕ → Call
+remove m t = record { manner = m; text = t; asked = to-remove }
+
+abbrev pub look : Manner → List ℕ → ℕ → Call
+look m t room = record { manner = m; text = t; asked = to-look room }
+
+-- ---- paths
+-- the path of a call: the rendering of its text
+abbrev pub PathOf : Call → Key → Type 0
+PathOf c k = keyOf (c .text) ≡ text k
+
+-- texts with the same rendering are the same path
+abbrev pub SamePath : Call → Call → Type 0
+SamePath c d = (k : Key) × PathOf c k × PathOf d k
+
+-- a key that reads, and is its own rendering
+abbrev pub Exact : Key → Type 0
+Exact k = keyOf k ≡ text k
+
+-- a text as a call of that manner takes it: a plain one takes exact texts only
+abbrev pub Spelled : Manner → List ℕ → Type 0
+Spelled Plain t = Exact t
+Spelled Lenient t = Unit {0}
+
+-- ---- meaning
+-- by the reader's mark: a plain call refuses a loose text, a lenient one none
+abbrev pub isLoose : Manner → Reading → Bool
+isLoose Plain (Read p exact) = not exact
+isLoose Plain (Refused w) = false
+isLoose Lenient r = false
+
+-- the key of a text in a call of that manner: the reader's refusals, then 20
+unfoldable pub keyFor : Manner → List ℕ → Wanted
+keyFor m t = cond (isLoose m (readPath t)) (refused loose) (keyOf t)
+
+-- a call works on the rendering of its text: 1, 2, 3 are the reader's, and 10 is judged on the rendering
+unfoldable pub keyed : Wanted → (Key → Meaning) → Meaning
+keyed (refused n) f = refuses n
+keyed (text k) f = cond (leb (length k) 255) (f k) (refuses keyTooLong)
+
+-- a value has from 1 to 64 bytes
+pub record ValueFits (v : List ℕ) : Type 0 where
+  pub least : 1 ≤ length v
+  pub most : length v ≤ 64
+
+-- what is asked of a key: to hold a value of those sizes; a lookup wants room for the longest, whatever it finds
+abbrev pub under : Asked → Key → Meaning
+under (to-write v) k = cond (leb 1 (length v) && leb (length v) 64) (writes k v) (refuses badLength)
+under to-remove k = removes k
+under (to-look room) k = cond (leb 64 room) (looks k) (refuses noRoom)
+
+unfoldable pub meaning : Call → Meaning
+meaning c = keyed (keyFor (c .manner) (c .text)) (under (c .asked))
+
+-- what a key's field of 255 bytes answers: the refusals of its text, then 10
+unfoldable pub keyAnswer : Wanted → Written
+keyAnswer (refused n) = put.refusal n
+keyAnswer (text k) = cond (leb (length k) 255) (put.done (length k)) (put.refusal keyTooLong)

@@ -1,9 +1,0 @@
--- The contract, as the source has it, leaves one outcome: the answer, and the content of the second buffer.
--- Assumes nothing.
-use denote.Ref.{now}
-use Rattle.text.specs.Outcome.{OneWith}
-use Rattle.convert.specs.ConvertLaws.{one-converted}
-use Rattle.convert.proofs.convert.Reads as convert
-
-pub one-convert : OneWith convert.Post (λ κs s. now (s .1 .0))
-one-convert κs a r₁ r₂ s₁ s₂ p q = one-converted p q

@@ -1,3 +1,0 @@
--- What the contracts of `convert` cite. Files that end in `Laws` hold consequences, which a reader may skip.
-pub mod Convert
-pub mod ConvertLaws

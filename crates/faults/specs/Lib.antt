@@ -1,3 +1,0 @@
--- What the contracts of `faults` cite. Files that end in `Laws` hold consequences, which a reader may skip.
-pub mod Fault
-pub mod FaultLaws

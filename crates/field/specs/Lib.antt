@@ -1,4 +1,0 @@
--- What the contract of `field` cites. Files that end in `Laws` hold consequences, which a reader may skip.
-pub mod Field
-pub mod FieldLaws
-pub mod MadeLaws

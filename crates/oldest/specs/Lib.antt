@@ -1,4 +1,0 @@
--- What the contracts of `oldest` cite. Files that end in `Laws` hold consequences, which a reader may skip.
-pub mod PrefixLaws
-pub mod Oldest
-pub mod OldestLaws
