@@ -47,7 +47,7 @@ refuses rust/hostpath/src/raw.rs '/ hp_book_write(/s/\*mut u8/*const u8/' rust/h
 refuses include/hostpath.h '/^struct hp_pair {/s/number\(.*\)height/height\1number/' include/hostpath.h
 # a number and a sentence of a refusal
 refuses crates/text/src/refusal.rt 's/ABSENT: u8 = 12/ABSENT: u8 = 15/' rust/hostpath/src/refusal.rs
-refuses crates/text/src/refusal.rt '/^const FULL_SAYS: /,/";$/d' 'no sentence says what FULL is'
+refuses crates/text/src/refusal.rt '/^pub const FULL_SAYS: /,/";$/d' 'no sentence says what FULL is'
 refuses crates/text/src/refusal.rt '/^pub const FULL: /d' 'a sentence is of no refusal'
 refuses crates/text/src/refusal.rt 's/every slot of the book/each slot of the book/' include/hostpath.h
 refuses rust/hostpath/src/refusal.rs 's/=> "every slot of the book/=> "each slot of the book/' rust/hostpath/src/refusal.rs

@@ -44,11 +44,11 @@ FILENAME ~ /Cargo\.toml$/ && /^version = "/ { version = substr($3, 2, length($3)
 source && /^$/ && said != "" { heading = said }
 
 # A number, and its sentence, on the same line as its name or on the next.
-refusals_here && /^pub const / && $6 != "0;" {
+refusals_here && /^pub const [A-Z0-9_]+: u8 = / && $6 != "0;" {
     refusal[++refusals] = substr($3, 1, length($3) - 1)
     number[refusals] = $6 + 0
 }
-refusals_here && /^const [A-Z0-9_]+_SAYS: / { of = substr($2, 1, length($2) - length("_SAYS:")) }
+refusals_here && /^pub const [A-Z0-9_]+_SAYS: / { of = substr($3, 1, length($3) - length("_SAYS:")) }
 refusals_here && /\*b".*";$/ && of != "DONE" {
     line = substr($0, index($0, "*b\"") + 3)
     sentence[of] = substr(line, 1, length(line) - 2)

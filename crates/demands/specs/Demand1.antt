@@ -144,7 +144,7 @@ use Rattle.wide.proofs.rendering.commitments_path.Reads as wide-commitments-pat
 use Rattle.wide.proofs.rendering.acks_path.Reads as wide-acks-path
 use Rattle.wide.proofs.rendering.receipts_path.Reads as wide-receipts-path
 use Rattle.text.proofs.put.give.Reads as give
-use Rattle.text.proofs.refusal.give_sentence.Reads as give-sentence
+use Rattle.sentences.proofs.give_sentence.Reads as give-sentence
 use Rattle.book_key.proofs.key_of.Reads as key-of
 use Rattle.identifiers.proofs.validate.validate_identifier_chars.Reads as validate-identifier-chars
 use Rattle.identifiers.proofs.validate.length_within.Reads as length-within

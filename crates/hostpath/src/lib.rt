@@ -656,5 +656,5 @@ pub extern "C" fn hp_refusal_text(number: u8, out: &mut [u8]) -> Written
     ensures { λ r. ⌜ r ≡ answer (text (sentence number)) (length (now (out .entry))) ⌝ }
     ensures { λ _. ⌜ now (out .exit) ≡ left (text (sentence number)) (now (out .entry)) ⌝ }
 {
-    text::refusal::give_sentence(out, number)
+    sentences::give_sentence(out, number)
 }

@@ -18,8 +18,6 @@ use Rattle.text.proofs.part.equal.Reads as equal
 use Rattle.text.proofs.put.write_byte.Reads as write-byte
 use Rattle.text.proofs.put.write_text.Reads as write-text
 use Rattle.text.proofs.put.give.Reads as give
-use Rattle.text.proofs.refusal.write_sentence.Reads as write-sentence
-use Rattle.text.proofs.refusal.give_sentence.Reads as give-sentence
 
 pub one-read-number : One read-number.Post
 one-read-number κs a r₁ r₂ s₁ s₂ p q = p ∙ sym q
@@ -62,9 +60,3 @@ one-write-text κs a r₁ r₂ s₁ s₂ p q = agree p q
 
 pub one-give : OneWith give.Post (λ κs s. now (s .0))
 one-give κs a r₁ r₂ s₁ s₂ p q = agree p q
-
-pub one-write-sentence : OneWith write-sentence.Post (λ κs s. now (s .0))
-one-write-sentence κs a r₁ r₂ s₁ s₂ p q = agree p q
-
-pub one-give-sentence : OneWith give-sentence.Post (λ κs s. now (s .0))
-one-give-sentence κs a r₁ r₂ s₁ s₂ p q = agree p q

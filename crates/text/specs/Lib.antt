@@ -14,7 +14,6 @@ pub mod PlaceLaws
 pub mod Put
 pub mod PutLaws
 pub mod Refusal
-pub mod RefusalLaws
 pub mod Stands
 pub mod TableLaws
 pub mod WidthLaws

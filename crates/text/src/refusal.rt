@@ -1,210 +1,117 @@
 // The refusals of the whole library, each by its name and number, with the sentence that tells whoever asked what was wrong
 // and what to do about it. 0 is no refusal, and 8 is given no more: 17 to 19 stand in its place. `bin/interface` makes of
 // this file what the header and the Rust crate say of a refusal.
-use crate::Written;
-use crate::put::give;
-use crate::put::write_text;
-ghost use mathlib.Core.Path.{_≡_};
-ghost use Prim.Native.Nat.{_+_, _≤_};
-ghost use lib.ListN.{length};
-ghost use Rattle.text.specs.Put.{put, text, answer, left};
-ghost use Rattle.text.specs.Refusal.{sentence};
 
 pub const DONE: u8 = 0;
 
-const DONE_SAYS: [u8; 4] = *b"done";
+pub const DONE_SAYS: [u8; 4] = *b"done";
 
 pub const TOO_LONG: u8 = 1;
 
-const TOO_LONG_SAYS: [u8; 74] =
+pub const TOO_LONG_SAYS: [u8; 74] =
     *b"the text, or the path that it makes, has more than 4,096 bytes: shorten it";
 
 pub const NOT_ASCII: u8 = 2;
 
-const NOT_ASCII_SAYS: [u8; 64] =
+pub const NOT_ASCII_SAYS: [u8; 64] =
     *b"a byte of the text is 128 or more: write the text in ASCII alone";
 
 pub const NOT_A_PATH: u8 = 3;
 
-const NOT_A_PATH_SAYS: [u8; 103] =
+pub const NOT_A_PATH_SAYS: [u8; 103] =
     *b"the text fits none of the nineteen kinds of path: hold its words and numbers against the table of kinds";
 
 pub const NO_ROOM: u8 = 4;
 
-const NO_ROOM_SAYS: [u8; 102] =
+pub const NO_ROOM_SAYS: [u8; 102] =
     *b"the lent buffer is too short, or not of the size that a converted book has: lend one of the right size";
 
 pub const BAD_CHAR: u8 = 5;
 
-const BAD_CHAR_SAYS: [u8; 97] =
+pub const BAD_CHAR_SAYS: [u8; 97] =
     *b"a byte is none of A-Z, a-z, 0-9 and . _ + - # [ ] < >, which identifiers are made of: take it out";
 
 pub const BAD_LENGTH: u8 = 6;
 
-const BAD_LENGTH_SAYS: [u8; 109] =
+pub const BAD_LENGTH_SAYS: [u8; 109] =
     *b"the identifier is too short or too long, or the value is empty or over 64 bytes: give one of the right length";
 
 pub const BAD_PREFIX: u8 = 7;
 
-const BAD_PREFIX_SAYS: [u8; 99] =
+pub const BAD_PREFIX_SAYS: [u8; 99] =
     *b"the identifier is not its name, a dash and a number without leading zeros: write it as in channel-7";
 
 pub const BAD_BOOK: u8 = 9;
 
-const BAD_BOOK_SAYS: [u8; 113] =
+pub const BAD_BOOK_SAYS: [u8; 113] =
     *b"the buffer holds no book of the version that the call takes: make a new one in it, or convert a book of version 1";
 
 pub const KEY_TOO_LONG: u8 = 10;
 
-const KEY_TOO_LONG_SAYS: [u8; 86] =
+pub const KEY_TOO_LONG_SAYS: [u8; 86] =
     *b"the path's key has more than the 255 bytes that a book keeps: shorten its upgrade path";
 
 pub const FULL: u8 = 11;
 
-const FULL_SAYS: [u8; 87] =
+pub const FULL_SAYS: [u8; 87] =
     *b"every slot of the book holds another key: remove a record, or take a book of more slots";
 
 pub const ABSENT: u8 = 12;
 
-const ABSENT_SAYS: [u8; 119] =
+pub const ABSENT_SAYS: [u8; 119] =
     *b"the book holds no such record, or the block no such key: ask for the key of the text to see which record was looked for";
 
 pub const BAD_SEGMENT: u8 = 13;
 
-const BAD_SEGMENT_SAYS: [u8; 76] =
+pub const BAD_SEGMENT_SAYS: [u8; 76] =
     *b"the upgrade path has a slash: give it as one piece, such as upgradedIBCState";
 
 pub const BAD_KIND: u8 = 14;
 
-const BAD_KIND_SAYS: [u8; 70] =
+pub const BAD_KIND_SAYS: [u8; 70] =
     *b"the kind is not a number from 1 to 19: take it from the table of kinds";
 
 pub const BAD_ITER_KEY: u8 = 15;
 
-const BAD_ITER_KEY_SAYS: [u8; 93] =
+pub const BAD_ITER_KEY_SAYS: [u8; 93] =
     *b"the bytes are not iterateConsensusStates and 16 more, 38 in all: give one whole iteration key";
 
 pub const BAD_BLOCK: u8 = 16;
 
-const BAD_BLOCK_SAYS: [u8; 111] =
+pub const BAD_BLOCK_SAYS: [u8; 111] =
     *b"the block is not whole iteration keys that rise, no two the same: put them in order and take out what is no key";
 
 pub const NO_DIGITS: u8 = 17;
 
-const NO_DIGITS_SAYS: [u8; 88] =
+pub const NO_DIGITS_SAYS: [u8; 88] =
     *b"where a number should stand there is no digit: write one, from 0 to 18446744073709551615";
 
 pub const NOT_A_DIGIT: u8 = 18;
 
-const NOT_A_DIGIT_SAYS: [u8; 69] =
+pub const NOT_A_DIGIT_SAYS: [u8; 69] =
     *b"a byte of the number is no digit: write it in the digits 0 to 9 alone";
 
 pub const TOO_LARGE: u8 = 19;
 
-const TOO_LARGE_SAYS: [u8; 61] = *b"the number is above 18446744073709551615: write a smaller one";
+pub const TOO_LARGE_SAYS: [u8; 61] =
+    *b"the number is above 18446744073709551615: write a smaller one";
 
 pub const LOOSE: u8 = 20;
 
-const LOOSE_SAYS: [u8; 114] =
+pub const LOOSE_SAYS: [u8; 114] =
     *b"a number of the text has a plus or leading zeros, so it is not its own key: give its key, or make the lenient call";
 
 pub const BAD_UTF8: u8 = 21;
 
-const BAD_UTF8_SAYS: [u8; 76] =
+pub const BAD_UTF8_SAYS: [u8; 76] =
     *b"the text is no UTF-8: give it as UTF-8 without overlong forms and surrogates";
 
 pub const BAD_TABLE: u8 = 22;
 
-const BAD_TABLE_SAYS: [u8; 84] =
+pub const BAD_TABLE_SAYS: [u8; 84] =
     *b"the table is not the 512 numbers that filling it from this book gives: fill it again";
 
 pub const BAD_V2_KEY: u8 = 24;
 
-const BAD_V2_KEY_SAYS: [u8; 118] =
+pub const BAD_V2_KEY_SAYS: [u8; 118] =
     *b"the bytes are not a client, a marker of 1, 2 or 3 and 8 more, or the kind is not one of these: give a whole packet key";
-
-// 0 to 7: of texts and identifiers.
-fn write_of_texts(out: &mut [u8], at: usize, number: u8) -> usize
-    requires { ⌜ (number ≤ 7) × (at + length (sentence number) ≤ length (now out)) ⌝ }
-    ensures { λ r. ⌜ r ≡ at + length (sentence number) ⌝ }
-    ensures { λ _. ⌜ now (out .exit) ≡ put (now (out .entry)) at (sentence number) ⌝ }
-{
-    match number {
-        DONE => write_text(out, at, &DONE_SAYS),
-        TOO_LONG => write_text(out, at, &TOO_LONG_SAYS),
-        NOT_ASCII => write_text(out, at, &NOT_ASCII_SAYS),
-        NOT_A_PATH => write_text(out, at, &NOT_A_PATH_SAYS),
-        NO_ROOM => write_text(out, at, &NO_ROOM_SAYS),
-        BAD_CHAR => write_text(out, at, &BAD_CHAR_SAYS),
-        BAD_LENGTH => write_text(out, at, &BAD_LENGTH_SAYS),
-        _ => write_text(out, at, &BAD_PREFIX_SAYS),
-    }
-}
-
-// 9 to 16: of books, kinds and iteration keys.
-fn write_of_books(out: &mut [u8], at: usize, number: u8) -> usize
-    requires { ⌜ (9 ≤ number) × (number ≤ 16) × (at + length (sentence number) ≤ length (now out)) ⌝ }
-    ensures { λ r. ⌜ r ≡ at + length (sentence number) ⌝ }
-    ensures { λ _. ⌜ now (out .exit) ≡ put (now (out .entry)) at (sentence number) ⌝ }
-{
-    match number {
-        BAD_BOOK => write_text(out, at, &BAD_BOOK_SAYS),
-        KEY_TOO_LONG => write_text(out, at, &KEY_TOO_LONG_SAYS),
-        FULL => write_text(out, at, &FULL_SAYS),
-        ABSENT => write_text(out, at, &ABSENT_SAYS),
-        BAD_SEGMENT => write_text(out, at, &BAD_SEGMENT_SAYS),
-        BAD_KIND => write_text(out, at, &BAD_KIND_SAYS),
-        BAD_ITER_KEY => write_text(out, at, &BAD_ITER_KEY_SAYS),
-        _ => write_text(out, at, &BAD_BLOCK_SAYS),
-    }
-}
-
-// 17 to 22: of numbers, and of what came later.
-fn write_of_numbers(out: &mut [u8], at: usize, number: u8) -> usize
-    requires { ⌜ (17 ≤ number) × (number ≤ 22) × (at + length (sentence number) ≤ length (now out)) ⌝ }
-    ensures { λ r. ⌜ r ≡ at + length (sentence number) ⌝ }
-    ensures { λ _. ⌜ now (out .exit) ≡ put (now (out .entry)) at (sentence number) ⌝ }
-{
-    match number {
-        NO_DIGITS => write_text(out, at, &NO_DIGITS_SAYS),
-        NOT_A_DIGIT => write_text(out, at, &NOT_A_DIGIT_SAYS),
-        TOO_LARGE => write_text(out, at, &TOO_LARGE_SAYS),
-        LOOSE => write_text(out, at, &LOOSE_SAYS),
-        BAD_UTF8 => write_text(out, at, &BAD_UTF8_SAYS),
-        _ => write_text(out, at, &BAD_TABLE_SAYS),
-    }
-}
-
-// Writes the sentence of a refusal, `done` for 0, and nothing for a number that is none; returns the place after it.
-pub fn write_sentence(out: &mut [u8], at: usize, number: u8) -> usize
-    requires { ⌜ at + length (sentence number) ≤ length (now out) ⌝ }
-    ensures { λ r. ⌜ r ≡ at + length (sentence number) ⌝ }
-    ensures { λ _. ⌜ now (out .exit) ≡ put (now (out .entry)) at (sentence number) ⌝ }
-{
-    if number < 8 {
-        return write_of_texts(out, at, number);
-    }
-    if number == 8 {
-        return at;
-    }
-    if number < 17 {
-        return write_of_books(out, at, number);
-    }
-    if number < 23 {
-        return write_of_numbers(out, at, number);
-    }
-    if number == BAD_V2_KEY {
-        return write_text(out, at, &BAD_V2_KEY_SAYS);
-    }
-    at
-}
-
-// The same from byte 0 on, or 4 where `out` has too little room.
-pub fn give_sentence(out: &mut [u8], number: u8) -> Written
-    ensures { λ r. ⌜ r ≡ answer (text (sentence number)) (length (now (out .entry))) ⌝ }
-    ensures { λ _. ⌜ now (out .exit) ≡ left (text (sentence number)) (now (out .entry)) ⌝ }
-{
-    let mut words = [0u8; 128];
-    let n = write_sentence(&mut words, 0, number);
-    give(out, &words[0..n])
-}

@@ -1,9 +1,9 @@
 use Rattle.text.specs.Refusal.{sentence}
-use Rattle.text.specs.RefusalLaws.{sentence-length, front-room, front-part}
+use Rattle.sentences.specs.SentenceLaws.{sentence-length, front-room, front-part}
 use native.Mathlib.Omega.{arith}
 use borrow.Author.Needs.{needs}
-use Rattle.text.proofs.refusal.give_sentence.Statement.{statement}
-use Rattle.text.proofs.refusal.give_sentence.Tie as tie
+use Rattle.sentences.proofs.give_sentence.Statement.{statement}
+use Rattle.sentences.proofs.give_sentence.Tie as tie
 
 write-sentence-requires : tie.Need-write-sentence-requires
 write-sentence-requires c κs = omega (arith, sentence-length (c .before .before .args .number))

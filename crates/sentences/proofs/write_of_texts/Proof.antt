@@ -1,46 +1,46 @@
 use mathlib.Core.Path.{_≡_}
 use Rattle.text.specs.Refusal.{sentence}
 use Rattle.text.specs.TableLaws.{past}
 use native.Mathlib.Omega.{arith}
 use borrow.Author.Needs.{needs}
-use Rattle.text.proofs.refusal.write_of_books.Statement.{statement}
-use Rattle.text.proofs.refusal.write_of_books.Tie as tie
+use Rattle.sentences.proofs.write_of_texts.Statement.{statement}
+use Rattle.sentences.proofs.write_of_texts.Tie as tie
 
 write-text-requires : tie.Need-write-text-requires
 unfolding sentence
-write-text-requires c κs = rw (c .before .before .match .keys1) at (c .before .before .before .before .pre .2)
+write-text-requires c κs = rw (c .before .before .match .keys1) at (c .before .before .before .before .pre .1)
 
 write-text-requires-2 : tie.Need-write-text-requires-2
 unfolding sentence
-write-text-requires-2 c κs = rw (c .before .before .match .keys2) at (c .before .before .before .before .pre .2)
+write-text-requires-2 c κs = rw (c .before .before .match .keys2) at (c .before .before .before .before .pre .1)
 
 write-text-requires-3 : tie.Need-write-text-requires-3
 unfolding sentence
-write-text-requires-3 c κs = rw (c .before .before .match .keys3) at (c .before .before .before .before .pre .2)
+write-text-requires-3 c κs = rw (c .before .before .match .keys3) at (c .before .before .before .before .pre .1)
 
 write-text-requires-4 : tie.Need-write-text-requires-4
 unfolding sentence
-write-text-requires-4 c κs = rw (c .before .before .match .keys4) at (c .before .before .before .before .pre .2)
+write-text-requires-4 c κs = rw (c .before .before .match .keys4) at (c .before .before .before .before .pre .1)
 
 write-text-requires-5 : tie.Need-write-text-requires-5
 unfolding sentence
-write-text-requires-5 c κs = rw (c .before .before .match .keys5) at (c .before .before .before .before .pre .2)
+write-text-requires-5 c κs = rw (c .before .before .match .keys5) at (c .before .before .before .before .pre .1)
 
 write-text-requires-6 : tie.Need-write-text-requires-6
 unfolding sentence
-write-text-requires-6 c κs = rw (c .before .before .match .keys6) at (c .before .before .before .before .pre .2)
+write-text-requires-6 c κs = rw (c .before .before .match .keys6) at (c .before .before .before .before .pre .1)
 
 write-text-requires-7 : tie.Need-write-text-requires-7
 unfolding sentence
-write-text-requires-7 c κs = rw (c .before .before .match .keys7) at (c .before .before .before .before .pre .2)
+write-text-requires-7 c κs = rw (c .before .before .match .keys7) at (c .before .before .before .before .pre .1)
 
 write-text-requires-8 : tie.Need-write-text-requires-8
 unfolding sentence
 write-text-requires-8 c κs =
     let x = c .before .before .before .before .args in
-    let l = past 9 7 (x .number) (c .before .before .match .rest) (omega arith) in
-    let e : x .number ≡ 16 = omega arith in
-    rw e at (c .before .before .before .before .pre .2)
+    let l = past 0 7 (x .number) (c .before .before .match .rest) (omega arith) in
+    let e : x .number ≡ 7 = omega arith in
+    rw e at (c .before .before .before .before .pre .1)
 
 returns : tie.Need-returns
 unfolding sentence
@@ -74,12 +74,12 @@ returns-8 : tie.Need-returns-8
 unfolding sentence
 returns-8 c =
     let x = c .before .before .before .before .before .before .before .args in
-    let l = past 9 7 (x .number) (c .before .before .before .before .before .match .rest) (omega arith) in
-    let e : x .number ≡ 16 = omega arith in
+    let l = past 0 7 (x .number) (c .before .before .before .before .before .match .rest) (omega arith) in
+    let e : x .number ≡ 7 = omega arith in
     rw e (c .before .before .write-text8 .ensures)
 
-pub write-of-books-spec : {M : Type 1} → statement M
-write-of-books-spec =
+pub write-of-texts-spec : {M : Type 1} → statement M
+write-of-texts-spec =
     tie.close
     (tie.spec
     (λ c. search needs)

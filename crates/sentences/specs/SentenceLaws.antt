@@ -1,4 +1,4 @@
--- Laws of `Refusal`: which numbers have no sentence, and how long one is.
+-- Laws of `sentence`: which numbers have no sentence, and how long one is.
 -- Assumes nothing.
 use Prim.Native.Nat.{ℕ, _+_, _-_, _≤_, _<_}
 use mathlib.Core.Path.{_≡_, refl, sym, ap, _∙_}

@@ -1,9 +1,9 @@
 use Rattle.text.specs.Refusal.{sentence}
-use Rattle.text.specs.RefusalLaws.{sentence-eight, sentence-past, nothing-said}
+use Rattle.sentences.specs.SentenceLaws.{sentence-eight, sentence-past, nothing-said}
 use native.Mathlib.Omega.{arith}
 use borrow.Author.Needs.{needs}
-use Rattle.text.proofs.refusal.write_sentence.Statement.{statement}
-use Rattle.text.proofs.refusal.write_sentence.Tie as tie
+use Rattle.sentences.proofs.write_sentence.Statement.{statement}
+use Rattle.sentences.proofs.write_sentence.Tie as tie
 
 returns-2 : tie.Need-returns-2
 returns-2 c = let x = c .before .before .before .args in nothing-said (x .out .now) (x .at) (sentence (x .number)) (rw (c .if2 .taken) sentence-eight)

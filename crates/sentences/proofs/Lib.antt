@@ -1,0 +1,2 @@
+-- `Unique` has that each contract leaves one outcome.
+pub mod Unique

@@ -1,0 +1,3 @@
+-- What the proofs of `sentences` use.
+-- Assumes nothing.
+pub mod SentenceLaws
