@@ -81,7 +81,7 @@ fn check_index(id: &[u8], start: usize) -> Fault
             return placeless(BAD_PREFIX);
         }
     }
-    text::number_fault(text::read_number(index), start)
+    text::numeral_fault(text::read_number(index), start)
 }
 
 // Whether the text is the name, `-` and an index.

@@ -13,11 +13,11 @@ use Rattle.packet.specs.declared.KindAnswer.{KindAnswer}
 use Rattle.packet.specs.declared.KindAnswer.the-variants.{Kind, Unknown}
 use Rattle.packet.specs.declared.PacketAnswer.the-variants.{Key, Refused}
 use Rattle.packet.specs.declared.PacketKind.{PacketKind}
-use Rattle.packet.specs.Key.{kindOf, packetKey, packet, cutPlace, clientIn, markerIn, readAs, packetIn, writeAs, packetWanted}
+use Rattle.packet.specs.Key.{kindMarked, packetKey, packet, cutPlace, clientIn, markerIn, readAs, packetIn, writeAs, packetWanted}
 
 -- a byte that is none of the three
-pub other-byte : (m : ℕ) → (m ≡ 1 → ⊥) → (m ≡ 2 → ⊥) → (m ≡ 3 → ⊥) → Unknown ≡ kindOf m
-unfolding kindOf
+pub other-byte : (m : ℕ) → (m ≡ 1 → ⊥) → (m ≡ 2 → ⊥) → (m ≡ 3 → ⊥) → Unknown ≡ kindMarked m
+unfolding kindMarked
 other-byte m a b c = rw (ne-eqb m 1 a, ne-eqb m 2 b, ne-eqb m 3 c)
 
 -- ---- reading
@@ -26,7 +26,7 @@ unfolding packetIn
 read-short key h = rw (lt-ltb (length key) 9 h)
 
 -- nine bytes, the first of them judged as x
-module _ (key : List ℕ) (h : 9 ≤ length key) (x : KindAnswer) (e : x ≡ kindOf (markerIn key)) where
+module _ (key : List ℕ) (h : 9 ≤ length key) (x : KindAnswer) (e : x ≡ kindMarked (markerIn key)) where
   pub read-marked : packetIn key ≡ readAs x key
   unfolding packetIn
   read-marked = rw (le-ltb (length key) 9 h, e)
@@ -48,7 +48,7 @@ module _ (key : List ℕ) (h : 9 ≤ length key) (x : KindAnswer) (e : x ≡ kin
     read-key z v g = rw (kept, ← check, eq-eqb r 0 z, ← g)
 
 -- ---- writing, the kind judged as x
-module _ (m : ℕ) (c : List ℕ) (n : ℕ) (x : KindAnswer) (e : x ≡ kindOf m) where
+module _ (m : ℕ) (c : List ℕ) (n : ℕ) (x : KindAnswer) (e : x ≡ kindMarked m) where
   pub write-marked : packetWanted m c n ≡ writeAs x c n
   unfolding packetWanted
   write-marked = rw e

@@ -10,7 +10,7 @@ ghost use mathlib.Core.Path.{_≡_};
 ghost use lib.ListN.{length};
 ghost use Rattle.text.specs.Put.{answer, left};
 ghost use Rattle.path.specs.View.{Shows};
-ghost use Rattle.packet.specs.Key.{markerOf, kindOf, packetIn, packetWanted, clientPlace, packetOf};
+ghost use Rattle.packet.specs.Key.{markerOf, kindMarked, packetIn, packetWanted, clientPlace, packetOf};
 
 // The marker bytes of the three kinds.
 const COMMITMENT: u8 = 1;
@@ -66,8 +66,8 @@ pub fn marker_of(kind: PacketKind) -> u8
 }
 
 // The kind of a marker byte.
-pub fn kind_of(marker: u8) -> KindAnswer
-    ensures { λ r. ⌜ r ≡ kindOf marker ⌝ }
+pub fn kind_marked(marker: u8) -> KindAnswer
+    ensures { λ r. ⌜ r ≡ kindMarked marker ⌝ }
 {
     if marker == COMMITMENT {
         return KindAnswer::Kind(PacketKind::Commitment);
@@ -89,7 +89,7 @@ pub fn read_packet_key(key: &[u8]) -> PacketAnswer
         return PacketAnswer::Refused(BAD_V2_KEY);
     }
     let length = key.len() - 9;
-    let KindAnswer::Kind(kind) = kind_of(key[length]) else {
+    let KindAnswer::Kind(kind) = kind_marked(key[length]) else {
         return PacketAnswer::Refused(BAD_V2_KEY);
     };
     let refusal = validate_client_identifier(&key[0..length]);
@@ -142,7 +142,7 @@ pub fn write_packet_key(kind: u8, client: &[u8], sequence: Sequence, out: &mut [
     ensures { λ r. ⌜ r ≡ answer (packetWanted kind (now (client .entry)) (sequence .0)) (length (now (out .entry))) ⌝ }
     ensures { λ _. ⌜ now (out .exit) ≡ left (packetWanted kind (now (client .entry)) (sequence .0)) (now (out .entry)) ⌝ }
 {
-    let KindAnswer::Kind(k) = kind_of(kind) else {
+    let KindAnswer::Kind(k) = kind_marked(kind) else {
         return Written {
             refusal: BAD_V2_KEY,
             length: 0,

@@ -5,7 +5,7 @@ use denote.Ref.{now}
 use Rattle.text.specs.Outcome.{One, OneWith}
 use Rattle.text.specs.OutcomeLaws.{agree}
 use Rattle.text.proofs.read_number.Reads as read-number
-use Rattle.text.proofs.number_fault.Reads as number-fault
+use Rattle.text.proofs.numeral_fault.Reads as numeral-fault
 use Rattle.text.proofs.number_width.Reads as number-width
 use Rattle.text.proofs.write_number.Reads as write-number
 use Rattle.text.proofs.write_big_endian.Reads as write-big-endian
@@ -24,8 +24,8 @@ use Rattle.text.proofs.refusal.give_sentence.Reads as give-sentence
 pub one-read-number : One read-number.Post
 one-read-number κs a r₁ r₂ s₁ s₂ p q = p ∙ sym q
 
-pub one-number-fault : One number-fault.Post
-one-number-fault κs a r₁ r₂ s₁ s₂ p q = p ∙ sym q
+pub one-numeral-fault : One numeral-fault.Post
+one-numeral-fault κs a r₁ r₂ s₁ s₂ p q = p ∙ sym q
 
 pub one-number-width : One number-width.Post
 one-number-width κs a r₁ r₂ s₁ s₂ p q = p ∙ sym q

@@ -94,7 +94,7 @@ pub fn read_number(s: &[u8]) -> Numeral
 }
 
 // What is wrong with a number text whose first byte stands at `at`.
-pub fn number_fault(n: Numeral, at: usize) -> Fault
+pub fn numeral_fault(n: Numeral, at: usize) -> Fault
     requires { ⌜ at + numeralPlace n < 2 ^ 64 ⌝ }
     ensures { λ r. ⌜ r ≡ fault (numeralFault n) (at + numeralPlace n) ⌝ }
 {

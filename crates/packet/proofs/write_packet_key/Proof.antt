@@ -18,18 +18,18 @@ use Rattle.packet.proofs.write_packet_key.Tie as tie
 returns : tie.Need-returns
 returns c =
     let x = c .before .before .before .before .before .args in
-    gives-refusal (packetWanted (x .kind) (x .client .now) (x .sequence .0)) (x .out .now) 24 (write-unknown _ _ _ _ (c .before .before .kind-of .ensures) (c .enum-told .given .1))
+    gives-refusal (packetWanted (x .kind) (x .client .now) (x .sequence .0)) (x .out .now) 24 (write-unknown _ _ _ _ (c .before .before .kind-marked .ensures) (c .enum-told .given .1))
 
 returns-2 : tie.Need-returns-2
 returns-2 c =
     let x = c .before .before .before .before .before .before .before .before .args in
-    let k = c .before .before .before .before .before .kind-of in
+    let k = c .before .before .before .before .before .kind-marked in
     gives-refusal (packetWanted (x .kind) (x .client .now) (x .sequence .0)) (x .out .now) _ (write-refused _ _ _ _ (k .ensures) _ (c .before .before .before .k .given .1) _ (c .before .validate-client-identifier .ensures) (c .if1 .taken))
 
 returns-3 : tie.Need-returns-3
 returns-3 c =
     let x = c .before .before .before .before .before .before .before .before .before .args in
-    let k = c .before .before .before .before .before .before .kind-of in
+    let k = c .before .before .before .before .before .before .kind-marked in
     let g = c .before .before .before .before .k .given in
     let kind = g .0 .0 in
     let w = write-text (x .kind) (x .client .now) (x .sequence .0) _ (k .ensures) _ (g .1) _ (c .before .before .validate-client-identifier .ensures) (c .before .if1 .left) in
@@ -47,7 +47,7 @@ returns-4 c =
     let kind = g .0 .0 in
     let n : ℕ = x .sequence .0 in
     let e = length-big 8 n in
-    let w = write-text (x .kind) (x .client .now) n _ (c .before .before .before .before .before .before .before .before .before .before .before .before .before .before .before .before .before .before .before .kind-of .ensures) _ (g .1) _ (c .before .before .before .before .before .before .before .before .before .before .before .before .before .before .before .validate-client-identifier .ensures) (c .before .before .before .before .before .before .before .before .before .before .before .before .before .before .if1 .left) in
+    let w = write-text (x .kind) (x .client .now) n _ (c .before .before .before .before .before .before .before .before .before .before .before .before .before .before .before .before .before .before .before .kind-marked .ensures) _ (g .1) _ (c .before .before .before .before .before .before .before .before .before .before .before .before .before .before .before .validate-client-identifier .ensures) (c .before .before .before .before .before .before .before .before .before .before .before .before .before .before .if1 .left) in
     let w1 : Wrote (x .out .now) 0 (x .client .now) (s1 .result) (s1 .last .0) = record { next = s1 .ensures .0; after = s1 .ensures .1; room = omega arith } in
     let w2 : Wrote (s1 .last .0) (s1 .result) (markerOf kind ∷ []) (s2 .result) (s2 .last .0) =
     record { next = s2 .ensures .0; after = s2 .ensures .1 ∙ ap (λ (b : ℕ). put (s1 .last .0) (s1 .result) (b ∷ [])) (m .ensures); room = omega arith } in
