@@ -21,7 +21,7 @@ const LOW: u64 = 0x53ff680800000000;
 const HIGH: u64 = 0x00000000affffffe;
 
 // Whether the byte may stand in an identifier; lower-case letters are told first, being the most.
-fn is_identifier_byte(b: u8) -> bool
+pub fn is_identifier_byte(b: u8) -> bool
     ensures { λ r. ⌜ r ≡ identifierByte b ⌝ }
 {
     if b'`' < b {
