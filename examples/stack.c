@@ -30,51 +30,41 @@ static uint8_t book[HP_BOOK_SIZE(SLOTS)], old[HP_BOOK_HEAD + 288 * SLOTS], newer
 static uint8_t table[HP_BOOK_TABLE], out[HP_PATH_MOST], many[SLOTS * HP_BOOK_ANSWER];
 static uint8_t key[HP_ITERATION_KEY], block[2 * HP_ITERATION_KEY];
 
-/* The calls on one text, or on two. */
+/* The calls on one text, or on two, that have a wide one of the same name. */
+#define CALLS_ON(hp, t, n)                                                                                                     \
+    hp##_validate_identifier_chars(t, n);                                                                                      \
+    hp##_validate_identifier_length(t, n, 1, 9);                                                                               \
+    hp##_validate_prefix_length(t, n, 1, 99);                                                                                  \
+    hp##_validate_named_u64_index(t, n, (const uint8_t *)"channel", 7);                                                        \
+    hp##_validate_client_type(t, n);                                                                                           \
+    hp##_validate_client_identifier(t, n);                                                                                     \
+    hp##_validate_connection_identifier(t, n);                                                                                 \
+    hp##_validate_port_identifier(t, n);                                                                                       \
+    hp##_validate_channel_identifier(t, n);                                                                                    \
+    hp##_client_id_new(t, n, UINT64_MAX, out, sizeof out);                                                                     \
+    hp##_read(t, n, out, sizeof out);                                                                                          \
+    hp##_key(t, n, out, sizeof out);                                                                                           \
+    hp##_consensus_state_parent(t, n, out, sizeof out)
+#define CALLS_ON_TWO(hp, t, n, u, m)                                                                                           \
+    for (int kind = 0; kind <= 20; kind++) {                                                                                   \
+        hp##_render((uint8_t)kind, t, n, u, m, UINT64_MAX, 1, out, sizeof out);                                                \
+    }                                                                                                                          \
+    hp##_commitments_path(t, n, u, m, out, sizeof out);                                                                        \
+    hp##_acks_path(t, n, u, m, out, sizeof out);                                                                               \
+    hp##_receipts_path(t, n, u, m, out, sizeof out)
+
 static void calls_on(const uint8_t *t, size_t n) {
-    hp_validate_identifier_chars(t, n);
-    hp_validate_identifier_length(t, n, 1, 9);
-    hp_validate_prefix_length(t, n, 1, 99);
-    hp_validate_named_u64_index(t, n, (const uint8_t *)"channel", 7);
-    hp_validate_client_type(t, n);
-    hp_validate_client_identifier(t, n);
-    hp_validate_connection_identifier(t, n);
-    hp_validate_port_identifier(t, n);
-    hp_validate_channel_identifier(t, n);
-    hp_client_id_new(t, n, UINT64_MAX, out, sizeof out);
-    hp_read(t, n, out, sizeof out);
+    CALLS_ON(hp, t, n);
+    CALLS_ON(hp_wide, t, n);
     hp_walk(t, n, out, sizeof out);
-    hp_key(t, n, out, sizeof out);
     hp_v2_read(t, n);
     hp_v2_write(HP_PACKET_RECEIPT, t, n, UINT64_MAX, out, sizeof out);
     hp_read_iteration_key(t, n);
-    hp_consensus_state_parent(t, n, out, sizeof out);
-    hp_wide_validate_identifier_chars(t, n);
-    hp_wide_validate_identifier_length(t, n, 1, 9);
-    hp_wide_validate_prefix_length(t, n, 1, 99);
-    hp_wide_validate_named_u64_index(t, n, (const uint8_t *)"channel", 7);
-    hp_wide_validate_client_type(t, n);
-    hp_wide_validate_client_identifier(t, n);
-    hp_wide_validate_connection_identifier(t, n);
-    hp_wide_validate_port_identifier(t, n);
-    hp_wide_validate_channel_identifier(t, n);
-    hp_wide_client_id_new(t, n, UINT64_MAX, out, sizeof out);
-    hp_wide_read(t, n, out, sizeof out);
-    hp_wide_key(t, n, out, sizeof out);
-    hp_wide_consensus_state_parent(t, n, out, sizeof out);
 }
 
 static void calls_on_two(const uint8_t *t, size_t n, const uint8_t *u, size_t m) {
-    for (int kind = 0; kind <= 20; kind++) {
-        hp_render((uint8_t)kind, t, n, u, m, UINT64_MAX, 1, out, sizeof out);
-        hp_wide_render((uint8_t)kind, t, n, u, m, UINT64_MAX, 1, out, sizeof out);
-    }
-    hp_commitments_path(t, n, u, m, out, sizeof out);
-    hp_acks_path(t, n, u, m, out, sizeof out);
-    hp_receipts_path(t, n, u, m, out, sizeof out);
-    hp_wide_commitments_path(t, n, u, m, out, sizeof out);
-    hp_wide_acks_path(t, n, u, m, out, sizeof out);
-    hp_wide_receipts_path(t, n, u, m, out, sizeof out);
+    CALLS_ON_TWO(hp, t, n, u, m);
+    CALLS_ON_TWO(hp_wide, t, n, u, m);
 }
 
 static void calls_on_books(const uint8_t *t, size_t n) {

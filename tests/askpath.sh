@@ -167,21 +167,7 @@ fi
 
 # `cat` fails on what does not wait.
 if command -v python3 >/dev/null 2>&1; then
-    python3 - "$askpath" >"$work/out" <<'END'
-import fcntl, os, subprocess, sys, threading, time
-(read, feed), (take, write) = os.pipe(), os.pipe()
-for end in read, write:
-    fcntl.fcntl(end, fcntl.F_SETFL, fcntl.fcntl(end, fcntl.F_GETFL) | os.O_NONBLOCK)
-child = subprocess.Popen(['sh', sys.argv[1]], stdin=read, stdout=write)
-os.close(read), os.close(write)
-def give():
-    time.sleep(0.3) # nothing to read at first, then more than a pipe takes
-    with os.fdopen(feed, 'wb') as end: end.write(b'text\n' * 100000)
-threading.Thread(target=give).start()
-time.sleep(0.8)
-with os.fdopen(take, 'rb') as end: print(end.read().count(b'text\n'), child.wait())
-END
-    check 'a pipe that does not wait' '100000 0' "$(cat "$work/out")"
+    check 'a pipe that does not wait' '100000 0 ' "$(python3 tests/lib/pipes.py 100000 text text sh "$askpath")"
 else
     echo 'askpath: LEFT OUT, no python3 here: a pipe that does not wait'
 fi

@@ -86,23 +86,9 @@ fi
 echo clients | bin/askpath >"$work/out" 2>"$work/err"
 check 'the status where a line is refused' '0, 3, ' "$?, $(cat "$work/out"), $(cat "$work/err")"
 
-# Pipes that do not wait, by the program itself: nothing to read at first, then more answers than a pipe takes.
+# Pipes that do not wait, by the program itself.
 if command -v python3 >/dev/null 2>&1; then
-    python3 - "$program" >"$work/out" <<'END'
-import fcntl, os, subprocess, sys, threading, time
-(read, feed), (take, write) = os.pipe(), os.pipe()
-for end in read, write:
-    fcntl.fcntl(end, fcntl.F_SETFL, fcntl.fcntl(end, fcntl.F_GETFL) | os.O_NONBLOCK)
-child = subprocess.Popen([sys.argv[1]], stdin=read, stdout=write, stderr=subprocess.PIPE)
-os.close(read), os.close(write)
-def give():
-    time.sleep(0.3)
-    with os.fdopen(feed, 'wb') as end: end.write(b'ports/ab\n' * 20000)
-threading.Thread(target=give).start()
-time.sleep(1)
-with os.fdopen(take, 'rb') as end: print(end.read().count(b'0 10 E ports/ab\n'), child.stderr.read())
-END
-    check 'pipes that do not wait' "20000 b''" "$(cat "$work/out")"
+    check 'pipes that do not wait' '20000 0 ' "$(python3 tests/lib/pipes.py 20000 ports/ab '0 10 E ports/ab' "$program")"
 else
     echo 'askpath: LEFT OUT, no python3 here: pipes that do not wait'
 fi

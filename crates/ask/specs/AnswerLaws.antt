@@ -1,14 +1,13 @@
 -- Laws of `Answer`: the ways through it, and how long an answer is.
 -- Assumes nothing.
 use Prim.Native.Nat.{ℕ, suc, _+_, _-_, _*_, _≤_}
-use mathlib.Core.Path.{_≡_, refl, sym, ap, _∙_}
+use mathlib.Core.Path.{_≡_, refl, _∙_}
 use mathlib.Core.Bool.{Bool, true, false, cond}
 use mathlib.Core.List.{List, [], _∷_, _++_, map}
 use native.Mathlib.Omega.{arith}
 use lib.Dec.{leb, ltb}
 use lib.ListN.{length, drop, length-append, length-take}
 use borrow.Author.Tests.{leb-true, ltb-false}
-use Rattle.text.specs.Bytes.{bytes}
 use Rattle.text.specs.Number.{decimal, digits, width, widthBy}
 use Rattle.text.specs.NumberLaws.{length-decimal, width-within}
 use Rattle.text.specs.Part.{every, ascii, same}

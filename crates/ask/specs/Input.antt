@@ -10,8 +10,8 @@ use Rattle.path.specs.Text.{cutAt}
 use Rattle.ask.specs.Answer.{lineAnswer}
 
 -- the bytes from place a up to e
-abbrev pub part : ℕ → ℕ → List ℕ → List ℕ
-part a e l = take (e - a) (drop a l)
+abbrev pub stretch : ℕ → ℕ → List ℕ → List ℕ
+stretch a e l = take (e - a) (drop a l)
 
 -- a last line counts if it is not empty
 unfoldable pub lastAnswer : Bool → List ℕ → List ℕ
@@ -60,5 +60,5 @@ stepsAnswer why line (s ∷ reads) = endedAnswers why line s ++ stepsAnswer why 
 -- what a step does over two lent buffers: `from` bytes of the input are held, and those up to `end` are new; the answers
 -- are the first `used` bytes of the output, and what is then held is the first `kept` of the input
 pub record Stepped (why : Bool) (input out : List ℕ) (from end kept used : ℕ) (input′ out′ : List ℕ) : Type 0 where
-  pub answered : Wrote out 0 (endedAnswers why (part 0 from input) (part from end input)) used out′
-  pub holds : Wrote input 0 (held (part 0 from input) (part from end input)) kept input′
+  pub answered : Wrote out 0 (endedAnswers why (stretch 0 from input) (stretch from end input)) used out′
+  pub holds : Wrote input 0 (held (stretch 0 from input) (stretch from end input)) kept input′

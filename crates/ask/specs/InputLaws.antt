@@ -12,8 +12,8 @@ use borrow.Author.Tests.{lt-ltb, ltb-true, ltb-false}
 use Rattle.text.specs.Put.{Wrote}
 use Rattle.path.specs.declared.Refusal.the-variants.{TooLong}
 use Rattle.path.specs.Read.{readPath}
-use Rattle.path.specs.Text.{cutAt, cutStep, onto, joinBy}
-use Rattle.path.specs.TextLaws.{join-cut}
+use Rattle.path.specs.Text.{cutAt, cutStep, onto}
+use Rattle.path.specs.TextLaws.{cut-some}
 use Rattle.ask.specs.Answer.{refusalAnswer, lineAnswer, extra}
 use Rattle.ask.specs.AnswerLaws.{answer-length, extra-more, extra-one}
 use Rattle.ask.specs.Input.{lastAnswer, answers, wholeAnswer, answerAt, lineAfter, endedAnswers, unfinished, held, stepsAnswer}
@@ -100,12 +100,8 @@ on-none : (cs : List (List ℕ)) → (cs ≡ [] → ⊥) → onLine [] cs ≡ cs
 on-none [] h = absurd (h refl)
 on-none (c ∷ cs) h = refl
 
-cut-some : (s : List ℕ) → cutAt 10 s ≡ [] → ⊥
-unfolding cutAt joinBy
-cut-some s e =
-    let n : s ≡ [] = sym (join-cut 10 s) ∙ ap (joinBy 10) e in
-    let z : _≡_ {A = ℕ} 1 0 = ap length (rw n at e) in
-    omega arith
+some-line : (s : List ℕ) → cutAt 10 s ≡ [] → ⊥
+some-line s e = omega (arith, cut-some 10 s, ap length e)
 
 whole-from : (why : Bool) (s line : List ℕ) → answers why (onLine line (cutAt 10 s)) ≡ endedAnswers why line s ++ lastAnswer why (unfinished line s)
 unfolding answers cutAt endedAnswers unfinished answerAt
@@ -114,7 +110,7 @@ whole-from why (b ∷ s) line = go (eqb b 10) (cutAt 10 s) refl (whole-from why 
   where
     go : (v : Bool) (cs : List (List ℕ)) → cutAt 10 s ≡ cs → answers why (onLine (cond v [] (line ++ (b ∷ []))) cs) ≡ endedAnswers why (cond v [] (line ++ (b ∷ []))) s ++ lastAnswer why (unfinished (cond v [] (line ++ (b ∷ []))) s)
         → answers why (onLine line (cutStep v b cs)) ≡ (answerAt why v line ++ endedAnswers why (cond v [] (line ++ (b ∷ []))) s) ++ lastAnswer why (unfinished (cond v [] (line ++ (b ∷ []))) s)
-    go true [] e h = absurd (cut-some s e)
+    go true [] e h = absurd (some-line s e)
     go true (c ∷ cs) e h = rw (append-nil, h, append-assoc)
     go false cs e h = ap (answers why) (on-onto line b cs) ∙ h
 
@@ -128,7 +124,7 @@ steps-from why (s ∷ reads) l m h =
 
 pub any-cutting : (why : Bool) (reads : List (List ℕ)) → stepsAnswer why [] reads ≡ wholeAnswer why (flatten reads)
 unfolding wholeAnswer
-any-cutting why reads = steps-from why reads [] [] refl ∙ sym (whole-from why (flatten reads) []) ∙ ap (answers why) (on-none (cutAt 10 (flatten reads)) (cut-some (flatten reads)))
+any-cutting why reads = steps-from why reads [] [] refl ∙ sym (whole-from why (flatten reads) []) ∙ ap (answers why) (on-none (cutAt 10 (flatten reads)) (some-line (flatten reads)))
 
 -- what is held is short
 pub held-short : (line s : List ℕ) {l o : List ℕ} {r : ℕ} → Wrote l 0 (held line s) r o → r ≤ 4097

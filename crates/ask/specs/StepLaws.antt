@@ -14,17 +14,17 @@ use Rattle.text.specs.Put.{put, Wrote}
 use Rattle.text.specs.PutLaws.{put-set, put-then, put-nil, put-zero, length-put, both}
 use Rattle.ask.specs.Answer.{lineAnswer, extra}
 use Rattle.ask.specs.AnswerLaws.{answer-length, extra-more}
-use Rattle.ask.specs.Input.{part, lastAnswer, answerAt, lineAfter, endedAnswers, unfinished, held, Stepped}
+use Rattle.ask.specs.Input.{stretch, lastAnswer, answerAt, lineAfter, endedAnswers, unfinished, held, Stepped}
 use Rattle.ask.specs.InputLaws.{ended-append, unfinished-append, ended-length}
 
-part-none : (a : ℕ) (l : List ℕ) → part a a l ≡ []
-part-none a l = let e : a - a ≡ 0 = omega arith in rw e
+stretch-none : (a : ℕ) (l : List ℕ) → stretch a a l ≡ []
+stretch-none a l = let e : a - a ≡ 0 = omega arith in rw e
 
-length-part : (a e : ℕ) (l : List ℕ) → a ≤ e → e ≤ length l → length (part a e l) ≡ e - a
-length-part a e l h k = simp (length-take, length-drop) (omega arith)
+length-stretch : (a e : ℕ) (l : List ℕ) → a ≤ e → e ≤ length l → length (stretch a e l) ≡ e - a
+length-stretch a e l h k = simp (length-take, length-drop) (omega arith)
 
-part-more : (a i : ℕ) (l : List ℕ) → a ≤ i → i < length l → part a (i + 1) l ≡ part a i l ++ (getD l i 0 ∷ [])
-part-more a i l h k =
+stretch-more : (a i : ℕ) (l : List ℕ) → a ≤ i → i < length l → stretch a (i + 1) l ≡ stretch a i l ++ (getD l i 0 ∷ [])
+stretch-more a i l h k =
     let n : i + 1 - a ≡ suc (i - a) = omega arith in
     let m : a + (i - a) ≡ i = omega arith in
     rw (n, take-suc (drop a l) (i - a) 0 (simp length-drop (omega arith)), getD-drop a l (i - a) 0, m)
@@ -40,56 +40,56 @@ unfinished-one line s b = unfinished-append s (b ∷ []) line
 
 -- what the bytes before i have left: `out` with the answers, and the line that has not ended from `start` on
 pub record Before (why : Bool) (input out₀ : List ℕ) (from i start used : ℕ) (out : List ℕ) : Type 0 where
-  pub line : part start i input ≡ unfinished (part 0 from input) (part from i input)
-  pub wrote : Wrote out₀ 0 (endedAnswers why (part 0 from input) (part from i input)) used out
+  pub line : stretch start i input ≡ unfinished (stretch 0 from input) (stretch from i input)
+  pub wrote : Wrote out₀ 0 (endedAnswers why (stretch 0 from input) (stretch from i input)) used out
 
 pub before-first : (why : Bool) (input out : List ℕ) (from : ℕ) → Before why input out from from 0 0 out
 unfolding endedAnswers unfinished
-before-first why input out from = record { line = rw (part-none from input); wrote = rw (part-none from input) record { next = refl; after = sym (put-nil out 0); room = omega arith } }
+before-first why input out from = record { line = rw (stretch-none from input); wrote = rw (stretch-none from input) record { next = refl; after = sym (put-nil out 0); room = omega arith } }
 
 -- the ways out where byte i is taken
-module _ (why : Bool) (input out : List ℕ) (start i used : ℕ) (within : (start ≤ i) × (i < length input)) (room : used + length (answerAt why (eqb (getD input i 0) 10) (part start i input)) ≤ length out) where
+module _ (why : Bool) (input out : List ℕ) (start i used : ℕ) (within : (start ≤ i) × (i < length input)) (room : used + length (answerAt why (eqb (getD input i 0) 10) (stretch start i input)) ≤ length out) where
   abbrev Taken : ℕ → ℕ → List ℕ → Type 0
-  Taken s r o = (s ≤ i + 1) × ((part s (i + 1) input ≡ lineAfter (getD input i 0) (part start i input)) × Wrote out used (answerAt why (eqb (getD input i 0) 10) (part start i input)) r o)
+  Taken s r o = (s ≤ i + 1) × ((stretch s (i + 1) input ≡ lineAfter (getD input i 0) (stretch start i input)) × Wrote out used (answerAt why (eqb (getD input i 0) 10) (stretch start i input)) r o)
 
-  pub answer-fits : eqb (getD input i 0) 10 ≡ true → used + length (lineAnswer why (part start i input)) ≤ length out
+  pub answer-fits : eqb (getD input i 0) 10 ≡ true → used + length (lineAnswer why (stretch start i input)) ≤ length out
   unfolding answerAt
   answer-fits e = rw e at room
 
   pub taken-inside : eqb (getD input i 0) 10 ≡ false → Taken start used out
   unfolding answerAt
-  taken-inside e = (omega arith, rw e (part-more start i input (omega arith) (omega arith), record { next = omega arith; after = sym (put-nil out used); room = rw e at room }))
+  taken-inside e = (omega arith, rw e (stretch-more start i input (omega arith) (omega arith), record { next = omega arith; after = sym (put-nil out used); room = rw e at room }))
 
-  pub taken-end : eqb (getD input i 0) 10 ≡ true → (r : ℕ) (o : List ℕ) → r ≡ used + length (lineAnswer why (part start i input)) → o ≡ put out used (lineAnswer why (part start i input)) → Taken (i + 1) r o
+  pub taken-end : eqb (getD input i 0) 10 ≡ true → (r : ℕ) (o : List ℕ) → r ≡ used + length (lineAnswer why (stretch start i input)) → o ≡ put out used (lineAnswer why (stretch start i input)) → Taken (i + 1) r o
   unfolding answerAt
-  taken-end e r o n p = (omega arith, rw e (part-none (i + 1) input, record { next = n; after = p; room = answer-fits e }))
+  taken-end e r o n p = (omega arith, rw e (stretch-none (i + 1) input, record { next = n; after = p; room = answer-fits e }))
 
 -- the answers to all that comes before place e fit
-pub ended-fit : (why : Bool) (input : List ℕ) (from i end room : ℕ) → from ≤ i → i ≤ end → end ≤ length input → 2 * end + extra why (end - from) ≤ room → length (endedAnswers why (part 0 from input) (part from i input)) ≤ room
+pub ended-fit : (why : Bool) (input : List ℕ) (from i end room : ℕ) → from ≤ i → i ≤ end → end ≤ length input → 2 * end + extra why (end - from) ≤ room → length (endedAnswers why (stretch 0 from input) (stretch from i input)) ≤ room
 ended-fit why input from i end room h k m r =
-    let a = length-part 0 from input (omega arith) (omega arith) in
-    let b = length-part from i input h (omega arith) in
-    let x : extra why (length (part from i input)) ≤ extra why (end - from) = rw b (extra-more why (i - from) (end - from) (omega arith)) in
-    omega (arith, ended-length why (part from i input) (part 0 from input))
+    let a = length-stretch 0 from input (omega arith) (omega arith) in
+    let b = length-stretch from i input h (omega arith) in
+    let x : extra why (length (stretch from i input)) ≤ extra why (end - from) = rw b (extra-more why (i - from) (end - from) (omega arith)) in
+    omega (arith, ended-length why (stretch from i input) (stretch 0 from input))
 
 pub before-fits : (why : Bool) (input out₀ out : List ℕ) (from i end start used : ℕ) → from ≤ i → i < end → end ≤ length input → 2 * end + extra why (end - from) ≤ length out₀ → Before why input out₀ from i start used out
-    → used + length (answerAt why (eqb (getD input i 0) 10) (part start i input)) ≤ length out₀
+    → used + length (answerAt why (eqb (getD input i 0) 10) (stretch start i input)) ≤ length out₀
 before-fits why input out₀ out from i end start used h k m r b =
-    let n : endedAnswers why (part 0 from input) (part from (i + 1) input) ≡ endedAnswers why (part 0 from input) (part from i input) ++ answerAt why (eqb (getD input i 0) 10) (part start i input) =
-    rw (part-more from i input h (omega arith), b .line) (ended-one why (part 0 from input) (part from i input) (getD input i 0)) in
-    omega (arith, ended-fit why input from (i + 1) end (length out₀) (omega arith) (omega arith) m r, b .wrote .next, ap length n, length-append (endedAnswers why (part 0 from input) (part from i input)) (answerAt why (eqb (getD input i 0) 10) (part start i input)))
+    let n : endedAnswers why (stretch 0 from input) (stretch from (i + 1) input) ≡ endedAnswers why (stretch 0 from input) (stretch from i input) ++ answerAt why (eqb (getD input i 0) 10) (stretch start i input) =
+    rw (stretch-more from i input h (omega arith), b .line) (ended-one why (stretch 0 from input) (stretch from i input) (getD input i 0)) in
+    omega (arith, ended-fit why input from (i + 1) end (length out₀) (omega arith) (omega arith) m r, b .wrote .next, ap length n, length-append (endedAnswers why (stretch 0 from input) (stretch from i input)) (answerAt why (eqb (getD input i 0) 10) (stretch start i input)))
 
 pub before-next : (why : Bool) (input out₀ out : List ℕ) (from i start used : ℕ) → from ≤ i → i < length input → Before why input out₀ from i start used out
-    → (s r : ℕ) (o : List ℕ) → part s (i + 1) input ≡ lineAfter (getD input i 0) (part start i input) → Wrote out used (answerAt why (eqb (getD input i 0) 10) (part start i input)) r o → Before why input out₀ from (i + 1) s r o
+    → (s r : ℕ) (o : List ℕ) → stretch s (i + 1) input ≡ lineAfter (getD input i 0) (stretch start i input) → Wrote out used (answerAt why (eqb (getD input i 0) 10) (stretch start i input)) r o → Before why input out₀ from (i + 1) s r o
 before-next why input out₀ out from i start used h k b s r o e w =
-    let more = part-more from i input h k in
+    let more = stretch-more from i input h k in
     record {
-      line = rw more (e ∙ ap (lineAfter (getD input i 0)) (b .line) ∙ sym (unfinished-one (part 0 from input) (part from i input) (getD input i 0)));
-      wrote = rw (more, ended-one why (part 0 from input) (part from i input) (getD input i 0), ← b .line) (both (b .wrote) w);
+      line = rw more (e ∙ ap (lineAfter (getD input i 0)) (b .line) ∙ sym (unfinished-one (stretch 0 from input) (stretch from i input) (getD input i 0)));
+      wrote = rw (more, ended-one why (stretch 0 from input) (stretch from i input) (getD input i 0), ← b .line) (both (b .wrote) w);
     }
 
 pub before-end : (why : Bool) (input out₀ out : List ℕ) (from i end start used : ℕ) → i ≡ end → Before why input out₀ from i start used out
-    → (r : ℕ) (o : List ℕ) → Wrote input 0 (take 4097 (part start end input)) r o
+    → (r : ℕ) (o : List ℕ) → Wrote input 0 (take 4097 (stretch start end input)) r o
     → Stepped why input out₀ from end r used o out
 unfolding held
 before-end why input out₀ out from i end start used q b r o w = record { answered = rw q at (b .wrote); holds = rw (← rw q at (b .line)) w }
@@ -133,8 +133,8 @@ move-all most n l = go (leb n most) refl
         let m : min most n ≡ most = omega (arith, leb-false n most e) in
         rw m (sym (take-take most n l (omega (arith, leb-false n most e))))
 
-pub move-done : (l₀ l : List ℕ) (start end n i : ℕ) → start ≤ end → end ≤ length l₀ → n ≡ min 4097 (end - start) → i ≡ n → l ≡ put l₀ 0 (take i (drop start l₀)) → Wrote l₀ 0 (take 4097 (part start end l₀)) n l
+pub move-done : (l₀ l : List ℕ) (start end n i : ℕ) → start ≤ end → end ≤ length l₀ → n ≡ min 4097 (end - start) → i ≡ n → l ≡ put l₀ 0 (take i (drop start l₀)) → Wrote l₀ 0 (take 4097 (stretch start end l₀)) n l
 move-done l₀ l start end n i h k m q e =
-    let t : take i (drop start l₀) ≡ take 4097 (part start end l₀) = ap (λ j. take j (drop start l₀)) (q ∙ m) ∙ move-all 4097 (end - start) (drop start l₀) in
+    let t : take i (drop start l₀) ≡ take 4097 (stretch start end l₀) = ap (λ j. take j (drop start l₀)) (q ∙ m) ∙ move-all 4097 (end - start) (drop start l₀) in
     let f : length (take i (drop start l₀)) ≡ n = simp (length-take, length-drop) (omega arith) in
     rw (← t) (record { next = omega arith; after = e; room = omega arith })

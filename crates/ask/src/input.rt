@@ -6,7 +6,7 @@ ghost use lib.Dec.{eqb};
 ghost use lib.ListN.{length, take, getD};
 ghost use Rattle.text.specs.Put.{Wrote};
 ghost use Rattle.ask.specs.Answer.{extra};
-ghost use Rattle.ask.specs.Input.{part, lastAnswer, answerAt, lineAfter, Stepped};
+ghost use Rattle.ask.specs.Input.{stretch, lastAnswer, answerAt, lineAfter, Stepped};
 
 // How much is held at the front of the input, and how many bytes of answers stand in the output.
 pub struct Step {
@@ -23,10 +23,10 @@ struct Spot {
 // Takes byte i, and answers the line from `start` on where the byte ends it.
 fn answer_byte(input: &[u8], start: usize, i: usize, out: &mut [u8], used: usize, why: bool) -> Spot
     requires { ⌜ (start ≤ i) × (i < length (now input)) ⌝ }
-    requires { ⌜ used + length (answerAt why (eqb (getD (now input) i 0) 10) (part start i (now input))) ≤ length (now out) ⌝ }
+    requires { ⌜ used + length (answerAt why (eqb (getD (now input) i 0) 10) (stretch start i (now input))) ≤ length (now out) ⌝ }
     ensures { λ r. ⌜ r .start ≤ i + 1 ⌝ }
-    ensures { λ r. ⌜ part (r .start) (i + 1) (now (input .entry)) ≡ lineAfter (getD (now (input .entry)) i 0) (part start i (now (input .entry))) ⌝ }
-    ensures { λ r. ⌜ Wrote (now (out .entry)) used (answerAt why (eqb (getD (now (input .entry)) i 0) 10) (part start i (now (input .entry)))) (r .used) (now (out .exit)) ⌝ }
+    ensures { λ r. ⌜ stretch (r .start) (i + 1) (now (input .entry)) ≡ lineAfter (getD (now (input .entry)) i 0) (stretch start i (now (input .entry))) ⌝ }
+    ensures { λ r. ⌜ Wrote (now (out .entry)) used (answerAt why (eqb (getD (now (input .entry)) i 0) 10) (stretch start i (now (input .entry)))) (r .used) (now (out .exit)) ⌝ }
 {
     if input[i] != b'\n' {
         return Spot { start, used };
@@ -47,7 +47,7 @@ fn least(a: usize, b: usize) -> usize
 // Moves what stands from `start` to `end` to the front, at most 4,097 bytes of it, and answers how many those are.
 fn keep(input: &mut [u8], start: usize, end: usize) -> usize
     requires { ⌜ (start ≤ end) × (end ≤ length (now input)) ⌝ }
-    ensures { λ r. ⌜ Wrote (now (input .entry)) 0 (take 4097 (part start end (now (input .entry)))) r (now (input .exit)) ⌝ }
+    ensures { λ r. ⌜ Wrote (now (input .entry)) 0 (take 4097 (stretch start end (now (input .entry)))) r (now (input .exit)) ⌝ }
 {
     let n = least(4097, end - start);
     let mut i = 0;

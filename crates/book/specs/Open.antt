@@ -12,10 +12,10 @@ use Rattle.book.specs.declared.Opened.{Opened}
 use Rattle.book.specs.Book.{Current, Book, Counts}
 
 -- the key, or its refusal
-abbrev pub keyIn : Opened → MadeKey
-keyIn o = record { refusal = o .refusal; key = o .key }
+abbrev pub keyMade : Opened → MadeKey
+keyMade o = record { refusal = o .refusal; key = o .key }
 
 -- the bytes b are no book; or they are one with so many records, and the key is that of the text t
 pub data Opens (m : Manner) (b t : List ℕ) (o : Opened) : Type 0 where
   no-book : (Book Current b → ⊥) → o .refusal ≡ badBook → Opens m b t o
-  this-book : Counts Current b (o .count) → keyIn o ≡ madeKey (keyFor m t) → Opens m b t o
+  this-book : Counts Current b (o .count) → keyMade o ≡ madeKey (keyFor m t) → Opens m b t o

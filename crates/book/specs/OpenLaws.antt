@@ -15,7 +15,7 @@ use Rattle.book.specs.declared.Opened.{Opened}
 use Rattle.book.specs.declared.check.BookAnswer.{BookAnswer}
 use Rattle.book.specs.declared.check.BookAnswer.the-variants.{Count, Nothing}
 use Rattle.book.specs.Book.{Current, Book, Counts, Judged}
-use Rattle.book.specs.Open.{Opens, no-book, this-book, keyIn}
+use Rattle.book.specs.Open.{Opens, no-book, this-book, keyMade}
 use Rattle.book.specs.Outcome.{Changed, Found}
 use Rattle.book.specs.OutcomeLaws.{changed-none, found-none}
 use Rattle.book.specs.FindLaws.{changed-refused, looked-refused}
@@ -26,7 +26,7 @@ module _ (m : Manner) (b t : List ℕ) where
   pub open-none : (a : BookAnswer) → Judged Current b a → a ≡ Nothing → (o : Opened) → o .refusal ≡ 9 → Opens m b t o
   open-none a h e o n = no-book (judged-none b a h e) n
 
-  pub open-some : (a : BookAnswer) (n : ℕ) → Judged Current b a → a ≡ Count n → (o : Opened) → o .count ≡ n → keyIn o ≡ madeKey (keyFor m t) → Opens m b t o
+  pub open-some : (a : BookAnswer) (n : ℕ) → Judged Current b a → a ≡ Count n → (o : Opened) → o .count ≡ n → keyMade o ≡ madeKey (keyFor m t) → Opens m b t o
   open-some a n h e o c k = this-book (rw c (judged-holds b a n h e)) k
 
   module _ (o : Opened) (x : Opens m b t o) where
@@ -35,14 +35,14 @@ module _ (m : Manner) (b t : List ℕ) where
       where
         go : Opens m b t o → Changed Current b (meaning (record { manner = m; text = t; asked = q })) (o .refusal) b
         go (no-book n e) = rw e (changed-none n)
-        go (this-book c e) = changed-refused Current b (o .count) c _ (o .refusal) (made-refuses m t (keyIn o) e h q)
+        go (this-book c e) = changed-refused Current b (o .count) c _ (o .refusal) (made-refuses m t (keyMade o) e h q)
 
     pub open-found : (o .refusal ≡ 0 → ⊥) → (q : Asked) (out : List ℕ) → Found Current b (meaning (record { manner = m; text = t; asked = q })) out (buffer.refusal (o .refusal)) out
     open-found h q out = go x
       where
         go : Opens m b t o → Found Current b (meaning (record { manner = m; text = t; asked = q })) out (buffer.refusal (o .refusal)) out
         go (no-book n e) = rw e (found-none n)
-        go (this-book c e) = looked-refused Current b (o .count) c _ (o .refusal) (made-refuses m t (keyIn o) e h q) out
+        go (this-book c e) = looked-refused Current b (o .count) c _ (o .refusal) (made-refuses m t (keyMade o) e h q) out
 
     pub open-counts : o .refusal ≡ 0 → Counts Current b (o .count)
     open-counts h = go x
@@ -56,4 +56,4 @@ module _ (m : Manner) (b t : List ℕ) where
       where
         go : Opens m b t o → Keyed m t (o .key .bytes) (o .key .len)
         go (no-book n e) = absurd (omega (arith, e, h))
-        go (this-book c e) = made-keyed m t (keyIn o) e h
+        go (this-book c e) = made-keyed m t (keyMade o) e h

@@ -44,8 +44,8 @@ pub record Found (F : Form) (b : List ℕ) (m : Meaning) (out : List ℕ) (r : W
   pub value : out₁ ≡ shown answer out
 
 -- ---- what the contracts of the functions say
-abbrev pub Wrote : Form → Manner → List ℕ → List ℕ → List ℕ → ℕ → List ℕ → Type 0
-Wrote F m b t v r b₁ = Changed F b (meaning (write m t v)) r b₁
+abbrev pub Recorded : Form → Manner → List ℕ → List ℕ → List ℕ → ℕ → List ℕ → Type 0
+Recorded F m b t v r b₁ = Changed F b (meaning (write m t v)) r b₁
 
 abbrev pub Removed : Form → Manner → List ℕ → List ℕ → ℕ → List ℕ → Type 0
 Removed F m b t r b₁ = Changed F b (meaning (remove m t)) r b₁

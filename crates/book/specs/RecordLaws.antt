@@ -29,7 +29,7 @@ use Rattle.book.specs.BookLaws.{lawful, sizes}
 use Rattle.book.specs.Check.{Slotted}
 use Rattle.book.specs.CheckLaws.{book-good}
 use Rattle.book.specs.Find.{Placed, Spotted}
-use Rattle.book.specs.Outcome.{Changed, Found, Wrote, Removed, Looked, Made}
+use Rattle.book.specs.Outcome.{Changed, Found, Recorded, Removed, Looked, Made}
 use Rattle.book.specs.Outcome as o
 use Rattle.book.specs.FindLaws.{looked-found, looked-absent, write-replaced, write-inserted, write-full, remove-done, remove-absent}
 
@@ -114,7 +114,7 @@ module _ (m : Manner) (b t field : List ℕ) (n : ℕ) (k : Keyed m t field n) (
   pub look-text : (out : List ℕ) (r : Written) (out₁ : List ℕ) → 64 ≤ length out → Found Current b (looks key) out r out₁ → Looked Current m b t out r out₁
   look-text out r out₁ h l = subst (λ (q : Meaning). Found Current b q out r out₁) (ap looks (ek ∙ k .here) ∙ sym (look-means m t field n k (length out) h)) l
 
-  pub write-text : (v : List ℕ) (r : ℕ) (b₁ : List ℕ) → ValueFits v → Changed Current b (writes key v) r b₁ → Wrote Current m b t v r b₁
+  pub write-text : (v : List ℕ) (r : ℕ) (b₁ : List ℕ) → ValueFits v → Changed Current b (writes key v) r b₁ → Recorded Current m b t v r b₁
   write-text v r b₁ h l = subst (λ (q : Meaning). Changed Current b q r b₁) (ap (λ (j : List ℕ). writes j v) (ek ∙ k .here) ∙ sym (write-means m t field n k v h)) l
 
   pub remove-text : (r : ℕ) (b₁ : List ℕ) → Changed Current b (removes key) r b₁ → Removed Current m b t r b₁

@@ -21,7 +21,7 @@ use text::refusal::BAD_LENGTH;
 use text::refusal::NO_ROOM;
 ghost use mathlib.Core.Path.{_≡_};
 ghost use Rattle.book.specs.Book.{Current};
-ghost use Rattle.book.specs.Outcome.{Wrote, Removed, Looked, Made};
+ghost use Rattle.book.specs.Outcome.{Recorded, Removed, Looked, Made};
 ghost use Rattle.book.specs.Open.{Opens};
 
 // What a call starts from: a refusal, or the number of the book's records and the key of the text.
@@ -75,7 +75,7 @@ pub fn lookup(manner: Manner, book: &[u8], text: &[u8], out: &mut [u8]) -> Writt
 
 // Adds or replaces what the path of a text holds: 9, 1, 2, 3 (17, 18, 19), in a plain call 20, 10, 6, 11.
 pub fn write(manner: Manner, book: &mut [u8], text: &[u8], value: &[u8]) -> u8
-    ensures { λ r. ⌜ Wrote Current manner (now (book .entry)) (now (text .entry)) (now (value .entry)) r (now (book .exit)) ⌝ }
+    ensures { λ r. ⌜ Recorded Current manner (now (book .entry)) (now (text .entry)) (now (value .entry)) r (now (book .exit)) ⌝ }
 {
     let opened = open_call(manner, book, text);
     let refusal = opened.refusal;

@@ -15,11 +15,11 @@ use Rattle.book_records.specs.Records.{Key, get, put, del, Sorted}
 use Rattle.book_records.specs.RecordLaws.{get-put-same, get-put-other, get-del-same, get-del-other, sorted-put, sorted-del, total-put-new, total-put-old, total-del}
 use Rattle.book_records.specs.Act.{Rec, Meaning, refuses, writes, removes, looks, Answer, says, done, gives, addTo, takeFrom, lookIn, act}
 
-abbrev pub keyIn : Meaning → Option Key
-keyIn (refuses n) = none
-keyIn (writes k v) = some k
-keyIn (removes k) = some k
-keyIn (looks k) = some k
+abbrev pub keyMeant : Meaning → Option Key
+keyMeant (refuses n) = none
+keyMeant (writes k v) = some k
+keyMeant (removes k) = some k
+keyMeant (looks k) = some k
 
 -- an answer from what the key holds: 12 ABSENT is given exactly when it holds nothing
 abbrev pub ansOf : Meaning → Option (List ℕ) → Answer
@@ -151,14 +151,14 @@ module _
       go none = omega arith
       go (some u) = omega arith
 
-  pub declines : (s : List Rec) (m : Meaning) → keyIn m ≡ none → act full m s .0 ≡ ansOf m none
+  pub declines : (s : List Rec) (m : Meaning) → keyMeant m ≡ none → act full m s .0 ≡ ansOf m none
   unfolding act
   declines s (refuses n) e = refl
   declines s (writes k v) e = cc
   declines s (removes k) e = cc
   declines s (looks k) e = cc
 
-  pub answersBy : (s : List Rec) (m : Meaning) → Room s m → (k : Key) → keyIn m ≡ some k → act full m s .0 ≡ ansOf m (get s k)
+  pub answersBy : (s : List Rec) (m : Meaning) → Room s m → (k : Key) → keyMeant m ≡ some k → act full m s .0 ≡ ansOf m (get s k)
   unfolding act
   answersBy s (refuses n) h k e = cc
   answersBy s (writes j v) h k e = ap (λ (q : Answer × List Rec). q .0) (write-room s j v h)
@@ -173,7 +173,7 @@ module _
       go none = refl
       go (some u) = refl
 
-  pub leaves : (s : List Rec) (m : Meaning) → Proper s → Room s m → (k : Key) → keyIn m ≡ some k → get (act full m s .1) k ≡ effOf m (get s k)
+  pub leaves : (s : List Rec) (m : Meaning) → Proper s → Room s m → (k : Key) → keyMeant m ≡ some k → get (act full m s .1) k ≡ effOf m (get s k)
   unfolding act
   leaves s (refuses n) g h k e = cc
   leaves s (writes j v) g h k e =
@@ -193,7 +193,7 @@ module _
       go none = refl
       go (some u) = refl
 
-  pub spares : (s : List Rec) (m : Meaning) → Room s m → (k : Key) → (keyIn m ≡ some k → ⊥) → get (act full m s .1) k ≡ get s k
+  pub spares : (s : List Rec) (m : Meaning) → Room s m → (k : Key) → (keyMeant m ≡ some k → ⊥) → get (act full m s .1) k ≡ get s k
   unfolding act
   spares s (refuses n) h k e = refl
   spares s (writes j v) h k e =

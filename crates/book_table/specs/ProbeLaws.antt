@@ -85,17 +85,17 @@ is-miss f n k r (hit j h) g = absurd (g j h)
 is-miss f n k r (miss h) g = refl
 
 -- ---- the table of a list of keys
-abbrev pub keyOf : List Key → ℕ → Key
-keyOf ks i = getD ks i []
+abbrev pub nthKey : List Key → ℕ → Key
+nthKey ks i = getD ks i []
 
 module _ (ks : List Key) (few : length ks < 512) (k : Key) where
-  pub fill-probed : Probed (keyOf ks) (length ks) k (probe (fill ks) (keyOf ks) k)
+  pub fill-probed : Probed (nthKey ks) (length ks) k (probe (fill ks) (nthKey ks) k)
   unfolding fill
-  fill-probed = probed (keyOf ks) (length ks) (filled (keyOf ks) (length ks)) (sound-filled (keyOf ks) (length ks) few) k
+  fill-probed = probed (nthKey ks) (length ks) (filled (nthKey ks) (length ks)) (sound-filled (nthKey ks) (length ks) few) k
 
-  module _ (up : Rising (keyOf ks) (length ks)) where
-    pub fill-hit : (i : ℕ) → probe (fill ks) (keyOf ks) k ≡ suc i ↔ Holds (keyOf ks) (length ks) k i
-    fill-hit i = (hit-is (keyOf ks) (length ks) k _ i fill-probed, is-hit (keyOf ks) (length ks) up k _ i fill-probed)
+  module _ (up : Rising (nthKey ks) (length ks)) where
+    pub fill-hit : (i : ℕ) → probe (fill ks) (nthKey ks) k ≡ suc i ↔ Holds (nthKey ks) (length ks) k i
+    fill-hit i = (hit-is (nthKey ks) (length ks) k _ i fill-probed, is-hit (nthKey ks) (length ks) up k _ i fill-probed)
 
-  pub fill-miss : probe (fill ks) (keyOf ks) k ≡ 0 ↔ Lacks (keyOf ks) (length ks) k
-  fill-miss = (miss-is (keyOf ks) (length ks) k _ fill-probed, is-miss (keyOf ks) (length ks) k _ fill-probed)
+  pub fill-miss : probe (fill ks) (nthKey ks) k ≡ 0 ↔ Lacks (nthKey ks) (length ks) k
+  fill-miss = (miss-is (nthKey ks) (length ks) k _ fill-probed, is-miss (nthKey ks) (length ks) k _ fill-probed)

@@ -16,7 +16,7 @@ use Rattle.book_records.specs.declared.Manner.{Manner}
 use Rattle.book_records.specs.declared.Manner.the-variants.{Plain, Lenient}
 use Rattle.book_records.specs.Calls.{Asked, to-write, to-remove, to-look, Call, look, meaning}
 use Rattle.book.specs.Book.{Current}
-use Rattle.book.specs.Outcome.{Found, Wrote, Removed, Looked}
+use Rattle.book.specs.Outcome.{Found, Recorded, Removed, Looked}
 use Rattle.demands.specs.Permitted.{Permitted}
 use Rattle.demands.specs.Demand3.{Taken, Demand3}
 use Rattle.demands.specs.Demand3Laws as laws
@@ -84,11 +84,11 @@ pub record Looks (m : Manner) (b t out : List ℕ) (r : Written) (out₁ : List 
   pub out-out : now (exits .1 .1 .0) ≡ out₁
   pub ensures : LookPost m lifetimes args result exits
 
-pub wrote : (m : Manner) (b t v : List ℕ) (r : ℕ) (b₁ : List ℕ) → Writes m b t v r b₁ → Wrote Current m b t v r b₁
+pub wrote : (m : Manner) (b t v : List ℕ) (r : ℕ) (b₁ : List ℕ) → Writes m b t v r b₁ → Recorded Current m b t v r b₁
 wrote m b t v r b₁ x = rw (x .book-in, x .text-in, x .value-in, x .number-out, x .book-out) at (go m (x .ensures))
   where
     go : (n : Manner) → WritePost n (x .lifetimes) (x .args) (x .result) (x .exits)
-        → Wrote Current n (now (x .args .0)) (now (x .args .1 .0)) (now (x .args .1 .1 .0)) (x .result) (now (x .exits .0))
+        → Recorded Current n (now (x .args .0)) (now (x .args .1 .0)) (now (x .args .1 .1 .0)) (x .result) (now (x .exits .0))
     go Plain p = p
     go Lenient p = p
 

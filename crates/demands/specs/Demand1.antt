@@ -30,14 +30,14 @@ use Rattle.reader.specs.Encode.{viewBytes, answerBy}
 use Rattle.key.specs.Key.{shownBy}
 use Rattle.wide.specs.Mode.{wide}
 use Rattle.wide.specs.Check.{namedIndexFaultIn, faultIn, newClientIn}
-use Rattle.wide.specs.Read.{readFaultIn, readingBytesIn, keyIn as wideKeyIn}
+use Rattle.wide.specs.Read.{readFaultIn, readingBytesIn, keyIn}
 use Rattle.wide.specs.Render.{renderIn, textIn}
 use Rattle.book_records.specs.declared.Manner.the-variants.{Plain, Lenient}
 use Rattle.book_records.specs.Calls.{write, remove, keyFor}
 use Rattle.book_key.specs.declared.MadeKey.{MadeKey}
 use Rattle.book_key.specs.Field.{madeKey}
 use Rattle.iteration.specs.Block.{blockOf, firstAbove, lastBelow, scanned}
-use Rattle.iteration.specs.Key.{iterationKey, keyIn, answered, pairOf}
+use Rattle.iteration.specs.Key.{iterationKey, keyRevision, answered, pairOf}
 use Rattle.packet.specs.Key.{packetWanted, packetOf}
 use Rattle.demands.specs.Numbers.{readings, renderings, clients, ends, wideReadings, wideRenderings, wideClients, wideEnds, packetReads, packetWrites, writeNumbers, removeNumbers, lookNumbers, named, indexes, wideNamed, wideIndexes, names, wideNames, unread, room, keyNumbers}
 use Rattle.demands.specs.Shape.{Listed, AllZero, Demand1}
@@ -374,7 +374,7 @@ unfolding readFaultIn
 hp-wide-read-holds = writes-number wideReadings _ _ (λ κs a. tt) (λ κs r. r .refusal) (λ κs a. readingBytesIn wide (now (a .0))) refl refl (λ κs a. wides.reading-wants _) (λ κs a r s p. (ap (λ (f : Fault). f .refusal) (p .0), p .1))
 
 pub hp-wide-key-holds : Demand1 hp-wide-key.Pre hp-wide-key.Post wideReadings (λ κs r. r .refusal) (λ κs r. r .length ∷ []) (λ κs a. now (a .1 .0)) (λ κs s. now (s .1 .0))
-hp-wide-key-holds = writes wideReadings _ _ (λ κs a. tt) (λ κs r. r) (λ κs a. wideKeyIn wide (now (a .0))) refl refl (λ κs a. wides.key-wants _) (λ κs a r s p. p)
+hp-wide-key-holds = writes wideReadings _ _ (λ κs a. tt) (λ κs r. r) (λ κs a. keyIn wide (now (a .0))) refl refl (λ κs a. wides.key-wants _) (λ κs a r s p. p)
 
 pub hp-wide-render-holds : Demand1 hp-wide-render.Pre hp-wide-render.Post wideRenderings (λ κs r. r .refusal) (λ κs r. r .length ∷ []) (λ κs a. now (a .1 .1 .1 .1 .1 .0)) (λ κs s. now (s .1 .1 .1 .1 .1 .0))
 hp-wide-render-holds = writes wideRenderings _ _ (λ κs a. tt) (λ κs r. r) (λ κs a. renderIn wide (a .0) (carried (now (a .1 .0)) (now (a .1 .1 .0)) (a .1 .1 .1 .0) (a .1 .1 .1 .1 .0))) refl refl (λ κs a. wides.render-wants _ _) (λ κs a r s p. p)
@@ -393,7 +393,7 @@ hp-wide-receipts-path-holds = writes wideEnds _ _ (λ κs a. tt) (λ κs r. r) (
 
 -- ---- calls that answer a revision number and a height
 pub hp-read-iteration-key-holds : Demand1 hp-read-iteration-key.Pre hp-read-iteration-key.Post (15 ∷ []) (λ κs r. r .refusal) (λ κs r. r .number ∷ r .height ∷ []) (λ κs a. []) (λ κs s. [])
-hp-read-iteration-key-holds = pairs (15 ∷ []) refl (λ κs a. tt) (λ κs r. r) (λ κs a. answered 15 (keyIn (now (a .0)))) (λ κs a. key-refuses (keyIn (now (a .0)))) (λ κs a r s p. p)
+hp-read-iteration-key-holds = pairs (15 ∷ []) refl (λ κs a. tt) (λ κs r. r) (λ κs a. answered 15 (keyRevision (now (a .0)))) (λ κs a. key-refuses (keyRevision (now (a .0)))) (λ κs a r s p. p)
 
 pub hp-first-above-holds : Demand1 hp-first-above.Pre hp-first-above.Post (16 ∷ 12 ∷ []) (λ κs r. r .refusal) (λ κs r. r .number ∷ r .height ∷ []) (λ κs a. []) (λ κs s. [])
 hp-first-above-holds = pairs (16 ∷ 12 ∷ []) refl (λ κs a. tt) (λ κs r. r) (λ κs a. scanned (firstAbove (revision (a .1 .0) (a .1 .1 .0))) (blockOf (now (a .0)))) (λ κs a. scan-refuses (firstAbove (revision (a .1 .0) (a .1 .1 .0))) (blockOf (now (a .0)))) (λ κs a r s p. p)
@@ -484,7 +484,7 @@ pub wide-write-client-id-holds : Demand1 wide-write-client-id.Pre wide-write-cli
 wide-write-client-id-holds = writes wideClients _ _ (λ κs a. tt) (λ κs r. r) (λ κs a. newClientIn wide (now (a .0)) (a .1 .0)) refl refl (λ κs a. wides.client-wants _ _) (λ κs a r s p. p)
 
 pub wide-write-key-holds : Demand1 wide-write-key.Pre wide-write-key.Post wideReadings (λ κs r. r .refusal) (λ κs r. r .length ∷ []) (λ κs a. now (a .1 .0)) (λ κs s. now (s .1 .0))
-wide-write-key-holds = writes wideReadings _ _ (λ κs a. tt) (λ κs r. r) (λ κs a. wideKeyIn wide (now (a .0))) refl refl (λ κs a. wides.key-wants _) (λ κs a r s p. p)
+wide-write-key-holds = writes wideReadings _ _ (λ κs a. tt) (λ κs r. r) (λ κs a. keyIn wide (now (a .0))) refl refl (λ κs a. wides.key-wants _) (λ κs a r s p. p)
 
 pub wide-write-reading-holds : Demand1 wide-write-reading.Pre wide-write-reading.Post wideReadings (λ κs r. r .refusal) (λ κs r. []) (λ κs a. now (a .1 .0)) (λ κs s. now (s .1 .0))
 unfolding readFaultIn
@@ -623,7 +623,7 @@ port-id-from-str-holds = owned (2 ∷ 5 ∷ 6 ∷ []) 128 (λ κs a. tt) _ _ (λ
 
 -- ---- what a Rattle caller reads with: the answer's number, and its values, as `pairOf` and `packetOf` have them
 pub read-iteration-key-holds : Demand1 read-iteration-key.Pre read-iteration-key.Post (15 ∷ []) (λ κs r. pairOf r .refusal) (λ κs r. pairOf r .number ∷ pairOf r .height ∷ []) (λ κs a. []) (λ κs s. [])
-read-iteration-key-holds = pairs (15 ∷ []) refl (λ κs a. tt) (λ κs r. pairOf r) (λ κs a. answered 15 (keyIn (now (a .0)))) (λ κs a. key-refuses (keyIn (now (a .0)))) (λ κs a r s p. ap pairOf p)
+read-iteration-key-holds = pairs (15 ∷ []) refl (λ κs a. tt) (λ κs r. pairOf r) (λ κs a. answered 15 (keyRevision (now (a .0)))) (λ κs a. key-refuses (keyRevision (now (a .0)))) (λ κs a r s p. ap pairOf p)
 
 pub first-above-holds : Demand1 first-above.Pre first-above.Post (16 ∷ 12 ∷ []) (λ κs r. pairOf r .refusal) (λ κs r. pairOf r .number ∷ pairOf r .height ∷ []) (λ κs a. []) (λ κs s. [])
 first-above-holds = pairs (16 ∷ 12 ∷ []) refl (λ κs a. tt) (λ κs r. pairOf r) (λ κs a. scanned (firstAbove (a .1 .0)) (blockOf (now (a .0)))) (λ κs a. scan-refuses (firstAbove (a .1 .0)) (blockOf (now (a .0)))) (λ κs a r s p. ap pairOf p)

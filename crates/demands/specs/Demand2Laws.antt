@@ -23,7 +23,7 @@ use Rattle.path.specs.declared.Refusal.{Refusal}
 use Rattle.path.specs.declared.Refusal.the-variants.{TooLong, NotAscii, NotAPath, NoDigits as WithoutDigits, NotADigit as WithoutDigit, TooLarge as AboveAll}
 use Rattle.path.specs.declared.Reading.the-variants.{Read, Refused}
 use Rattle.path.specs.Kinds.{Carried, kinds}
-use Rattle.path.specs.Read.{fits, fitsKind, readFirst, partsOf, textsOf, render, renderPath, renderOf, readPath, keyBy, keyOf, bytesBy, readingBytes, refusalOf, whyNot, placeOf, faultOf, readFault}
+use Rattle.path.specs.Read.{fits, fitsKind, readFirst, partsOf, textsOf, render, renderPath, renderOf, readPath, keyBy, keyOf, bytesBy, readingBytes, refusalOf, whyNot, placeOf, asFault, readFault}
 use Rattle.path.specs.View.{kindOf, carriedOf}
 use Rattle.path.specs.Valid.{Valid, only, ReadsAs}
 use Rattle.path.specs.ReadLaws.{kinds-apart, read-has, is-reads}
@@ -159,7 +159,7 @@ no-place n w h k e = let z : _≡_ {A = ℕ} 0 1 = cc in omega (arith, z)
 
 module _ (t out : List ℕ) (f : Fault) (e : f ≡ readFault t (length out)) where
   module _ (w : Refusal) (h : readPath t ≡ Refused w) where
-    fault-is : f ≡ faultOf w
+    fault-is : f ≡ asFault w
     unfolding readFault readingBytes answer
     fault-is = e ∙ rw h
 
@@ -171,7 +171,7 @@ module _ (t out : List ℕ) (f : Fault) (e : f ≡ readFault t (length out)) whe
 
   -- no number alone is wrong: what has no place
   module _ (n : ℕ) (m : f .refusal ≡ n) (none : hasPlace n ≡ false) where
-    other-number : (w : Refusal) → hasPlace (refusalOf w) ≡ true → f ≡ faultOf w → ⊥
+    other-number : (w : Refusal) → hasPlace (refusalOf w) ≡ true → f ≡ asFault w → ⊥
     other-number w k q = no-place n w none k (sym m ∙ ap (λ (x : Fault). x .refusal) q)
 
   long-way : 4096 < length t → readPath t ≡ Refused TooLong → WhenRead t out f
@@ -225,7 +225,7 @@ module _ (t out : List ℕ) (f : Fault) (e : f ≡ readFault t (length out)) whe
           too-long = iff-no (other 1 refl) (λ q. omega (arith, q));
           not-ascii = iff-no (other 2 refl) (λ q. let b = q .1 in let z : _≡_ {A = ℕ} 0 1 = cc in omega (arith, z));
           not-a-path = iff-no (other 3 refl) (λ q. q .3 w x);
-          bad-number = λ v g. (λ q. (l, a, subst (NumberWrong fits t) (sym (back-fault w k) ∙ ap asRefusal (sym (fault-is w h) ∙ q) ∙ back-fault v g) x), λ q. fault-is w h ∙ ap faultOf (sym y ∙ wrong-why t v (q .2)));
+          bad-number = λ v g. (λ q. (l, a, subst (NumberWrong fits t) (sym (back-fault w k) ∙ ap asRefusal (sym (fault-is w h) ∙ q) ∙ back-fault v g) x), λ q. fault-is w h ∙ ap asFault (sym y ∙ wrong-why t v (q .2)));
           no-room = iff-no (other 4 refl) (λ q. not-read t w h (q .0));
           done = iff-no (other 0 refl) (λ q. not-read t w h (q .0));
           placeless = λ q. absurd (no-place (f .refusal) w q k m);

@@ -15,7 +15,7 @@ use Rattle.runs.specs.Runs.{Runs}
 use Rattle.runs.specs.RunsLaws.{does-at, kept-at, kept-end, simulates}
 use Rattle.book_records.specs.Records.{Key, get, put, del}
 use Rattle.book_records.specs.Act.{Rec, Meaning, addTo, takeFrom, lookIn, act, Seen, seen}
-use Rattle.book_records.specs.ActLaws.{keyIn, ansOf}
+use Rattle.book_records.specs.ActLaws.{keyMeant, ansOf}
 use Rattle.book_records.specs.Calls.{Call, meaning, PathOf, SamePath}
 use Rattle.book.specs.Book.{Book, bytesWith, fullIn, acts}
 use Rattle.demands.specs.Held.{Holds, Looks, leaves, ProperBook}
@@ -150,7 +150,7 @@ module _ (Does : List ℕ → Call → Seen → List ℕ → Type 0) (permits : 
 
   never-full : (i : ℕ) (m : Made Does x i) → m .answer .number ≡ 11 → ⊥
   unfolding cs
-  never-full i m e = go (keyIn (meaning (m .call))) refl
+  never-full i m e = go (keyMeant (meaning (m .call))) refl
     where
       by-answer : (o : Option (List ℕ)) → getElem? (answers (M .step) s cs) i ≡ some (seen (ansOf (meaning (m .call)) o)) → ⊥
       by-answer o p =
@@ -158,7 +158,7 @@ module _ (Does : List ℕ → Call → Seen → List ℕ → Type 0) (permits : 
           let r : m .answer ≡ seen (ansOf (meaning (m .call)) o) = cc in
           not-eleven (means (m .call)) o (sym (ap (λ (y : Seen). y .number) r) ∙ e)
 
-      go : (k : Option Key) → keyIn (meaning (m .call)) ≡ k → ⊥
+      go : (k : Option Key) → keyMeant (meaning (m .call)) ≡ k → ⊥
       go none f = by-answer none (machine.refused-at M s cs g i (m .call) (m .there) f)
       go (some k) f = by-answer _ (machine.says-at M s cs g room i (m .call) k (m .there) f)
 
@@ -167,7 +167,7 @@ module _ (Does : List ℕ → Call → Seen → List ℕ → Type 0) (permits : 
   holds-end k o e = record { book = book-of (x .book) (x .end) (final (M .step) s cs) (machine.good-final M s cs g) at-the-end; is = e }
 
   -- an accepted write or removal, here and in the machine
-  on-key : (k : Key) (i : ℕ) (u : AcceptedAt Does x k i) → keyIn (meaning (u .made .call)) ≡ some k
+  on-key : (k : Key) (i : ℕ) (u : AcceptedAt Does x k i) → keyMeant (meaning (u .made .call)) ≡ some k
   on-key k i u =
       let e = by-machine i (u .made) in
       key-of-path (means (u .made .call)) k (u .path) (fullIn (x .book)) (final (M .step) s (take i cs)) (sym (ap (λ (y : Seen). y .number) e) ∙ u .accepted .1)

@@ -11,7 +11,7 @@ use Rattle.book_records.specs.declared.Manner.{Manner}
 use Rattle.book_records.specs.declared.Manner.the-variants.{Plain, Lenient}
 use Rattle.book_records.specs.Calls.{Asked, to-write, to-remove, to-look, Call, look, meaning}
 use Rattle.book.specs.Book.{Current}
-use Rattle.book.specs.Outcome.{Found, Wrote, Removed, Looked}
+use Rattle.book.specs.Outcome.{Found, Recorded, Removed, Looked}
 use Rattle.demands.specs.Held.{Room, ProperBook}
 use Rattle.demands.specs.Permitted.{Permitted}
 use Rattle.demands.specs.Demand3.{Taken}
@@ -21,7 +21,7 @@ use Rattle.demands.specs.BookCalls.{WritePost, RemovePost, LookPost, Wri
 abbrev lent : List ℕ → RefT (List ℕ)
 lent l = record { ptr = (0, 0); name = 0; now = l }
 
-writes : (m : Manner) (b t v : List ℕ) (r : ℕ) (b₁ : List ℕ) → Wrote Current m b t v r b₁ → Writes m b t v r b₁
+writes : (m : Manner) (b t v : List ℕ) (r : ℕ) (b₁ : List ℕ) → Recorded Current m b t v r b₁ → Writes m b t v r b₁
 writes m b t v r b₁ w =
     record {
       lifetimes = ([], ([], ([], tt)));
@@ -36,7 +36,7 @@ writes m b t v r b₁ w =
       ensures = go m w;
     }
   where
-    go : (n : Manner) → Wrote Current n b t v r b₁ → WritePost n ([], ([], ([], tt))) (lent b, (lent t, (lent v, tt))) r (lent b₁, (lent t, (lent v, tt)))
+    go : (n : Manner) → Recorded Current n b t v r b₁ → WritePost n ([], ([], ([], tt))) (lent b, (lent t, (lent v, tt))) r (lent b₁, (lent t, (lent v, tt)))
     go Plain p = p
     go Lenient p = p
 

@@ -42,10 +42,10 @@ one-kind = suits-one
 part-length : (t : List ℕ) (p : Place) → length (partOf t p) ≤ p .len
 part-length t p = rw length-take (omega arith)
 
-module _ (t out : List ℕ) (w : Refusal) (out₁ : List ℕ) (call : ReadCall t out (paths.faultOf w) out₁) (placed : hasPlace (paths.refusalOf w) ≡ true) where
+module _ (t out : List ℕ) (w : Refusal) (out₁ : List ℕ) (call : ReadCall t out (paths.asFault w) out₁) (placed : hasPlace (paths.refusalOf w) ≡ true) where
   -- what the place tells: it lies in a number text or at its end, and says what to mend there
   pub read-marks : Marks t w
-  read-marks = wrong-marks t w (when-read t out (paths.faultOf w) out₁ call .bad-number w placed .0 refl .2)
+  read-marks = wrong-marks t w (when-read t out (paths.asFault w) out₁ call .bad-number w placed .0 refl .2)
 
   -- so it lies in the text or at its end
   pub read-inside : paths.placeOf w ≤ length t

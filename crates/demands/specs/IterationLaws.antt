@@ -15,7 +15,7 @@ use Rattle.path.specs.declared.Revision.{Revision}
 use Rattle.path.specs.Pair.{pair}
 use Rattle.iteration.specs.declared.KeyAnswer.{KeyAnswer}
 use Rattle.iteration.specs.declared.KeyAnswer.the-variants.{Key, Refused}
-use Rattle.iteration.specs.Key.{iterationKey, keyIn, answered, pairOf}
+use Rattle.iteration.specs.Key.{iterationKey, keyRevision, answered, pairOf}
 use Rattle.iteration.specs.ReadLaws.{read-written, written-read, key-counted}
 use Rattle.iteration.specs.Block.{rising, blockOf, scanned, Among, Nearest}
 use Rattle.iteration.specs.BlockLaws.{parts}
@@ -32,21 +32,21 @@ number : {x y : Pair} → x ≡ y → x .refusal ≡ y .refusal
 number e = ap (λ (p : Pair). p .refusal) e
 
 -- ---- one key
-pub read-back : (n h : ℕ) → n < 2 ^ 64 → h < 2 ^ 64 → (x : Written) (out : List ℕ) → Done (iterationKey n h) x out → (y : Pair) → y ≡ pairOf (answered 15 (keyIn (take (x .length) out))) → y ≡ pair 0 n h
+pub read-back : (n h : ℕ) → n < 2 ^ 64 → h < 2 ^ 64 → (x : Written) (out : List ℕ) → Done (iterationKey n h) x out → (y : Pair) → y ≡ pairOf (answered 15 (keyRevision (take (x .length) out))) → y ≡ pair 0 n h
 read-back n h a b x out d y e = rw (d .shown, read-written n h a b) at e
 
-module _ (k : List ℕ) (b : Bytes k) (y : Pair) (e : y ≡ pairOf (answered 15 (keyIn k))) where
+module _ (k : List ℕ) (b : Bytes k) (y : Pair) (e : y ≡ pairOf (answered 15 (keyRevision k))) where
   pub write-back : y .refusal ≡ 0 → (x : Written) (out : List ℕ) → Done (iterationKey (y .number) (y .height)) x out → take (x .length) out ≡ k
-  write-back z x out d = d .shown ∙ go (keyIn k) refl
+  write-back z x out d = d .shown ∙ go (keyRevision k) refl
     where
-      go : (o : Option Revision) → keyIn k ≡ o → iterationKey (y .number) (y .height) ≡ k
+      go : (o : Option Revision) → keyRevision k ≡ o → iterationKey (y .number) (y .height) ≡ k
       go none f = let q = number (rw f at e) in absurd (let w : ⊥ = omega arith in w)
       go (some p) f = rw (rw f at e) (written-read k p b f)
 
   pub when-key : WhenKey k (y .refusal)
-  when-key = go (keyIn k) refl
+  when-key = go (keyRevision k) refl
     where
-      go : (o : Option Revision) → keyIn k ≡ o → WhenKey k (y .refusal)
+      go : (o : Option Revision) → keyRevision k ≡ o → WhenKey k (y .refusal)
       go (some p) f =
           let q = number (rw f at e) in
           let c = key-counted k p b f in

@@ -12,7 +12,7 @@ use denote.Triple.Clauses.{AtExit}
 use Rattle.text.specs.Refusal.{badIterKey}
 use Rattle.path.specs.declared.Pair.{Pair}
 use Rattle.path.specs.Revision.{revision}
-use Rattle.iteration.specs.Key.{keyIn, answered, pairOf}
+use Rattle.iteration.specs.Key.{keyRevision, answered, pairOf}
 use Rattle.iteration.specs.Block.{blockOf, firstAbove, lastBelow, scanned}
 use Rattle.hostpath.proofs.hp_read_iteration_key as r
 use Rattle.hostpath.proofs.hp_read_iteration_key.Kinds as rk
@@ -56,9 +56,9 @@ pub record BelowCall (block : List ℕ) (number height : ℕ) (x : Pair) : Type 
   pub ensures : lr.Post lifetimes args result exits
 
 -- ---- what they ensure, in those names
-pub reading-key : {k : List ℕ} {y : Pair} → ReadKeyCall k y → y ≡ pairOf (answered badIterKey (keyIn k))
+pub reading-key : {k : List ℕ} {y : Pair} → ReadKeyCall k y → y ≡ pairOf (answered badIterKey (keyRevision k))
 reading-key x =
-    let p : x .result ≡ pairOf (answered badIterKey (keyIn (now (x .args .0)))) = x .ensures in
+    let p : x .result ≡ pairOf (answered badIterKey (keyRevision (now (x .args .0)))) = x .ensures in
     rw (x .key-in, x .pair-out) at p
 
 pub above : {block : List ℕ} {number height : ℕ} {y : Pair} → AboveCall block number height y → y ≡ pairOf (scanned (firstAbove (revision number height)) (blockOf block))

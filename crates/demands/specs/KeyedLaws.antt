@@ -21,7 +21,7 @@ use Rattle.path.specs.declared.Refusal.the-variants.{TooLong, NotAscii, NotAPat
 use Rattle.path.specs.declared.Reading.{Reading}
 use Rattle.path.specs.declared.Reading.the-variants.{Read, Refused}
 use Rattle.path.specs.Number.{NumberWrong}
-use Rattle.path.specs.Read.{fits, readPath, keyOf, renderPath, refusalOf, faultOf, readingBytes, readFault}
+use Rattle.path.specs.Read.{fits, readPath, keyOf, renderPath, refusalOf, asFault, readingBytes, readFault}
 use Rattle.path.specs.Reads.{Reads}
 use Rattle.path.specs.ReadLaws.{reads-is, reads-one}
 use Rattle.path.specs.BackLaws.{read-short, read-ascii, read-reads}
@@ -42,7 +42,7 @@ refusal-some (WithoutDigit i) h = omega (arith, h)
 refusal-some (AboveAll i) h = omega (arith, h)
 
 -- a fault that has a place is a refusal of reading
-as-refusal : (f : Fault) → hasPlace (f .refusal) ≡ true → (w : Refusal) × (f ≡ faultOf w)
+as-refusal : (f : Fault) → hasPlace (f .refusal) ≡ true → (w : Refusal) × (f ≡ asFault w)
 as-refusal f h = go (eqb (f .refusal) 17) refl (eqb (f .refusal) 18) refl
   where
     least : 17 ≤ f .refusal
@@ -54,7 +54,7 @@ as-refusal f h = go (eqb (f .refusal) 17) refl (eqb (f .refusal) 18) refl
     is : (n : ℕ) → f .refusal ≡ n → f ≡ record { refusal = n; place = f .place }
     is n e = ap (λ (m : ℕ). let y : Fault = record { refusal = m; place = f .place } in y) e
 
-    go : (a : Bool) → eqb (f .refusal) 17 ≡ a → (b : Bool) → eqb (f .refusal) 18 ≡ b → (w : Refusal) × (f ≡ faultOf w)
+    go : (a : Bool) → eqb (f .refusal) 17 ≡ a → (b : Bool) → eqb (f .refusal) 18 ≡ b → (w : Refusal) × (f ≡ asFault w)
     go true a b c = (WithoutDigits (f .place), is 17 (eqb-true (f .refusal) 17 a))
     go false a true c = (WithoutDigit (f .place), is 18 (eqb-true (f .refusal) 18 c))
     go false a false c =
@@ -69,7 +69,7 @@ module _ (takes : List ℕ → Bool) (other : ℕ) (seen : List ℕ → List ℕ
     pub too-long : (f .refusal ≡ 1) ↔ (4096 < length t)
     pub not-taken : (f .refusal ≡ other) ↔ ((length t ≤ 4096) × (takes t ≡ false))
     pub not-a-path : (f .refusal ≡ 3) ↔ ((length t ≤ 4096) × (takes t ≡ true) × Unfit t × ((w : Refusal) → Wrong t w → ⊥))
-    pub bad-number : (w : Refusal) → hasPlace (refusalOf w) ≡ true → (f ≡ faultOf w) ↔ ((length t ≤ 4096) × (takes t ≡ true) × Wrong t w)
+    pub bad-number : (w : Refusal) → hasPlace (refusalOf w) ≡ true → (f ≡ asFault w) ↔ ((length t ≤ 4096) × (takes t ≡ true) × Wrong t w)
     pub room : f .refusal ≡ 4 → ⊥
     pub done : (length t ≤ 4096) × (takes t ≡ true) × ((p : Path) × Reads (seen t) p) → f .refusal ≡ 0
 

@@ -13,7 +13,7 @@ use Rattle.runs.specs.MachineLaws.{Independent, Enough}
 use Rattle.book_records.specs.Records.{Key, get}
 use Rattle.book_records.specs.RecordLaws.{records-ext}
 use Rattle.book_records.specs.Act.{Rec, Meaning, refuses, Answer, says, act, Seen, seen}
-use Rattle.book_records.specs.ActLaws.{keyIn, ansOf, effOf, dec-some, countOf, chargeOf, Proper, good, pays, declines, answersBy, leaves, spares}
+use Rattle.book_records.specs.ActLaws.{keyMeant, ansOf, effOf, dec-some, countOf, chargeOf, Proper, good, pays, declines, answersBy, leaves, spares}
 use Rattle.book_records.specs.Calls.{Asked, to-write, to-remove, to-look, Call, meaning, PathOf}
 use Rattle.demands.specs.Held as calls
 use Rattle.book_form.specs.Form.{AllFit}
@@ -26,14 +26,14 @@ use Rattle.demands.specs.HeldLaws.{fit-act, exact-act, length-with}
 use Rattle.demands.specs.PermittedLaws.{permitted-book}
 
 -- ---- a call and its meaning
-pub path-of-key : {c : Call} {m : Meaning} → Means c m → (k : Key) → keyIn m ≡ some k → PathOf c k
+pub path-of-key : {c : Call} {m : Meaning} → Means c m → (k : Key) → keyMeant m ≡ some k → PathOf c k
 path-of-key (by-case.declines d) k e = let z : _≡_ {A = ℕ} 0 1 = cc in absurd (omega arith)
 path-of-key (writing {k = j} ok) k e = let q : j ≡ k = cc in rw (← q) (ok .key .path)
 path-of-key (removing {k = j} ok) k e = let q : j ≡ k = cc in rw (← q) (ok .key .path)
 path-of-key (looking {k = j} ok) k e = let q : j ≡ k = cc in rw (← q) (ok .key .path)
 
 -- the key of a call that is not refused
-pub key-of-path : {c : Call} {m : Meaning} → Means c m → (k : Key) → PathOf c k → (full : Key → List Rec → Bool) (s : List Rec) → seen (act full m s .0) .number ≡ 0 → keyIn m ≡ some k
+pub key-of-path : {c : Call} {m : Meaning} → Means c m → (k : Key) → PathOf c k → (full : Key → List Rec → Bool) (s : List Rec) → seen (act full m s .0) .number ≡ 0 → keyMeant m ≡ some k
 unfolding act
 key-of-path (by-case.declines d) k p full s e = absurd (declined-not d .0 e)
 key-of-path {c} (writing {k = j} ok) k p full s e = ap {B = Option Key} some (one-path c j k (ok .key .path) p)
@@ -131,8 +131,8 @@ module _ {b : List ℕ} (x : ProperBook b) where
         get = get;
         free = slotsFree;
         charge = charge;
-        key = λ c. keyIn (meaning c);
-        isKey = λ k c. dec-some (keyIn (meaning c)) k;
+        key = λ c. keyMeant (meaning c);
+        isKey = λ k c. dec-some (keyMeant (meaning c)) k;
         refusal = λ c. seen (ansOf (meaning c) none);
         ans = λ c x. seen (ansOf (meaning c) x);
         eff = λ c. effOf (meaning c);

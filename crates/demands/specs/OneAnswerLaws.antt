@@ -21,7 +21,7 @@ use Rattle.path.specs.declared.Reading.{Reading}
 use Rattle.path.specs.declared.Reading.the-variants.{Read, Refused}
 use Rattle.path.specs.declared.name.Name.{Name}
 use Rattle.path.specs.Kinds.{Carried}
-use Rattle.path.specs.Read.{readPath, keyOf, renderPath, readingBytes, readFault, faultOf, refusalOf}
+use Rattle.path.specs.Read.{readPath, keyOf, renderPath, readingBytes, readFault, asFault, refusalOf}
 use Rattle.path.specs.Reads.{Reads}
 use Rattle.path.specs.ReadLaws.{reads-one}
 use Rattle.path.specs.BackLaws.{read-short, read-ascii, read-reads}
@@ -42,14 +42,14 @@ module _ (t out : List ℕ) (f g : Fault) (w : WhenRead t out f) (e : g ≡ read
       let r : f .refusal ≡ g .refusal = a ∙ sym b in
       λ i. record { refusal = r i; place = p i }
 
-  by-number : (v : Refusal) → hasPlace (refusalOf v) ≡ true → g ≡ faultOf v → f ≡ g
+  by-number : (v : Refusal) → hasPlace (refusalOf v) ≡ true → g ≡ asFault v → f ≡ g
   by-number v h b = w .bad-number v h .1 (ours .bad-number v h .0 b) ∙ sym b
 
   pub one-fault : f ≡ g
   unfolding readFault readingBytes answer
   one-fault = go (readPath t) refl
     where
-      is : (v : Refusal) → readPath t ≡ Refused v → g ≡ faultOf v
+      is : (v : Refusal) → readPath t ≡ Refused v → g ≡ asFault v
       is v h = e ∙ rw h
 
       go : (y : Reading) → readPath t ≡ y → f ≡ g

@@ -30,13 +30,13 @@ use Rattle.packet.specs.declared.PacketAnswer.{PacketAnswer}
 use Rattle.packet.specs.declared.PacketAnswer.the-variants.{Key, Refused}
 use Rattle.packet.specs.declared.PacketKey.{PacketKey}
 use Rattle.packet.specs.declared.PacketKind.{PacketKind}
-use Rattle.packet.specs.Key.{markerOf, kindOf, packetKey, packet, cutPlace, clientIn, markerIn, readAs, packetIn, packetOf, writeAs, packetWanted}
+use Rattle.packet.specs.Key.{markerOf, kindMarked, packetKey, packet, cutPlace, clientIn, markerIn, readAs, packetIn, packetOf, writeAs, packetWanted}
 use Rattle.packet.specs.KeyLaws.{kind-marker, marker-kind, no-kind, one-marker, key-length, client-there, read-written, key-one, key-reads, written-read, key-counted}
 use Rattle.packet.specs.PathLaws.{short-key, no-kind-fits, no-number, no-path}
 use Rattle.packet.specs.WayLaws.{read-short, read-marked, read-unknown, write-unknown, write-refused, write-text}
 use Rattle.demands.specs.BookCalls.{Does, permits-to}
 use Rattle.demands.specs.Demand2Laws.{iff-yes, iff-no, wrote}
-use Rattle.demands.specs.Packeted.{Marks, Marked, WhenV2Read, WhenV2Written, IsPacket, Says}
+use Rattle.demands.specs.Packeted.{IsMarker, Marked, WhenV2Read, WhenV2Written, IsPacket, Says}
 use Rattle.demands.specs.Held.{ProperBook}
 use Rattle.demands.specs.PermittedLaws.{refused-exactly}
 use Rattle.demands.specs.Refusals as refusals
@@ -75,8 +75,8 @@ module _ (key : List ℕ) where
           by-client = λ r d. (λ w. (is, sym q ∙ w), λ w. q ∙ w .1);
         }
 
-    sized : 9 ≤ length key → (x : KindAnswer) → kindOf (markerIn key) ≡ x → WhenV2Read key n
-    sized l Unknown z = unmarked (e ∙ ap (λ (a : PacketAnswer). packetOf a .refusal) (sym (read-unknown key l (kindOf (markerIn key)) refl z))) (λ w. no-kind (markerIn key) (w .marker .0) z (w .marker .1))
+    sized : 9 ≤ length key → (x : KindAnswer) → kindMarked (markerIn key) ≡ x → WhenV2Read key n
+    sized l Unknown z = unmarked (e ∙ ap (λ (a : PacketAnswer). packetOf a .refusal) (sym (read-unknown key l (kindMarked (markerIn key)) refl z))) (λ w. no-kind (markerIn key) (w .marker .0) z (w .marker .1))
     sized l (Kind k) z =
         checked (record { size = l; marker = (k, marker-kind (markerIn key) k z) }) (e ∙ ap (λ (a : PacketAnswer). packetOf a .refusal) (read-marked key l (Kind k) (sym z)) ∙ marked-number k)
 
@@ -85,16 +85,16 @@ module _ (key : List ℕ) where
       where
         go : (b : Bool) → ltb (length key) 9 ≡ b → WhenV2Read key n
         go true z = let l = ltb-true (length key) 9 z in unmarked (e ∙ ap (λ (a : PacketAnswer). packetOf a .refusal) (sym (read-short key l))) (λ w. omega (arith, w .size))
-        go false z = sized (ltb-false (length key) 9 z) (kindOf (markerIn key)) refl
+        go false z = sized (ltb-false (length key) 9 z) (kindMarked (markerIn key)) refl
 
 -- ---- when a writing is refused
 module _ (m : ℕ) (c : List ℕ) (s : ℕ) (room : ℕ) (x : Written) (e : x ≡ answer (packetWanted m c s) room) where
-  module _ (k : PacketKind) (z : kindOf m ≡ Kind k) where
-    marks : Marks m
+  module _ (k : PacketKind) (z : kindMarked m ≡ Kind k) where
+    marks : IsMarker m
     marks = (k, marker-kind m k z)
 
     by-text : checkOf client c ≡ 0 → packetWanted m c s ≡ text (packetKey k c s)
-    by-text ok = write-text m c s (kindOf m) refl k z (checkOf client c) refl ok
+    by-text ok = write-text m c s (kindMarked m) refl k z (checkOf client c) refl ok
 
     fitting : checkOf client c ≡ 0 → length c + 9 ≤ room → WhenV2Written m c room (x .refusal)
     fitting ok l =
@@ -118,7 +118,7 @@ module _ (m : ℕ) (c : List ℕ) (s : ℕ) (room : ℕ) (x : Written) (e : x �
 
     refusing : (checkOf client c ≡ 0 → ⊥) → WhenV2Written m c room (x .refusal)
     refusing z₁ =
-        let q : x .refusal ≡ checkOf client c = written-number (rw (write-refused m c s (kindOf m) refl k z (checkOf client c) refl z₁) at e ∙ answer-refused (checkOf client c) room) in
+        let q : x .refusal ≡ checkOf client c = written-number (rw (write-refused m c s (kindMarked m) refl k z (checkOf client c) refl z₁) at e ∙ answer-refused (checkOf client c) room) in
         record {
           bad-kind = iff-no (λ w. client-numbers c .0 (sym q ∙ w)) (λ w. w marks);
           bad-client = λ r a b d. (λ w. (marks, sym q ∙ w), λ w. q ∙ w .1);
@@ -134,10 +134,10 @@ module _ (m : ℕ) (c : List ℕ) (s : ℕ) (room : ℕ) (x : Written) (e : x �
         go true y (yes l) = short (eqb-true (checkOf client c) 0 y) l
         go true y (no l) = fitting (eqb-true (checkOf client c) 0 y) (omega arith)
 
-  unknown : kindOf m ≡ Unknown → WhenV2Written m c room (x .refusal)
+  unknown : kindMarked m ≡ Unknown → WhenV2Written m c room (x .refusal)
   unknown z =
-      let q : x .refusal ≡ 24 = written-number (rw (write-unknown m c s (kindOf m) refl z) at e ∙ answer-refused 24 room) in
-      let not : Marks m → ⊥ = λ w. no-kind m (w .0) z (w .1) in
+      let q : x .refusal ≡ 24 = written-number (rw (write-unknown m c s (kindMarked m) refl z) at e ∙ answer-refused 24 room) in
+      let not : IsMarker m → ⊥ = λ w. no-kind m (w .0) z (w .1) in
       record {
         bad-kind = iff-yes q not;
         bad-client = λ r a b d. iff-no (λ w. d (sym w ∙ q)) (λ w. not (w .0));
@@ -146,16 +146,16 @@ module _ (m : ℕ) (c : List ℕ) (s : ℕ) (room : ℕ) (x : Written) (e : x �
       }
 
   pub when-written : WhenV2Written m c room (x .refusal)
-  when-written = go (kindOf m) refl
+  when-written = go (kindMarked m) refl
     where
-      go : (y : KindAnswer) → kindOf m ≡ y → WhenV2Written m c room (x .refusal)
+      go : (y : KindAnswer) → kindMarked m ≡ y → WhenV2Written m c room (x .refusal)
       go Unknown z = unknown z
       go (Kind k) z = of-kind k z
 
 -- ---- what a writing that is done wrote
 module _ (m : ℕ) (c : List ℕ) (s : ℕ) (out : List ℕ) (x : Written) (out₁ : List ℕ) (e : x ≡ answer (packetWanted m c s) (length out)) (f : out₁ ≡ left (packetWanted m c s) out) where
   pub wrote-packet : (k : PacketKind) → markerOf k ≡ m → checkOf client c ≡ 0 → length c + 9 ≤ length out → Done (packetKey k c s) x out₁
-  wrote-packet k z ok l = wrote (packetKey k c s) out (omega (arith, key-length k c s)) (packetWanted m c s) (write-text m c s (kindOf m) refl k (ap kindOf (sym z) ∙ kind-marker k) (checkOf client c) refl ok) x out₁ e f
+  wrote-packet k z ok l = wrote (packetKey k c s) out (omega (arith, key-length k c s)) (packetWanted m c s) (write-text m c s (kindMarked m) refl k (ap kindMarked (sym z) ∙ kind-marker k) (checkOf client c) refl ok) x out₁ e f
 
   pub written-done : x .refusal ≡ 0 → (k : PacketKind) × (markerOf k ≡ m) × (checkOf client c ≡ 0) × Done (packetKey k c s) x out₁
   written-done z = let w = when-written m c s (length out) x e .done .0 z in (w .0 .0, w .0 .1, w .1, wrote-packet (w .0 .0) (w .0 .1) (w .1) (w .2))
@@ -168,7 +168,7 @@ module _ (key : List ℕ) (b : Bytes key) (y : Packet) (e : y ≡ packetOf (pack
       let w = when-read key (y .refusal) (number e) .by-client 0 (λ q. omega arith) .0 z in
       let m = w .0 .marker in
       let k = m .0 in
-      let is : kindOf (markerIn key) ≡ Kind k = ap kindOf (sym (m .1)) ∙ kind-marker k in
+      let is : kindMarked (markerIn key) ≡ Kind k = ap kindMarked (sym (m .1)) ∙ kind-marker k in
       let p : PacketKey = packet k (cutPlace key) (bigAt (cutPlace key + 1) 8 key) in
       let found : readAs (Kind k) key ≡ Key p = rw (eq-eqb (checkOf client (clientIn key)) 0 (w .1)) in
       let q : packetIn key ≡ Key p = read-marked key (w .0 .size) (Kind k) (sym is) ∙ found in
@@ -269,7 +269,7 @@ module _ (key : List ℕ) (b : Bytes key) (y : Packet) (e : y ≡ packetOf (pack
 -- ---- demand 1
 read-listed : (key : List ℕ) → Listed packetReads (packetOf (packetIn key) .refusal)
 unfolding packetIn
-read-listed key = go (ltb (length key) 9) (kindOf (markerIn key))
+read-listed key = go (ltb (length key) 9) (kindMarked (markerIn key))
   where
     checks : Listed packetReads (checkOf client (clientIn key))
     checks = plain-of (Listed packetReads) refl refl refl refl 9 64 (clientIn key)
@@ -285,7 +285,7 @@ zeros (Refused n) h = (refl, (refl, (refl, tt)))
 
 pub packet-wants : (m : ℕ) (c : List ℕ) (n : ℕ) → Wants packetWrites (packetWanted m c n)
 unfolding packetWanted
-packet-wants m c n = go (kindOf m)
+packet-wants m c n = go (kindMarked m)
   where
     go : (x : KindAnswer) → Wants packetWrites (writeAs x c n)
     go Unknown = refl

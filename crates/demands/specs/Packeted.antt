@@ -12,13 +12,13 @@ use Rattle.packet.specs.declared.PacketKind.{PacketKind}
 use Rattle.packet.specs.Key.{markerOf, packetKey, clientIn, markerIn}
 
 -- a byte marks some kind
-abbrev pub Marks : ℕ → Type 0
-Marks m = (k : PacketKind) × (markerOf k ≡ m)
+abbrev pub IsMarker : ℕ → Type 0
+IsMarker m = (k : PacketKind) × (markerOf k ≡ m)
 
 -- there are nine bytes at least, and the ninth from the end marks a kind
 pub record Marked (key : List ℕ) : Type 0 where
   pub size : 9 ≤ length key
-  pub marker : Marks (markerIn key)
+  pub marker : IsMarker (markerIn key)
 
 -- the number n of a reading of key, each exactly when: 24 by the last nine bytes alone, and then what the client's checks give, 0 where it is done
 pub record WhenV2Read (key : List ℕ) (n : ℕ) : Type 0 where
@@ -27,10 +27,10 @@ pub record WhenV2Read (key : List ℕ) (n : ℕ) : Type 0 where
 
 -- the number n of a writing of that kind and client into so much room, each exactly when
 pub record WhenV2Written (m : ℕ) (c : List ℕ) (room n : ℕ) : Type 0 where
-  pub bad-kind : (n ≡ badV2Key) ↔ (Marks m → ⊥)
-  pub bad-client : (r : ℕ) → (r ≡ 0 → ⊥) → (r ≡ noRoom → ⊥) → (r ≡ badV2Key → ⊥) → (n ≡ r) ↔ (Marks m × (checkOf client c ≡ r))
-  pub no-room : (n ≡ noRoom) ↔ (Marks m × (checkOf client c ≡ 0) × (room < length c + 9))
-  pub done : (n ≡ 0) ↔ (Marks m × (checkOf client c ≡ 0) × (length c + 9 ≤ room))
+  pub bad-kind : (n ≡ badV2Key) ↔ (IsMarker m → ⊥)
+  pub bad-client : (r : ℕ) → (r ≡ 0 → ⊥) → (r ≡ noRoom → ⊥) → (r ≡ badV2Key → ⊥) → (n ≡ r) ↔ (IsMarker m × (checkOf client c ≡ r))
+  pub no-room : (n ≡ noRoom) ↔ (IsMarker m × (checkOf client c ≡ 0) × (room < length c + 9))
+  pub done : (n ≡ 0) ↔ (IsMarker m × (checkOf client c ≡ 0) × (length c + 9 ≤ room))
 
 -- key is what is written of this kind, this client and this sequence
 pub record IsPacket (key : List ℕ) (k : PacketKind) (c : List ℕ) (n : ℕ) : Type 0 where

@@ -22,7 +22,7 @@ use Rattle.path.specs.declared.name.Name.{Name}
 use Rattle.path.specs.declared.name.Name.the-variants.{Client as client, Connection as connection, Port as port, Channel as channel, Upgrade as upgrade}
 use Rattle.path.specs.Kinds.{Part, word, name, count, pair, Kind, kinds}
 use Rattle.path.specs.Text.{components, component, onto, cutStep, cutAt, joinBy, places, placesFrom}
-use Rattle.path.specs.TextLaws.{without, allWithout, join-cut, cut-join}
+use Rattle.path.specs.TextLaws.{without, allWithout, cut-some, join-cut, cut-join}
 use Rattle.path.specs.Read.{nameFault, arePair, fits, allFrom, fitsKind}
 use Rattle.path.specs.Reads.{Has}
 use Rattle.path.specs.Number.{Wrong, BadNumber, whole, before-dash, behind-dash, partAt, NumberWrong}
@@ -226,16 +226,6 @@ cut-without (b ∷ t) = go (eqb b 47) refl (cutAt 47 t) (cut-without t)
     go false e [] h = rw e
     go false e (c ∷ cs) h = rw (e, h)
 
-cut-some : (t : List ℕ) → 0 < length (cutAt 47 t)
-unfolding cutAt
-cut-some [] = omega arith
-cut-some (b ∷ t) = go (eqb b 47) (cutAt 47 t)
-  where
-    go : (v : Bool) (cs : List (List ℕ)) → 0 < length (cutStep v b cs)
-    go true cs = omega arith
-    go false [] = omega arith
-    go false (c ∷ cs) = omega arith
-
 without-narrow : (cs : List (List ℕ)) → allWithout 47 cs ≡ true → allWithout 47 (map narrow cs) ≡ true
 without-narrow [] h = refl
 without-narrow (c ∷ cs) h = rw (sym (alike-without 47 refl (alike c)) ∙ and-left (without 47 c) _ h) (without-narrow cs (and-right (without 47 c) _ h))
@@ -247,7 +237,7 @@ narrow-join (c ∷ []) = refl
 narrow-join (c ∷ (d ∷ cs)) = narrow-at c 47 (joinBy 47 (d ∷ cs)) (omega arith) ∙ rw (narrow-join (d ∷ cs))
 
 pub components-narrow : (t : List ℕ) → components (narrow t) ≡ map narrow (components t)
-components-narrow t = go (components t) (cut-some t) (cut-without t) (join-cut 47 t)
+components-narrow t = go (components t) (cut-some 47 t) (cut-without t) (join-cut 47 t)
   where
     go : (cs : List (List ℕ)) → 0 < length cs → allWithout 47 cs ≡ true → joinBy 47 cs ≡ t → components (narrow t) ≡ map narrow cs
     go [] l h e = absurd (omega arith)

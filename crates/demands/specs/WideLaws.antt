@@ -21,7 +21,7 @@ use Rattle.path.specs.declared.Refusal.the-variants.{TooLong, NotAscii, NotAPat
 use Rattle.path.specs.declared.Reading.{Reading}
 use Rattle.path.specs.declared.Reading.the-variants.{Read, Refused}
 use Rattle.path.specs.Kinds.{kinds}
-use Rattle.path.specs.Read.{carriedFrom, readFirst, renderPath, readPath, bytesBy, readingBytes, readFault, faultOf}
+use Rattle.path.specs.Read.{carriedFrom, readFirst, renderPath, readPath, bytesBy, readingBytes, readFault, asFault}
 use Rattle.path.specs.ReadLaws.{read-has, kinds-apart}
 use Rattle.path.specs.BackLaws.{read-reads}
 use Rattle.letters.specs.declared.Character.{Character}
@@ -120,7 +120,7 @@ never-utf8 (Refused (AboveAll i)) room h = omega arith
 
 module _ (t out : List ℕ) (f : Fault) (e : f ≡ readFaultIn wide t (length out)) where
   module _ (long : 4096 < length t) where
-    long-fault : f ≡ faultOf TooLong
+    long-fault : f ≡ asFault TooLong
     unfolding readFaultIn readingBytesIn readIn answer
     long-fault = e ∙ rw (lt-ltb 4096 (length t) long)
 

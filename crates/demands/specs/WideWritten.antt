@@ -19,7 +19,7 @@ use Rattle.path.specs.Kinds.{Part, word, name, count, pair, Carried, Kind, kind
 use Rattle.path.specs.Text.{cutAt}
 use Rattle.path.specs.Reads.{Has}
 use Rattle.path.specs.Number.{NumberWrong}
-use Rattle.path.specs.Read.{isNumber, arePair, allFrom, componentCount, render, partsOf, textsOf, refusalOf, faultOf}
+use Rattle.path.specs.Read.{isNumber, arePair, allFrom, componentCount, render, partsOf, textsOf, refusalOf, asFault}
 use Rattle.path.specs.View.{kindOf, carriedOf}
 use Rattle.letters.specs.declared.Character.{Character}
 use Rattle.letters.specs.declared.Character.the-variants.{Scalar, Broken}
@@ -83,7 +83,7 @@ pub record WhenWideRead (t out : List ℕ) (f : Fault) : Type 0 where
   pub too-long : (f .refusal ≡ tooLong) ↔ (4096 < length t)
   pub bad-utf8 : (f .refusal ≡ badUtf8) ↔ ((length t ≤ 4096) × (utf8 t ≡ false))
   pub not-a-path : (f .refusal ≡ notAPath) ↔ ((length t ≤ 4096) × (utf8 t ≡ true) × NoWideKind t × NoNumber fitsWide t)
-  pub bad-number : (w : Refusal) → hasPlace (refusalOf w) ≡ true → (f ≡ faultOf w) ↔ ((length t ≤ 4096) × (utf8 t ≡ true) × NumberWrong fitsWide t w)
+  pub bad-number : (w : Refusal) → hasPlace (refusalOf w) ≡ true → (f ≡ asFault w) ↔ ((length t ≤ 4096) × (utf8 t ≡ true) × NumberWrong fitsWide t w)
   pub no-room : (f .refusal ≡ noRoom) ↔ ((length t ≤ 4096) × (utf8 t ≡ true) × WideKind t × (length out < 26))
   pub done : (f .refusal ≡ 0) ↔ ((length t ≤ 4096) × (utf8 t ≡ true) × WideKind t × (26 ≤ length out))
   pub placeless : hasPlace (f .refusal) ≡ false → f .place ≡ 0

@@ -19,7 +19,7 @@ use Rattle.path.specs.declared.Refusal.{Refusal}
 use Rattle.path.specs.Kinds.{Part, Carried, Kind, kinds}
 use Rattle.path.specs.Text.{partOf}
 use Rattle.path.specs.Number.{NumberWrong}
-use Rattle.path.specs.Read.{fits, fitsKind, readPath, renderPath, refusalOf, faultOf}
+use Rattle.path.specs.Read.{fits, fitsKind, readPath, renderPath, refusalOf, asFault}
 use Rattle.path.specs.Reads.{Has}
 use Rattle.path.specs.View.{kindOf, carriedOf}
 use Rattle.demands.specs.Told.{Told}
@@ -71,7 +71,7 @@ pub record WhenRead (t out : List ℕ) (f : Fault) : Type 0 where
   pub too-long : (f .refusal ≡ tooLong) ↔ (4096 < length t)
   pub not-ascii : (f .refusal ≡ notAscii) ↔ ((length t ≤ 4096) × (ascii t ≡ false))
   pub not-a-path : (f .refusal ≡ notAPath) ↔ ((length t ≤ 4096) × (ascii t ≡ true) × NoKind t × NoNumber fits t)
-  pub bad-number : (w : Refusal) → hasPlace (refusalOf w) ≡ true → (f ≡ faultOf w) ↔ ((length t ≤ 4096) × (ascii t ≡ true) × NumberWrong fits t w)
+  pub bad-number : (w : Refusal) → hasPlace (refusalOf w) ≡ true → (f ≡ asFault w) ↔ ((length t ≤ 4096) × (ascii t ≡ true) × NumberWrong fits t w)
   pub no-room : (f .refusal ≡ noRoom) ↔ (((p : Path) × (e : Bool) × (readPath t ≡ Read p e)) × (length out < 26))
   pub done : (f .refusal ≡ 0) ↔ (((p : Path) × (e : Bool) × (readPath t ≡ Read p e)) × (26 ≤ length out))
   pub placeless : hasPlace (f .refusal) ≡ false → f .place ≡ 0

@@ -28,15 +28,15 @@ ghost use Rattle.path.specs.Read.{readingBytes, readFault, keyOf, renderOf};
 ghost use Rattle.path.specs.Revision.{revision};
 ghost use Rattle.path.specs.View.{provableFlag};
 ghost use Rattle.iteration.specs.Block.{blockOf, firstAbove, lastBelow, scanned};
-ghost use Rattle.iteration.specs.Key.{iterationKey, keyIn, answered, pairOf};
+ghost use Rattle.iteration.specs.Key.{iterationKey, keyRevision, answered, pairOf};
 ghost use Rattle.packet.specs.Key.{packetIn, packetOf, packetWanted};
 ghost use Rattle.wide.specs.Mode.{wide};
 ghost use Rattle.wide.specs.Check.{charsIn, lengthIn, prefixLengthIn, namedIndexFaultIn, checkIn, faultIn, newClientIn};
-ghost use Rattle.wide.specs.Read.{readFaultIn, readingBytesIn, keyIn as wideKeyIn};
+ghost use Rattle.wide.specs.Read.{readFaultIn, readingBytesIn, keyIn};
 ghost use Rattle.wide.specs.Render.{renderIn, textIn};
 ghost use Rattle.book_records.specs.declared.Manner.the-variants.{Plain, Lenient};
 ghost use Rattle.book.specs.Book.{Current};
-ghost use Rattle.book.specs.Outcome.{Wrote, Removed, Looked, Made};
+ghost use Rattle.book.specs.Outcome.{Recorded, Removed, Looked, Made};
 ghost use Rattle.book_convert.specs.Convert.{Converted};
 ghost use Rattle.book_oldest.specs.Oldest.{Oldest};
 ghost use Rattle.book_table.specs.Many.{Fills, LooksMany};
@@ -206,7 +206,7 @@ pub extern "C" fn hp_iteration_key(number: u64, height: u64, out: &mut [u8]) -> 
 // The revision number and height of an iteration key: 15.
 #[no_mangle]
 pub extern "C" fn hp_read_iteration_key(key: &[u8]) -> Pair
-    ensures { λ r. ⌜ r ≡ pairOf (answered badIterKey (keyIn (now (key .entry)))) ⌝ }
+    ensures { λ r. ⌜ r ≡ pairOf (answered badIterKey (keyRevision (now (key .entry)))) ⌝ }
 {
     iteration::pair_of(iteration::read_iteration_key(key))
 }
@@ -485,8 +485,8 @@ pub extern "C" fn hp_wide_read(text: &[u8], out: &mut [u8]) -> Fault
 // As hp_key: 1, 21, 3 (17, 18, 19), 4.
 #[no_mangle]
 pub extern "C" fn hp_wide_key(text: &[u8], out: &mut [u8]) -> Written
-    ensures { λ r. ⌜ r ≡ answer (wideKeyIn wide (now (text .entry))) (length (now (out .entry))) ⌝ }
-    ensures { λ _. ⌜ now (out .exit) ≡ left (wideKeyIn wide (now (text .entry))) (now (out .entry)) ⌝ }
+    ensures { λ r. ⌜ r ≡ answer (keyIn wide (now (text .entry))) (length (now (out .entry))) ⌝ }
+    ensures { λ _. ⌜ now (out .exit) ≡ left (keyIn wide (now (text .entry))) (now (out .entry)) ⌝ }
 {
     wide::reading::write_key(text, out)
 }
@@ -560,7 +560,7 @@ pub extern "C" fn hp_book_new(book: &mut [u8]) -> u8
 // 9, 1, 2, 3 (17, 18, 19), 20, 10, 6, 11.
 #[no_mangle]
 pub extern "C" fn hp_book_write(book: &mut [u8], text: &[u8], value: &[u8]) -> u8
-    ensures { λ r. ⌜ Wrote Current Plain (now (book .entry)) (now (text .entry)) (now (value .entry)) r (now (book .exit)) ⌝ }
+    ensures { λ r. ⌜ Recorded Current Plain (now (book .entry)) (now (text .entry)) (now (value .entry)) r (now (book .exit)) ⌝ }
 {
     book::write(Manner::Plain, book, text, value)
 }
@@ -585,7 +585,7 @@ pub extern "C" fn hp_book_lookup(book: &[u8], text: &[u8], out: &mut [u8]) -> Wr
 // As hp_book_write, on the rendering of the text, for importers that pad their heights: 9, 1, 2, 3 (17, 18, 19), 10, 6, 11.
 #[no_mangle]
 pub extern "C" fn hp_book_write_lenient(book: &mut [u8], text: &[u8], value: &[u8]) -> u8
-    ensures { λ r. ⌜ Wrote Current Lenient (now (book .entry)) (now (text .entry)) (now (value .entry)) r (now (book .exit)) ⌝ }
+    ensures { λ r. ⌜ Recorded Current Lenient (now (book .entry)) (now (text .entry)) (now (value .entry)) r (now (book .exit)) ⌝ }
 {
     book::write(Manner::Lenient, book, text, value)
 }

@@ -4,6 +4,7 @@ use mathlib.Core.Path.{sym, _∙_}
 use denote.Ref.{now}
 use Rattle.text.specs.Outcome.{One, OneWith}
 use Rattle.text.specs.OutcomeLaws.{agree}
+use Rattle.identifiers.proofs.validate.is_identifier_byte.Reads as is-identifier-byte
 use Rattle.identifiers.proofs.validate.validate_identifier_chars.Reads as validate-identifier-chars
 use Rattle.identifiers.proofs.validate.validate_identifier_length.Reads as validate-identifier-length
 use Rattle.identifiers.proofs.validate.validate_prefix_length.Reads as validate-prefix-length
@@ -19,6 +20,7 @@ use Rattle.identifiers.proofs.validate.check_named.Reads as check-named
 use Rattle.identifiers.proofs.validate.larger.Reads as larger
 use Rattle.identifiers.proofs.validate.less.Reads as less
 use Rattle.identifiers.proofs.write_named.Reads as write-named
+use Rattle.identifiers.proofs.client_id.is_white.Reads as is-white
 use Rattle.identifiers.proofs.client_id.ClientId.from_str.Reads as client-id-from-str
 use Rattle.identifiers.proofs.client_id.ClientId.new.Reads as client-id-new
 use Rattle.identifiers.proofs.client_id.write_client_id.Reads as write-client-id
@@ -27,6 +29,9 @@ use Rattle.identifiers.proofs.channel_id.ChannelId.from_str.Reads as ch
 use Rattle.identifiers.proofs.channel_id.ChannelId.new.Reads as channel-id-new
 use Rattle.identifiers.proofs.channel_id.write_channel_id.Reads as write-channel-id
 use Rattle.identifiers.proofs.port_id.PortId.from_str.Reads as port-id-from-str
+
+pub one-is-identifier-byte : One is-identifier-byte.Post
+one-is-identifier-byte κs a r₁ r₂ s₁ s₂ p q = p ∙ sym q
 
 pub one-validate-identifier-chars : One validate-identifier-chars.Post
 one-validate-identifier-chars κs a r₁ r₂ s₁ s₂ p q = p ∙ sym q
@@ -72,6 +77,9 @@ one-less κs a r₁ r₂ s₁ s₂ p q = p ∙ sym q
 
 pub one-write-named : OneWith write-named.Post (λ κs s. now (s .1 .1 .0))
 one-write-named κs a r₁ r₂ s₁ s₂ p q = agree p q
+
+pub one-is-white : One is-white.Post
+one-is-white κs a r₁ r₂ s₁ s₂ p q = p ∙ sym q
 
 pub one-client-id-from-str : One client-id-from-str.Post
 one-client-id-from-str κs a r₁ r₂ s₁ s₂ p q = p ∙ sym q

@@ -158,7 +158,7 @@ first-last a = go (eqb a 0) refl
     go true e = sym (eqb-true a 0 e)
     go false e = refl
 
-first-first : (a b d : ℕ) → first a (first b d) ≡ first (first a b) d
+pub first-first : (a b d : ℕ) → first a (first b d) ≡ first (first a b) d
 first-first a b d = go (eqb a 0) refl
   where
     go : (t : Bool) → eqb a 0 ≡ t → cond t (first b d) a ≡ first (cond t b a) d

@@ -22,7 +22,7 @@ pub struct MadeClientId {
 }
 
 // Whether the byte is white: 9 to 13, and 32.
-fn is_blank(b: u8) -> bool
+pub fn is_white(b: u8) -> bool
     ensures { λ r. ⌜ r ≡ blank b ⌝ }
 {
     match b {
@@ -36,7 +36,7 @@ fn trim_start(s: &[u8]) -> &[u8]
     ensures { λ r. ⌜ now r ≡ trimStart (now (s .entry)) ⌝ }
 {
     let mut i = 0;
-    while i < s.len() && is_blank(s[i]) {
+    while i < s.len() && is_white(s[i]) {
         i += 1;
     }
     &s[i..]
@@ -47,7 +47,7 @@ fn trim_end(s: &[u8]) -> &[u8]
     ensures { λ r. ⌜ now r ≡ trimEnd (now (s .entry)) ⌝ }
 {
     let mut end = s.len();
-    while 0 < end && is_blank(s[end - 1]) {
+    while 0 < end && is_white(s[end - 1]) {
         end -= 1;
     }
     &s[0..end]

@@ -21,7 +21,7 @@ const LOW: u64 = 0x53ff680800000000;
 const HIGH: u64 = 0x00000000affffffe;
 
 // Whether the byte may stand in an identifier; lower-case letters are told first, being the most.
-fn is_identifier_byte(b: u8) -> bool
+pub fn is_identifier_byte(b: u8) -> bool
     ensures { λ r. ⌜ r ≡ identifierByte b ⌝ }
 {
     if b'`' < b {
@@ -81,7 +81,7 @@ fn check_index(id: &[u8], start: usize) -> Fault
             return placeless(BAD_PREFIX);
         }
     }
-    text::number_fault(text::read_number(index), start)
+    text::numeral_fault(text::read_number(index), start)
 }
 
 // Whether the text is the name, `-` and an index.

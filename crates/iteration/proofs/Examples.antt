@@ -9,7 +9,7 @@ use Rattle.text.specs.Number.{bigEndian, bigFrom}
 use Rattle.text.specs.Part.{startsWith}
 use Rattle.path.specs.declared.Revision.{Revision}
 use Rattle.path.specs.Revision.{revision}
-use Rattle.iteration.specs.Key.{iterationKey, keyIn}
+use Rattle.iteration.specs.Key.{iterationKey, keyRevision}
 use Rattle.iteration.specs.Block.{rising, keysIn, blockOf, firstAbove, lastBelow, keysOf}
 
 seven-two : List ℕ
@@ -19,21 +19,21 @@ written : iterationKey 7 258 ≡ seven-two
 unfolding iterationKey bigEndian seven-two
 written = refl
 
-read : keyIn seven-two ≡ some (revision 7 258)
-unfolding keyIn startsWith bigFrom seven-two
+read : keyRevision seven-two ≡ some (revision 7 258)
+unfolding keyRevision startsWith bigFrom seven-two
 read = refl
 
 -- 37 bytes, 39 bytes, another word
-short : keyIn (take 37 seven-two) ≡ none
-unfolding keyIn startsWith bigFrom seven-two
+short : keyRevision (take 37 seven-two) ≡ none
+unfolding keyRevision startsWith bigFrom seven-two
 short = refl
 
-long : keyIn (seven-two ++ 0 ∷ []) ≡ none
-unfolding keyIn startsWith bigFrom seven-two
+long : keyRevision (seven-two ++ 0 ∷ []) ≡ none
+unfolding keyRevision startsWith bigFrom seven-two
 long = refl
 
-other : keyIn (73 ∷ drop 1 seven-two) ≡ none
-unfolding keyIn startsWith bigFrom seven-two
+other : keyRevision (73 ∷ drop 1 seven-two) ≡ none
+unfolding keyRevision startsWith bigFrom seven-two
 other = refl
 
 -- 7-2, 10-2, 10-3: in the order of the numbers, which is not that of their texts
@@ -41,7 +41,7 @@ three : List Revision
 three = revision 7 2 ∷ revision 10 2 ∷ revision 10 3 ∷ []
 
 ordered : blockOf (keysOf three) ≡ some three
-unfolding blockOf keysIn rising keysOf iterationKey bigEndian keyIn startsWith bigFrom three
+unfolding blockOf keysIn rising keysOf iterationKey bigEndian keyRevision startsWith bigFrom three
 ordered = refl
 
 empty : blockOf [] ≡ some []
@@ -50,15 +50,15 @@ empty = refl
 
 -- equal keys, keys out of order, a byte too many
 equal : blockOf (keysOf (revision 7 2 ∷ revision 7 2 ∷ [])) ≡ none
-unfolding blockOf keysIn rising keysOf iterationKey bigEndian keyIn startsWith bigFrom
+unfolding blockOf keysIn rising keysOf iterationKey bigEndian keyRevision startsWith bigFrom
 equal = refl
 
 falling : blockOf (keysOf (revision 10 2 ∷ revision 7 2 ∷ [])) ≡ none
-unfolding blockOf keysIn rising keysOf iterationKey bigEndian keyIn startsWith bigFrom
+unfolding blockOf keysIn rising keysOf iterationKey bigEndian keyRevision startsWith bigFrom
 falling = refl
 
 more : blockOf (keysOf three ++ 0 ∷ []) ≡ none
-unfolding blockOf keysIn rising keysOf iterationKey bigEndian keyIn startsWith bigFrom three
+unfolding blockOf keysIn rising keysOf iterationKey bigEndian keyRevision startsWith bigFrom three
 more = refl
 
 -- the pair itself is neither above nor below

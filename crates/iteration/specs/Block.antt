@@ -14,7 +14,7 @@ use Rattle.path.specs.declared.Revision.{Revision}
 use Rattle.path.specs.Revision.{below}
 use Rattle.iteration.specs.declared.KeyAnswer.{KeyAnswer}
 use Rattle.iteration.specs.declared.KeyAnswer.the-variants.{Refused}
-use Rattle.iteration.specs.Key.{iterationKey, keyIn, answered}
+use Rattle.iteration.specs.Key.{iterationKey, keyRevision, answered}
 
 -- q is above the last one, if there was one
 abbrev pub follows : Option Revision → Revision → Bool
@@ -34,7 +34,7 @@ onto none x = none
 -- the revisions of n keys that stand one after the other
 unfoldable pub keysIn : ℕ → List ℕ → Option (List Revision)
 keysIn zero s = some []
-keysIn (suc n) s = onto (keyIn (take 38 s)) (keysIn n (drop 38 s))
+keysIn (suc n) s = onto (keyRevision (take 38 s)) (keysIn n (drop 38 s))
 
 abbrev pub inOrder : Option (List Revision) → Option (List Revision)
 inOrder none = none

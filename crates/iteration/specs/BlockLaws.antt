@@ -19,10 +19,10 @@ use Rattle.path.specs.declared.Revision.{Revision}
 use Rattle.path.specs.Revision.{below}
 use Rattle.path.specs.RevisionLaws.{below-trans}
 use Rattle.iteration.specs.declared.KeyAnswer.{KeyAnswer}
-use Rattle.iteration.specs.Key.{keyIn, answered}
+use Rattle.iteration.specs.Key.{keyRevision, answered}
 use Rattle.iteration.specs.ReadLaws.{piece-is}
 use Rattle.iteration.specs.Block.{follows, rising, onto, keysIn, inOrder, blockOf, isBlock}
-use Rattle.iteration.specs.Search.{keyOf, rises, keyNo}
+use Rattle.iteration.specs.Search.{revisionOf, rises, keyNo}
 
 -- ---- the check: the keys are there, and rise from the last one on
 abbrev pub risingIn : Option Revision → Option (List Revision) → Bool
@@ -52,18 +52,18 @@ module _ (last : Option Revision) (n : ℕ) (s : List ℕ) where
   rising-end e = rw e
 
   module _ (m : ℕ) (e : n ≡ suc m) where
-    pub rising-stop : rises last (keyIn (take 38 s)) ≡ false → risingIn last (keysIn n s) ≡ false
+    pub rising-stop : rises last (keyRevision (take 38 s)) ≡ false → risingIn last (keysIn n s) ≡ false
     unfolding keysIn rising
-    rising-stop h = rw e (go (keyIn (take 38 s)) (keysIn m (drop 38 s)) h)
+    rising-stop h = rw e (go (keyRevision (take 38 s)) (keysIn m (drop 38 s)) h)
       where
         go : (x : Option Revision) (y : Option (List Revision)) → rises last x ≡ false → risingIn last (onto x y) ≡ false
         go none y q = refl
         go (some p) none q = refl
         go (some p) (some ps) q = rw q
 
-    pub rising-more : rises last (keyIn (take 38 s)) ≡ true → risingIn last (keysIn n s) ≡ risingIn (keyIn (take 38 s)) (keysIn m (drop 38 s))
+    pub rising-more : rises last (keyRevision (take 38 s)) ≡ true → risingIn last (keysIn n s) ≡ risingIn (keyRevision (take 38 s)) (keysIn m (drop 38 s))
     unfolding keysIn rising
-    rising-more h = rw e (go (keyIn (take 38 s)) (keysIn m (drop 38 s)) h)
+    rising-more h = rw e (go (keyRevision (take 38 s)) (keysIn m (drop 38 s)) h)
       where
         go : (x : Option Revision) (y : Option (List Revision)) → rises last x ≡ true → risingIn last (onto x y) ≡ risingIn x y
         go none y q = let z : _≡_ {A = ℕ} 0 1 = cc in absurd (omega arith)
@@ -71,36 +71,36 @@ module _ (last : Option Revision) (n : ℕ) (s : List ℕ) where
         go (some p) (some ps) q = rw q
 
 -- the answer of the reader has the key that was read
-key-is : (x : Option Revision) (k : KeyAnswer) (n : ℕ) → k ≡ answered n x → keyOf k ≡ x
-key-is x k n e = ap keyOf e ∙ go x
+key-is : (x : Option Revision) (k : KeyAnswer) (n : ℕ) → k ≡ answered n x → revisionOf k ≡ x
+key-is x k n e = ap revisionOf e ∙ go x
   where
-    go : (y : Option Revision) → keyOf (answered n y) ≡ y
+    go : (y : Option Revision) → revisionOf (answered n y) ≡ y
     go none = refl
     go (some p) = refl
 
 -- the same turn in the words of the code, at key number i of n
-module _ (s : List ℕ) (n i : ℕ) (h : i < n) (last : Option Revision) (k : KeyAnswer) (e : k ≡ answered 15 (keyIn (take 38 (drop (38 * i) s)))) (r : Bool) (f : r ≡ rises last (keyOf k)) where
-  step : r ≡ rises last (keyIn (take 38 (drop (38 * i) s)))
-  step = f ∙ ap (rises last) (key-is (keyIn (take 38 (drop (38 * i) s))) k 15 e)
+module _ (s : List ℕ) (n i : ℕ) (h : i < n) (last : Option Revision) (k : KeyAnswer) (e : k ≡ answered 15 (keyRevision (take 38 (drop (38 * i) s)))) (r : Bool) (f : r ≡ rises last (revisionOf k)) where
+  step : r ≡ rises last (keyRevision (take 38 (drop (38 * i) s)))
+  step = f ∙ ap (rises last) (key-is (keyRevision (take 38 (drop (38 * i) s))) k 15 e)
 
   pub check-stop : not r ≡ true → risingIn last (keysIn (n - i) (drop (38 * i) s)) ≡ false
   check-stop t = rising-stop last (n - i) (drop (38 * i) s) (n - (i + 1)) (omega arith) (sym step ∙ not-true r t)
 
-  pub check-more : not r ≡ false → risingIn last (keysIn (n - i) (drop (38 * i) s)) ≡ risingIn (keyOf k) (keysIn (n - (i + 1)) (drop (38 * (i + 1)) s))
+  pub check-more : not r ≡ false → risingIn last (keysIn (n - i) (drop (38 * i) s)) ≡ risingIn (revisionOf k) (keysIn (n - (i + 1)) (drop (38 * (i + 1)) s))
   check-more t =
       let next : 38 * i + 38 ≡ 38 * (i + 1) = omega arith in
-      rw (key-is (keyIn (take 38 (drop (38 * i) s))) k 15 e, ← next, ← drop-drop 38 (38 * i) s) (rising-more last (n - i) (drop (38 * i) s) (n - (i + 1)) (omega arith) (sym step ∙ not-false r t))
+      rw (key-is (keyRevision (take 38 (drop (38 * i) s))) k 15 e, ← next, ← drop-drop 38 (38 * i) s) (rising-more last (n - i) (drop (38 * i) s) (n - (i + 1)) (omega arith) (sym step ∙ not-false r t))
 
 -- ---- the keys of a block by their numbers
 pub keys-listed : (s : List ℕ) (n i : ℕ) (ps : List Revision) → 38 * (i + n) ≤ length s → keysIn n (drop (38 * i) s) ≡ some ps → ps ≡ map (keyNo s) (span i n)
 unfolding keysIn
 keys-listed s zero i ps h e = cc
-keys-listed s (suc n) i ps h e = go (keyIn (take 38 (drop (38 * i) s))) refl (keysIn n (drop 38 (drop (38 * i) s))) refl e (keys-listed s n (suc i))
+keys-listed s (suc n) i ps h e = go (keyRevision (take 38 (drop (38 * i) s))) refl (keysIn n (drop 38 (drop (38 * i) s))) refl e (keys-listed s n (suc i))
   where
     next : drop 38 (drop (38 * i) s) ≡ drop (38 * suc i) s
     next = let q : 38 * i + 38 ≡ 38 * suc i = omega arith in drop-drop 38 (38 * i) s ∙ rw q
 
-    go : (x : Option Revision) → keyIn (take 38 (drop (38 * i) s)) ≡ x → (y : Option (List Revision)) → keysIn n (drop 38 (drop (38 * i) s)) ≡ y → onto x y ≡ some ps
+    go : (x : Option Revision) → keyRevision (take 38 (drop (38 * i) s)) ≡ x → (y : Option (List Revision)) → keysIn n (drop 38 (drop (38 * i) s)) ≡ y → onto x y ≡ some ps
         → ((qs : List Revision) → 38 * (suc i + n) ≤ length s → keysIn n (drop (38 * suc i) s) ≡ some qs → qs ≡ map (keyNo s) (span (suc i) n)) → ps ≡ map (keyNo s) (span i (suc n))
     go none a y b q more = cc
     go (some p) a none b q more = cc

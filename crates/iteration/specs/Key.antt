@@ -25,8 +25,8 @@ abbrev pub revisionAt : ℕ → List ℕ → Revision
 revisionAt at s = revision (bigAt (at + 22) 8 s) (bigAt (at + 30) 8 s)
 
 -- a text of 38 bytes that begins with the word is a key
-unfoldable pub keyIn : List ℕ → Option Revision
-keyIn k = cond (eqb (length k) 38 && startsWith (bytes "iterateConsensusStates") k) (some (revisionAt 0 k)) none
+unfoldable pub keyRevision : List ℕ → Option Revision
+keyRevision k = cond (eqb (length k) 38 && startsWith (bytes "iterateConsensusStates") k) (some (revisionAt 0 k)) none
 
 -- the revision, or this refusal where there is none
 abbrev pub answered : ℕ → Option Revision → KeyAnswer

@@ -18,7 +18,7 @@ use Rattle.text.specs.PartLaws.{and-left, and-right}
 use Rattle.path.specs.declared.Revision.{Revision}
 use Rattle.path.specs.Revision.{revision}
 use Rattle.iteration.specs.declared.KeyAnswer.the-variants.{Key, Refused}
-use Rattle.iteration.specs.Key.{iterationKey, revisionAt, keyIn, answered}
+use Rattle.iteration.specs.Key.{iterationKey, revisionAt, keyRevision, answered}
 use Rattle.iteration.specs.KeyLaws.{key-length}
 
 abbrev word : List ℕ
@@ -39,8 +39,8 @@ starts-take (x ∷ w) (suc k) [] h = refl
 starts-take (x ∷ w) (suc k) (y ∷ t) h = rw (starts-take w k t (omega arith))
 
 -- it is one where the word stands there
-pub piece-key : (at : ℕ) (s : List ℕ) → at + 38 ≤ length s → keyIn (take 38 (drop at s)) ≡ cond (startsWith word (drop at s)) (some (revisionAt at s)) none
-unfolding keyIn
+pub piece-key : (at : ℕ) (s : List ℕ) → at + 38 ≤ length s → keyRevision (take 38 (drop at s)) ≡ cond (startsWith word (drop at s)) (some (revisionAt at s)) none
+unfolding keyRevision
 piece-key at s h =
     let l : length (take 38 (drop at s)) ≡ 38 = simp (length-take, length-drop) (omega arith) in
     rw (
@@ -52,7 +52,7 @@ piece-key at s h =
       drop-drop 30 at s,
     )
 
-pub piece-is : (at : ℕ) (s : List ℕ) (p : Revision) → at + 38 ≤ length s → keyIn (take 38 (drop at s)) ≡ some p → p ≡ revisionAt at s
+pub piece-is : (at : ℕ) (s : List ℕ) (p : Revision) → at + 38 ≤ length s → keyRevision (take 38 (drop at s)) ≡ some p → p ≡ revisionAt at s
 piece-is at s p h e = go (startsWith word (drop at s)) (sym (piece-key at s h) ∙ e)
   where
     go : (b : Bool) → cond b (some (revisionAt at s)) none ≡ some p → p ≡ revisionAt at s
@@ -61,18 +61,18 @@ piece-is at s p h e = go (startsWith word (drop at s)) (sym (piece-key at s h) �
 
 -- the ways out of reading it
 module _ (at : ℕ) (s : List ℕ) (h : at + 38 ≤ length s) (r : Bool) (e : r ≡ startsWith word (drop at s)) where
-  pub key-none : not r ≡ true → Refused 15 ≡ answered 15 (keyIn (take 38 (drop at s)))
+  pub key-none : not r ≡ true → Refused 15 ≡ answered 15 (keyRevision (take 38 (drop at s)))
   key-none t = rw (piece-key at s h, ← e, not-true r t)
 
-  pub key-here : (p : Revision) → not r ≡ false → p ≡ revisionAt at s → Key p ≡ answered 15 (keyIn (take 38 (drop at s)))
+  pub key-here : (p : Revision) → not r ≡ false → p ≡ revisionAt at s → Key p ≡ answered 15 (keyRevision (take 38 (drop at s)))
   key-here p f q = rw (piece-key at s h, ← e, not-false r f, q)
 
 -- a text of 38 bytes is the piece at its start, and another is no key
-pub key-whole : (k : List ℕ) → length k ≡ 38 → keyIn (take 38 (drop 0 k)) ≡ keyIn k
+pub key-whole : (k : List ℕ) → length k ≡ 38 → keyRevision (take 38 (drop 0 k)) ≡ keyRevision k
 key-whole k h = rw (take-all 38 k (omega arith))
 
-pub key-other : (k : List ℕ) → (length k ≡ 38 → ⊥) → keyIn k ≡ none
-unfolding keyIn
+pub key-other : (k : List ℕ) → (length k ≡ 38 → ⊥) → keyRevision k ≡ none
+unfolding keyRevision
 key-other k h = rw (ne-eqb (length k) 38 h)
 
 -- ---- what was written is read
@@ -81,8 +81,8 @@ unfolding startsWith
 starts-self [] t = refl
 starts-self (x ∷ w) t = rw (eq-eqb x x refl) (starts-self w t)
 
-pub read-written : (n h : ℕ) → n < 2 ^ 64 → h < 2 ^ 64 → keyIn (iterationKey n h) ≡ some (revision n h)
-unfolding keyIn iterationKey
+pub read-written : (n h : ℕ) → n < 2 ^ 64 → h < 2 ^ 64 → keyRevision (iterationKey n h) ≡ some (revision n h)
+unfolding keyRevision iterationKey
 read-written n h p q =
     let k : List ℕ = iterationKey n h in
     let e₁ : bigAt 22 8 k ≡ n = big-at word (bigEndian 8 h) 22 8 n k refl refl (omega arith) in
@@ -104,8 +104,8 @@ pub record Reads (k : List ℕ) (p : Revision) : Type 0 where
   pub starts : startsWith word k ≡ true
   pub carries : p ≡ revisionAt 0 k
 
-pub key-reads : (k : List ℕ) (p : Revision) → keyIn k ≡ some p → Reads k p
-unfolding keyIn
+pub key-reads : (k : List ℕ) (p : Revision) → keyRevision k ≡ some p → Reads k p
+unfolding keyRevision
 key-reads k p e = go (eqb (length k) 38) refl (startsWith word k) refl e
   where
     go : (a : Bool) → eqb (length k) 38 ≡ a → (b : Bool) → startsWith word k ≡ b → cond (a && b) (some (revisionAt 0 k)) none ≡ some p → Reads k p
@@ -113,7 +113,7 @@ key-reads k p e = go (eqb (length k) 38) refl (startsWith word k) refl e
     go true x false y q = let z : _≡_ {A = ℕ} 0 1 = cc in absurd (omega arith)
     go false x b y q = let z : _≡_ {A = ℕ} 0 1 = cc in absurd (omega arith)
 
-pub written-read : (k : List ℕ) (p : Revision) → Bytes k → keyIn k ≡ some p → iterationKey (p .number .0) (p .height .0) ≡ k
+pub written-read : (k : List ℕ) (p : Revision) → Bytes k → keyRevision k ≡ some p → iterationKey (p .number .0) (p .height .0) ≡ k
 unfolding iterationKey
 written-read k p b e =
     let r = key-reads k p e in
@@ -123,5 +123,5 @@ written-read k p b e =
     rw (r .carries, big-there 22 8 k b (omega (arith, r .size)), big-there 30 8 k b (omega (arith, r .size)), whole) (starts-is word k (r .starts))
 
 -- the counts that are read fit a u64
-pub key-counted : (k : List ℕ) (p : Revision) → Bytes k → keyIn k ≡ some p → (p .number .0 < 2 ^ 64) × (p .height .0 < 2 ^ 64)
+pub key-counted : (k : List ℕ) (p : Revision) → Bytes k → keyRevision k ≡ some p → (p .number .0 < 2 ^ 64) × (p .height .0 < 2 ^ 64)
 key-counted k p b e = let r = key-reads k p e in rw (r .carries) (big-within 22 8 k b (omega (arith, r .size)), big-within 30 8 k b (omega (arith, r .size)))

@@ -20,7 +20,7 @@ use Rattle.text.specs.PartLaws.{and-left, and-right}
 use Rattle.path.specs.declared.Revision.{Revision}
 use Rattle.path.specs.Revision.{below}
 use Rattle.path.specs.RevisionLaws.{below-is, is-below, below-trans, below-not-above, below-self}
-use Rattle.iteration.specs.Key.{iterationKey, keyIn}
+use Rattle.iteration.specs.Key.{iterationKey, keyRevision}
 use Rattle.iteration.specs.KeyLaws.{key-length, key-compare}
 use Rattle.iteration.specs.ReadLaws.{read-written, written-read, key-counted}
 use Rattle.iteration.specs.Block.{follows, rising, onto, keysIn, blockOf, firstAbove, orElse, lastBelow, Among, Nearest, Counted, keysOf}
@@ -141,9 +141,9 @@ empty (x ∷ s) h = absurd (omega arith)
 keys-back : (n : ℕ) (s : List ℕ) → Bytes s → length s ≡ 38 * n → (ps : List Revision) → keysIn n s ≡ some ps → keysOf ps ≡ s
 unfolding keysIn keysOf
 keys-back zero s b l ps e = let w : [] ≡ ps = cc in rw (← w) (empty s (omega arith))
-keys-back (suc n) s b l ps e = go (keyIn (take 38 s)) refl (keysIn n (drop 38 s)) e (keys-back n (drop 38 s) (bytes-drop 38 s b) (rw length-drop (omega arith)))
+keys-back (suc n) s b l ps e = go (keyRevision (take 38 s)) refl (keysIn n (drop 38 s)) e (keys-back n (drop 38 s) (bytes-drop 38 s b) (rw length-drop (omega arith)))
   where
-    go : (x : Option Revision) → keyIn (take 38 s) ≡ x → (y : Option (List Revision)) → onto x y ≡ some ps → ((qs : List Revision) → y ≡ some qs → keysOf qs ≡ drop 38 s) → keysOf ps ≡ s
+    go : (x : Option Revision) → keyRevision (take 38 s) ≡ x → (y : Option (List Revision)) → onto x y ≡ some ps → ((qs : List Revision) → y ≡ some qs → keysOf qs ≡ drop 38 s) → keysOf ps ≡ s
     go none f y k more = let z : _≡_ {A = ℕ} 0 1 = cc in absurd (omega arith)
     go (some p) f none k more = let z : _≡_ {A = ℕ} 0 1 = cc in absurd (omega arith)
     go (some p) f (some qs) k more =
@@ -156,12 +156,12 @@ block-back s ps b e = let q = parts s ps e in keys-back (length s / 38) s b (ome
 keys-counted : (n : ℕ) (s : List ℕ) → Bytes s → length s ≡ 38 * n → (ps : List Revision) → keysIn n s ≡ some ps → Counted ps
 unfolding keysIn
 keys-counted zero s b l ps e r m = let w : [] ≡ ps = cc in absurd (rw (← w) at m)
-keys-counted (suc n) s b l ps e r m = go (keyIn (take 38 s)) refl (keysIn n (drop 38 s)) e (keys-counted n (drop 38 s) (bytes-drop 38 s b) (rw length-drop (omega arith)))
+keys-counted (suc n) s b l ps e r m = go (keyRevision (take 38 s)) refl (keysIn n (drop 38 s)) e (keys-counted n (drop 38 s) (bytes-drop 38 s b) (rw length-drop (omega arith)))
   where
     piece : Bytes (take 38 s)
     piece = bytes-take 38 s b
 
-    go : (x : Option Revision) → keyIn (take 38 s) ≡ x → (y : Option (List Revision)) → onto x y ≡ some ps → ((qs : List Revision) → y ≡ some qs → Counted qs) → (r .number .0 < 2 ^ 64) × (r .height .0 < 2 ^ 64)
+    go : (x : Option Revision) → keyRevision (take 38 s) ≡ x → (y : Option (List Revision)) → onto x y ≡ some ps → ((qs : List Revision) → y ≡ some qs → Counted qs) → (r .number .0 < 2 ^ 64) × (r .height .0 < 2 ^ 64)
     go none f y k more = let z : _≡_ {A = ℕ} 0 1 = cc in absurd (omega arith)
     go (some p) f none k more = let z : _≡_ {A = ℕ} 0 1 = cc in absurd (omega arith)
     go (some p) f (some qs) k more =

@@ -14,9 +14,9 @@ use Rattle.iteration.specs.Key.{revisionAt}
 use Rattle.iteration.specs.Block.{follows}
 
 -- the revision of an answer that has one
-abbrev pub keyOf : KeyAnswer → Option Revision
-keyOf (Key p) = some p
-keyOf (Refused n) = none
+abbrev pub revisionOf : KeyAnswer → Option Revision
+revisionOf (Key p) = some p
+revisionOf (Refused n) = none
 
 -- there is a key, and it is above the last one
 abbrev pub rises : Option Revision → Option Revision → Bool

@@ -9,11 +9,11 @@ use text::refusal::BAD_BLOCK;
 ghost use mathlib.Core.Path.{_≡_};
 ghost use mathlib.Core.Bool.{true};
 ghost use Rattle.iteration.specs.Block.{blockOf, isBlock, firstAbove, lastBelow, scanned};
-ghost use Rattle.iteration.specs.Search.{keyOf, rises, passed, Placed};
+ghost use Rattle.iteration.specs.Search.{revisionOf, rises, passed, Placed};
 
 // Whether `key` is a key, and above the last one, if there was one.
 pub(crate) fn is_next(last: KeyAnswer, key: KeyAnswer) -> bool
-    ensures { λ r. ⌜ r ≡ rises (keyOf last) (keyOf key) ⌝ }
+    ensures { λ r. ⌜ r ≡ rises (revisionOf last) (revisionOf key) ⌝ }
 {
     let KeyAnswer::Key(q) = key else {
         return false;

@@ -15,7 +15,7 @@ ghost use Prim.Native.Nat.{_+_, _≤_};
 ghost use lib.ListN.{length, take, drop};
 ghost use Rattle.text.specs.Put.{text, answer, left};
 ghost use Rattle.text.specs.Refusal.{badIterKey};
-ghost use Rattle.iteration.specs.Key.{iterationKey, revisionAt, keyIn, answered, pairOf};
+ghost use Rattle.iteration.specs.Key.{iterationKey, revisionAt, keyRevision, answered, pairOf};
 
 // What a call on iteration keys answers: one of them, or a refusal by its number.
 pub enum KeyAnswer {
@@ -57,7 +57,7 @@ pub(crate) fn revision_at(s: &[u8], at: usize) -> Revision
 // Reads the 38 bytes at `at`: 15.
 pub(crate) fn key_at(s: &[u8], at: usize) -> KeyAnswer
     requires { ⌜ at + 38 ≤ length (now s) ⌝ }
-    ensures { λ r. ⌜ r ≡ answered badIterKey (keyIn (take 38 (drop at (now (s .entry))))) ⌝ }
+    ensures { λ r. ⌜ r ≡ answered badIterKey (keyRevision (take 38 (drop at (now (s .entry))))) ⌝ }
 {
     if !same_at(s, at, b"iterateConsensusStates") {
         return KeyAnswer::Refused(BAD_ITER_KEY);
@@ -67,7 +67,7 @@ pub(crate) fn key_at(s: &[u8], at: usize) -> KeyAnswer
 
 // Reads an iteration key: 15 where the length or the word is another.
 pub fn read_iteration_key(key: &[u8]) -> KeyAnswer
-    ensures { λ r. ⌜ r ≡ answered badIterKey (keyIn (now (key .entry))) ⌝ }
+    ensures { λ r. ⌜ r ≡ answered badIterKey (keyRevision (now (key .entry))) ⌝ }
 {
     if key.len() != 38 {
         return KeyAnswer::Refused(BAD_ITER_KEY);

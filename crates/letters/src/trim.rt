@@ -2,6 +2,7 @@
 use crate::character_at;
 use crate::picture::seen_as;
 use crate::size_of;
+use identifiers::client_id::is_white;
 ghost use mathlib.Core.Path.{_≡_};
 ghost use mathlib.Core.Bool.{cond};
 ghost use lib.ListN.{length};
@@ -9,16 +10,6 @@ ghost use Rattle.text.specs.Stands.{Stands};
 ghost use Rattle.identifiers.specs.Owned.{blank, trimEnd};
 ghost use Rattle.letters.specs.Narrow.{narrow};
 ghost use Rattle.letters.specs.Text.{leading, wideTrim};
-
-// Whether the byte of a picture is white: 9 to 13, and 32.
-fn is_white(b: u8) -> bool
-    ensures { λ r. ⌜ r ≡ blank b ⌝ }
-{
-    match b {
-        9..=13 | 32 => true,
-        _ => false,
-    }
-}
 
 // Where the white space at the start of the text ends.
 fn white_end(s: &[u8]) -> usize

@@ -12,7 +12,7 @@ use Rattle.identifiers.specs.Check.{among, identifierByte, checkOf, client}
 use Rattle.identifiers.specs.CheckLaws.{accepted-by}
 use Rattle.packet.specs.declared.PacketAnswer.the-variants.{Key, Refused}
 use Rattle.packet.specs.declared.PacketKind.the-variants.{Commitment, Receipt}
-use Rattle.packet.specs.Key.{kindOf, packetKey, packet, packetIn, packetWanted}
+use Rattle.packet.specs.Key.{kindMarked, packetKey, packet, packetIn, packetWanted}
 use Rattle.packet.specs.KeyLaws.{kind-marker, read-written}
 use Rattle.packet.specs.WayLaws.{write-text}
 
@@ -29,7 +29,7 @@ unfolding packetKey bigEndian receipt
 shape = refl
 
 written : packetWanted 2 (bytes "07-tendermint-4") 258 ≡ text receipt
-written = rw (← shape) (write-text 2 (bytes "07-tendermint-4") 258 (kindOf 2) refl Receipt (kind-marker Receipt) (checkOf client (bytes "07-tendermint-4")) refl good)
+written = rw (← shape) (write-text 2 (bytes "07-tendermint-4") 258 (kindMarked 2) refl Receipt (kind-marker Receipt) (checkOf client (bytes "07-tendermint-4")) refl good)
 
 read : packetIn receipt ≡ Key (packet Receipt 15 258)
 read = rw shape at (read-written Receipt (bytes "07-tendermint-4") 258 (omega arith) good)
@@ -45,10 +45,10 @@ unfolding packetIn receipt
 short = refl
 
 unmarked : packetIn (bytes "07-tendermint-4" ++ (4 ∷ 0 ∷ 0 ∷ 0 ∷ 0 ∷ 0 ∷ 0 ∷ 1 ∷ 2 ∷ [])) ≡ Refused 24
-unfolding packetIn kindOf
+unfolding packetIn kindMarked
 unmarked = refl
 
 -- the kind is judged before the client
 no-kind : packetWanted 4 [] 1 ≡ refused 24
-unfolding packetWanted kindOf
+unfolding packetWanted kindMarked
 no-kind = refl

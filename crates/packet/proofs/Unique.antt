@@ -6,7 +6,7 @@ use denote.Ref.{now}
 use Rattle.text.specs.Outcome.{One, OneWith, OnePart}
 use Rattle.text.specs.OutcomeLaws.{agree, one-part as same-part}
 use Rattle.packet.proofs.marker_of.Reads as marker-of
-use Rattle.packet.proofs.kind_of.Reads as kind-of
+use Rattle.packet.proofs.kind_marked.Reads as kind-marked
 use Rattle.packet.proofs.read_packet_key.Reads as read-packet-key
 use Rattle.packet.proofs.client_identifier.Reads as client-identifier
 use Rattle.packet.proofs.packet_of.Reads as packet-of
@@ -15,8 +15,8 @@ use Rattle.packet.proofs.write_packet_key.Reads as write-packet-key
 pub one-marker-of : One marker-of.Post
 one-marker-of κs a r₁ r₂ s₁ s₂ p q = p ∙ sym q
 
-pub one-kind-of : One kind-of.Post
-one-kind-of κs a r₁ r₂ s₁ s₂ p q = p ∙ sym q
+pub one-kind-marked : One kind-marked.Post
+one-kind-marked κs a r₁ r₂ s₁ s₂ p q = p ∙ sym q
 
 pub one-read-packet-key : One read-packet-key.Post
 one-read-packet-key κs a r₁ r₂ s₁ s₂ p q = p ∙ sym q

@@ -27,8 +27,8 @@ markerOf Receipt = 2
 markerOf Acknowledgement = 3
 
 -- the kind whose marker it is
-unfoldable pub kindOf : ℕ → KindAnswer
-kindOf m = cond (eqb m (markerOf Commitment)) (Kind Commitment) (cond (eqb m (markerOf Receipt)) (Kind Receipt) (cond (eqb m (markerOf Acknowledgement)) (Kind Acknowledgement) Unknown))
+unfoldable pub kindMarked : ℕ → KindAnswer
+kindMarked m = cond (eqb m (markerOf Commitment)) (Kind Commitment) (cond (eqb m (markerOf Receipt)) (Kind Receipt) (cond (eqb m (markerOf Acknowledgement)) (Kind Acknowledgement) Unknown))
 
 -- the client, the marker, and the sequence in 8 bytes, high byte first
 unfoldable pub packetKey : PacketKind → List ℕ → ℕ → List ℕ
@@ -55,7 +55,7 @@ readAs (Kind k) key = cond (eqb (checkOf client (clientIn key)) 0) (Key (packet 
 
 -- 24 where there are no nine bytes
 unfoldable pub packetIn : List ℕ → PacketAnswer
-packetIn key = cond (ltb (length key) 9) (Refused badV2Key) (readAs (kindOf (markerIn key)) key)
+packetIn key = cond (ltb (length key) 9) (Refused badV2Key) (readAs (kindMarked (markerIn key)) key)
 
 -- the client's place in the key
 abbrev pub clientPlace : PacketAnswer → Place
@@ -73,4 +73,4 @@ writeAs Unknown c n = refused badV2Key
 writeAs (Kind k) c n = accepted (checkOf client c) (packetKey k c n)
 
 unfoldable pub packetWanted : ℕ → List ℕ → ℕ → Wanted
-packetWanted m c n = writeAs (kindOf m) c n
+packetWanted m c n = writeAs (kindMarked m) c n

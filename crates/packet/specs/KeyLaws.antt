@@ -19,20 +19,20 @@ use Rattle.packet.specs.declared.PacketAnswer.the-variants.{Key, Refused
 use Rattle.packet.specs.declared.PacketKey.{PacketKey}
 use Rattle.packet.specs.declared.PacketKind.{PacketKind}
 use Rattle.packet.specs.declared.PacketKind.the-variants.{Commitment, Receipt, Acknowledgement}
-use Rattle.packet.specs.Key.{markerOf, kindOf, packetKey, packet, cutPlace, clientIn, markerIn, readAs, packetIn}
+use Rattle.packet.specs.Key.{markerOf, kindMarked, packetKey, packet, cutPlace, clientIn, markerIn, readAs, packetIn}
 
 pub clash : {A : Type 0} → _≡_ {A = ℕ} 0 1 → A
 clash z = absurd (let y : ⊥ = omega (arith, z) in y)
 
 -- ---- a kind and its marker
-pub kind-marker : (k : PacketKind) → kindOf (markerOf k) ≡ Kind k
-unfolding kindOf
+pub kind-marker : (k : PacketKind) → kindMarked (markerOf k) ≡ Kind k
+unfolding kindMarked
 kind-marker Commitment = refl
 kind-marker Receipt = refl
 kind-marker Acknowledgement = refl
 
-pub marker-kind : (m : ℕ) (k : PacketKind) → kindOf m ≡ Kind k → markerOf k ≡ m
-unfolding kindOf
+pub marker-kind : (m : ℕ) (k : PacketKind) → kindMarked m ≡ Kind k → markerOf k ≡ m
+unfolding kindMarked
 marker-kind m k e = go (eqb m 1) refl (eqb m 2) refl (eqb m 3) refl e
   where
     is : (j : PacketKind) → k ≡ j → m ≡ markerOf j → markerOf k ≡ m
@@ -44,11 +44,11 @@ marker-kind m k e = go (eqb m 1) refl (eqb m 2) refl (eqb m 3) refl e
     go false x false y true z q = let e : k ≡ Acknowledgement = cc in is Acknowledgement e (eqb-true m 3 z)
     go false x false y false z q = clash cc
 
-pub no-kind : (m : ℕ) (k : PacketKind) → kindOf m ≡ Unknown → markerOf k ≡ m → ⊥
-no-kind m k e x = let q : kindOf m ≡ Kind k = rw x at (kind-marker k) in clash cc
+pub no-kind : (m : ℕ) (k : PacketKind) → kindMarked m ≡ Unknown → markerOf k ≡ m → ⊥
+no-kind m k e x = let q : kindMarked m ≡ Kind k = rw x at (kind-marker k) in clash cc
 
 pub one-marker : (j k : PacketKind) → markerOf j ≡ markerOf k → j ≡ k
-one-marker j k e = let q : kindOf (markerOf k) ≡ Kind j = rw e at (kind-marker j) in let p = kind-marker k in cc
+one-marker j k e = let q : kindMarked (markerOf k) ≡ Kind j = rw e at (kind-marker j) in let p = kind-marker k in cc
 
 -- ---- the parts of a key that was written: the marker is found from the end alone
 module _ (k : PacketKind) (c : List ℕ) (n : ℕ) where
@@ -92,19 +92,19 @@ key-one j k c d m n a b e =
 -- what a key that reads has, and what is read
 pub record Reads (key : List ℕ) (p : PacketKey) : Type 0 where
   pub size : 9 ≤ length key
-  pub marked : kindOf (markerIn key) ≡ Kind (p .kind)
+  pub marked : kindMarked (markerIn key) ≡ Kind (p .kind)
   pub accepted : checkOf client (clientIn key) ≡ 0
   pub length-is : p .length ≡ cutPlace key
   pub sequence-is : p .sequence .0 ≡ bigAt (cutPlace key + 1) 8 key
 
 pub key-reads : (key : List ℕ) (p : PacketKey) → packetIn key ≡ Key p → Reads key p
 unfolding packetIn
-key-reads key p e = go (ltb (length key) 9) refl (kindOf (markerIn key)) refl e
+key-reads key p e = go (ltb (length key) 9) refl (kindMarked (markerIn key)) refl e
   where
     said : (k : PacketKind) → PacketKey
     said k = packet k (cutPlace key) (bigAt (cutPlace key + 1) 8 key)
 
-    is : (k : PacketKind) → p ≡ said k → 9 ≤ length key → kindOf (markerIn key) ≡ Kind k → checkOf client (clientIn key) ≡ 0 → Reads key p
+    is : (k : PacketKind) → p ≡ said k → 9 ≤ length key → kindMarked (markerIn key) ≡ Kind k → checkOf client (clientIn key) ≡ 0 → Reads key p
     is k x size marked ok =
         record {
           size = size;
@@ -114,11 +114,11 @@ key-reads key p e = go (ltb (length key) 9) refl (kindOf (markerIn key)) refl e
           sequence-is = ap (λ (q : PacketKey). q .sequence .0) x;
         }
 
-    checked : (k : PacketKind) → 9 ≤ length key → kindOf (markerIn key) ≡ Kind k → (b : Bool) → eqb (checkOf client (clientIn key)) 0 ≡ b → cond b (Key (said k)) (Refused (checkOf client (clientIn key))) ≡ Key p → Reads key p
+    checked : (k : PacketKind) → 9 ≤ length key → kindMarked (markerIn key) ≡ Kind k → (b : Bool) → eqb (checkOf client (clientIn key)) 0 ≡ b → cond b (Key (said k)) (Refused (checkOf client (clientIn key))) ≡ Key p → Reads key p
     checked k x y false z q = clash cc
     checked k x y true z q = let e : p ≡ said k = cc in is k e x y (eqb-true (checkOf client (clientIn key)) 0 z)
 
-    go : (a : Bool) → ltb (length key) 9 ≡ a → (m : KindAnswer) → kindOf (markerIn key) ≡ m → cond a (Refused 24) (readAs m key) ≡ Key p → Reads key p
+    go : (a : Bool) → ltb (length key) 9 ≡ a → (m : KindAnswer) → kindMarked (markerIn key) ≡ m → cond a (Refused 24) (readAs m key) ≡ Key p → Reads key p
     go true x m y q = clash cc
     go false x Unknown y q = clash cc
     go false x (Kind k) y q = checked k (ltb-false (length key) 9 x) y (eqb (checkOf client (clientIn key)) 0) refl q

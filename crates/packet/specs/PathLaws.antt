@@ -43,10 +43,10 @@ sizes (c ∷ cs) = length c + sizes cs
 abbrev Cut : List ℕ → Type 0
 Cut t = (first : List ℕ) × (rest : List (List ℕ)) × (components t ≡ first ∷ rest) × (length first + sizes rest ≤ length t)
 
-cut-some : (t : List ℕ) → Cut t
+first-cut : (t : List ℕ) → Cut t
 unfolding cutAt
-cut-some [] = ([], [], refl, omega arith)
-cut-some (b ∷ t) = go (cut-some t) (eqb b 47) refl
+first-cut [] = ([], [], refl, omega arith)
+first-cut (b ∷ t) = go (first-cut t) (eqb b 47) refl
   where
     go : Cut t → (v : Bool) → eqb b 47 ≡ v → Cut (b ∷ t)
     go r true e = ([], r .0 ∷ r .1, rw (e, r .2), omega (arith, r .3))
@@ -142,7 +142,7 @@ module _ (k : PacketKind) (c : List ℕ) (n : ℕ) (ok : checkOf client c ≡ 0)
   key = packetKey k c n
 
   tail : Cut (bigEndian 8 n)
-  tail = cut-some (bigEndian 8 n)
+  tail = first-cut (bigEndian 8 n)
 
   tail-short : sizes (tail .1) ≤ 8
   tail-short = omega (arith, tail .3, length-big 8 n)

@@ -13,11 +13,11 @@ use Rattle.packet.specs.declared.KindAnswer.{KindAnswer}
 use Rattle.packet.specs.declared.KindAnswer.the-variants.{Kind, Unknown}
 use Rattle.packet.specs.declared.PacketAnswer.the-variants.{Key, Refused}
 use Rattle.packet.specs.declared.PacketKind.{PacketKind}
-use Rattle.packet.specs.Key.{kindOf, packetKey, packet, cutPlace, clientIn, markerIn, readAs, packetIn, writeAs, packetWanted}
+use Rattle.packet.specs.Key.{kindMarked, packetKey, packet, cutPlace, clientIn, markerIn, readAs, packetIn, writeAs, packetWanted}
 
 -- a byte that is none of the three
-pub other-byte : (m : ℕ) → (m ≡ 1 → ⊥) → (m ≡ 2 → ⊥) → (m ≡ 3 → ⊥) → Unknown ≡ kindOf m
-unfolding kindOf
+pub other-byte : (m : ℕ) → (m ≡ 1 → ⊥) → (m ≡ 2 → ⊥) → (m ≡ 3 → ⊥) → Unknown ≡ kindMarked m
+unfolding kindMarked
 other-byte m a b c = rw (ne-eqb m 1 a, ne-eqb m 2 b, ne-eqb m 3 c)
 
 -- ---- reading
@@ -26,7 +26,7 @@ unfolding packetIn
 read-short key h = rw (lt-ltb (length key) 9 h)
 
 -- nine bytes, the first of them judged as x
-module _ (key : List ℕ) (h : 9 ≤ length key) (x : KindAnswer) (e : x ≡ kindOf (markerIn key)) where
+module _ (key : List ℕ) (h : 9 ≤ length key) (x : KindAnswer) (e : x ≡ kindMarked (markerIn key)) where
   pub read-marked : packetIn key ≡ readAs x key
   unfolding packetIn
   read-marked = rw (le-ltb (length key) 9 h, e)
@@ -47,8 +47,16 @@ module _ (key : List ℕ) (h : 9 ≤ length key) (x : KindAnswer) (e : x ≡ kin
     pub read-key : r ≡ 0 → (v : ℕ) → v ≡ bigAt (cutPlace key + 1) 8 key → Key (packet k (cutPlace key) v) ≡ packetIn key
     read-key z v g = rw (kept, ← check, eq-eqb r 0 z, ← g)
 
+-- ---- writing, of a kind
+module _ (k : PacketKind) (c : List ℕ) (n r : ℕ) (f : r ≡ checkOf client c) where
+  pub kind-refused : (r ≡ 0 → ⊥) → writeAs (Kind k) c n ≡ refused r
+  kind-refused z = rw (← f, ne-eqb r 0 z)
+
+  pub kind-text : r ≡ 0 → writeAs (Kind k) c n ≡ text (packetKey k c n)
+  kind-text z = rw (← f, eq-eqb r 0 z)
+
 -- ---- writing, the kind judged as x
-module _ (m : ℕ) (c : List ℕ) (n : ℕ) (x : KindAnswer) (e : x ≡ kindOf m) where
+module _ (m : ℕ) (c : List ℕ) (n : ℕ) (x : KindAnswer) (e : x ≡ kindMarked m) where
   pub write-marked : packetWanted m c n ≡ writeAs x c n
   unfolding packetWanted
   write-marked = rw e
@@ -56,12 +64,13 @@ module _ (m : ℕ) (c : List ℕ) (n : ℕ) (x : KindAnswer) (e : x ≡ kindOf m
   pub write-unknown : x ≡ Unknown → packetWanted m c n ≡ refused 24
   write-unknown q = write-marked ∙ ap (λ (y : KindAnswer). writeAs y c n) q
 
-  module _ (k : PacketKind) (q : x ≡ Kind k) (r : ℕ) (f : r ≡ checkOf client c) where
-    asked : packetWanted m c n ≡ writeAs (Kind k) c n
-    asked = write-marked ∙ ap (λ (y : KindAnswer). writeAs y c n) q
+  module _ (k : PacketKind) (q : x ≡ Kind k) where
+    pub write-known : packetWanted m c n ≡ writeAs (Kind k) c n
+    write-known = write-marked ∙ ap (λ (y : KindAnswer). writeAs y c n) q
 
-    pub write-refused : (r ≡ 0 → ⊥) → packetWanted m c n ≡ refused r
-    write-refused z = rw (asked, ← f, ne-eqb r 0 z)
+    module _ (r : ℕ) (f : r ≡ checkOf client c) where
+      pub write-refused : (r ≡ 0 → ⊥) → packetWanted m c n ≡ refused r
+      write-refused z = write-known ∙ kind-refused k c n r f z
 
-    pub write-text : r ≡ 0 → packetWanted m c n ≡ text (packetKey k c n)
-    write-text z = rw (asked, ← f, eq-eqb r 0 z)
+      pub write-text : r ≡ 0 → packetWanted m c n ≡ text (packetKey k c n)
+      write-text z = write-known ∙ kind-text k c n r f z

@@ -7,10 +7,14 @@ use text::read_big_endian;
 use text::refusal::BAD_V2_KEY;
 use text::refusal::NO_ROOM;
 ghost use mathlib.Core.Path.{_≡_};
+ghost use mathlib.Core.List.{_∷_};
+ghost use Prim.Native.Nat.{_+_, _≤_};
 ghost use lib.ListN.{length};
-ghost use Rattle.text.specs.Put.{answer, left};
+ghost use Rattle.text.specs.Number.{bigEndian};
+ghost use Rattle.text.specs.Put.{answer, left, Wrote};
 ghost use Rattle.path.specs.View.{Shows};
-ghost use Rattle.packet.specs.Key.{markerOf, kindOf, packetIn, packetWanted, clientPlace, packetOf};
+ghost use Rattle.packet.specs.declared.KindAnswer.the-variants.{Kind};
+ghost use Rattle.packet.specs.Key.{markerOf, kindMarked, packetKey, packetIn, writeAs, packetWanted, clientPlace, packetOf};
 
 // The marker bytes of the three kinds.
 const COMMITMENT: u8 = 1;
@@ -66,8 +70,8 @@ pub fn marker_of(kind: PacketKind) -> u8
 }
 
 // The kind of a marker byte.
-pub fn kind_of(marker: u8) -> KindAnswer
-    ensures { λ r. ⌜ r ≡ kindOf marker ⌝ }
+pub fn kind_marked(marker: u8) -> KindAnswer
+    ensures { λ r. ⌜ r ≡ kindMarked marker ⌝ }
 {
     if marker == COMMITMENT {
         return KindAnswer::Kind(PacketKind::Commitment);
@@ -89,7 +93,7 @@ pub fn read_packet_key(key: &[u8]) -> PacketAnswer
         return PacketAnswer::Refused(BAD_V2_KEY);
     }
     let length = key.len() - 9;
-    let KindAnswer::Kind(kind) = kind_of(key[length]) else {
+    let KindAnswer::Kind(kind) = kind_marked(key[length]) else {
         return PacketAnswer::Refused(BAD_V2_KEY);
     };
     let refusal = validate_client_identifier(&key[0..length]);
@@ -137,17 +141,29 @@ pub fn packet_of(answer: PacketAnswer) -> Packet
     }
 }
 
-// Writes a packet key, the kind by its marker: 24, the client's 2, 5, 6, then 4.
-pub fn write_packet_key(kind: u8, client: &[u8], sequence: Sequence, out: &mut [u8]) -> Written
-    ensures { λ r. ⌜ r ≡ answer (packetWanted kind (now (client .entry)) (sequence .0)) (length (now (out .entry))) ⌝ }
-    ensures { λ _. ⌜ now (out .exit) ≡ left (packetWanted kind (now (client .entry)) (sequence .0)) (now (out .entry)) ⌝ }
+// Writes the nine bytes behind the client, the marker and the sequence, and returns the place after them.
+fn put_nine(out: &mut [u8], at: usize, kind: PacketKind, sequence: Sequence) -> usize
+    requires { ⌜ at + 9 ≤ length (now out) ⌝ }
+    ensures { λ r. ⌜ Wrote (now (out .entry)) at (markerOf kind ∷ bigEndian 8 (sequence .0)) r (now (out .exit)) ⌝ }
 {
-    let KindAnswer::Kind(k) = kind_of(kind) else {
-        return Written {
-            refusal: BAD_V2_KEY,
-            length: 0,
-        };
-    };
+    let next = text::put::write_byte(out, at, marker_of(kind));
+    text::write_big_endian(out, next, sequence.0, 8)
+}
+
+// Writes the client and the nine bytes from byte 0 on, and returns the place after them.
+fn put_key(out: &mut [u8], kind: PacketKind, client: &[u8], sequence: Sequence) -> usize
+    requires { ⌜ length (now client) + 9 ≤ length (now out) ⌝ }
+    ensures { λ r. ⌜ Wrote (now (out .entry)) 0 (packetKey kind (now (client .entry)) (sequence .0)) r (now (out .exit)) ⌝ }
+{
+    let at = text::put::write_text(out, 0, client);
+    put_nine(out, at, kind, sequence)
+}
+
+// Writes the packet key of a kind: the client's 2, 5, 6, then 4.
+fn write_kind(kind: PacketKind, client: &[u8], sequence: Sequence, out: &mut [u8]) -> Written
+    ensures { λ r. ⌜ r ≡ answer (writeAs (Kind kind) (now (client .entry)) (sequence .0)) (length (now (out .entry))) ⌝ }
+    ensures { λ _. ⌜ now (out .exit) ≡ left (writeAs (Kind kind) (now (client .entry)) (sequence .0)) (now (out .entry)) ⌝ }
+{
     let refusal = validate_client_identifier(client);
     if refusal != 0 {
         return Written { refusal, length: 0 };
@@ -158,11 +174,23 @@ pub fn write_packet_key(kind: u8, client: &[u8], sequence: Sequence, out: &mut [
             length: 0,
         };
     }
-    let at = text::put::write_text(out, 0, client);
-    let next = text::put::write_byte(out, at, marker_of(k));
-    let end = text::write_big_endian(out, next, sequence.0, 8);
+    let end = put_key(out, kind, client, sequence);
     Written {
         refusal: 0,
         length: end as u64,
     }
+}
+
+// Writes a packet key, the kind by its marker: 24, the client's 2, 5, 6, then 4.
+pub fn write_packet_key(kind: u8, client: &[u8], sequence: Sequence, out: &mut [u8]) -> Written
+    ensures { λ r. ⌜ r ≡ answer (packetWanted kind (now (client .entry)) (sequence .0)) (length (now (out .entry))) ⌝ }
+    ensures { λ _. ⌜ now (out .exit) ≡ left (packetWanted kind (now (client .entry)) (sequence .0)) (now (out .entry)) ⌝ }
+{
+    let KindAnswer::Kind(k) = kind_marked(kind) else {
+        return Written {
+            refusal: BAD_V2_KEY,
+            length: 0,
+        };
+    };
+    write_kind(k, client, sequence, out)
 }

@@ -398,20 +398,20 @@ pub valid-rendered : (k : ℕ) (v : Carried (List ℕ)) → Valid k v → render
 unfolding renderOf
 valid-rendered k v ok = rw (le-leb 1 k (ok .least), le-leb k 19 (ok .most), ok .names, le-leb (length (render (partsOf k) v)) 4096 (ok .size))
 
-abbrev faultOf : ℕ → Carried (List ℕ) → ℕ
-faultOf k v = first (namesFault (partsOf k) v) (unless 1 (leb (length (render (partsOf k) v)) 4096))
+abbrev renderFault : ℕ → Carried (List ℕ) → ℕ
+renderFault k v = first (namesFault (partsOf k) v) (unless 1 (leb (length (render (partsOf k) v)) 4096))
 
 abbrev acceptedOf : ℕ → Carried (List ℕ) → Wanted
-acceptedOf k v = accepted (faultOf k v) (render (partsOf k) v)
+acceptedOf k v = accepted (renderFault k v) (render (partsOf k) v)
 
 module _ (k : ℕ) (v : Carried (List ℕ)) where
   pub rendered-valid : (w : List ℕ) → v .a < 2 ^ 64 → v .b < 2 ^ 64 → renderOf k v ≡ text w → Valid k v × (w ≡ render (partsOf k) v)
   unfolding renderOf
-  rendered-valid w a b h = go (leb 1 k && leb k 19) refl (eqb (faultOf k v) 0) refl h
+  rendered-valid w a b h = go (leb 1 k && leb k 19) refl (eqb (renderFault k v) 0) refl h
     where
-      go : (x : Bool) → (leb 1 k && leb k 19) ≡ x → (y : Bool) → eqb (faultOf k v) 0 ≡ y → cond x (cond y (text (render (partsOf k) v)) (refused (faultOf k v))) (refused 14) ≡ text w → Valid k v × (w ≡ render (partsOf k) v)
+      go : (x : Bool) → (leb 1 k && leb k 19) ≡ x → (y : Bool) → eqb (renderFault k v) 0 ≡ y → cond x (cond y (text (render (partsOf k) v)) (refused (renderFault k v))) (refused 14) ≡ text w → Valid k v × (w ≡ render (partsOf k) v)
       go true e true f g =
-          let z = first-zero (namesFault (partsOf k) v) _ (eqb-true (faultOf k v) 0 f) in
+          let z = first-zero (namesFault (partsOf k) v) _ (eqb-true (renderFault k v) 0 f) in
           let r : w ≡ render (partsOf k) v = cc in (
             record {
               least = leb-true 1 k (and-left (leb 1 k) (leb k 19) e);

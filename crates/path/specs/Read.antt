@@ -214,8 +214,8 @@ placeOf (WithoutDigits i) = i
 placeOf (WithoutDigit i) = i
 placeOf (AboveAll i) = i
 
-abbrev pub faultOf : Refusal → Fault
-faultOf w = record { refusal = refusalOf w; place = placeOf w }
+abbrev pub asFault : Refusal → Fault
+asFault w = record { refusal = refusalOf w; place = placeOf w }
 
 abbrev pub numberOf : Reading → ℕ
 numberOf (Read p e) = 0

@@ -155,7 +155,7 @@ join-onto x b [] h = absurd (omega arith)
 join-onto x b (c ∷ []) h = refl
 join-onto x b (c ∷ (d ∷ cs)) h = refl
 
-cut-some : (x : ℕ) (t : List ℕ) → 0 < length (cutAt x t)
+pub cut-some : (x : ℕ) (t : List ℕ) → 0 < length (cutAt x t)
 unfolding cutAt
 cut-some x [] = omega arith
 cut-some x (b ∷ t) = go (eqb b x) (cutAt x t)
@@ -175,12 +175,12 @@ join-cut x (b ∷ t) = go (join-cut x t) (eqb b x) refl
     go h true e = join-cons x [] (cutAt x t) (cut-some x t) ∙ rw (h, eqb-true b x e)
     go h false e = join-onto x b (cutAt x t) (cut-some x t) ∙ rw h
 
-cut-one : (x : ℕ) (c : List ℕ) → without x c ≡ true → cutAt x c ≡ c ∷ []
+pub cut-one : (x : ℕ) (c : List ℕ) → without x c ≡ true → cutAt x c ≡ c ∷ []
 unfolding cutAt every
 cut-one x [] h = refl
 cut-one x (b ∷ c) h = rw (not-true (eqb b x) (and-left _ (without x c) h), cut-one x c (and-right (not (eqb b x)) (without x c) h))
 
-cut-more : (x : ℕ) (c t : List ℕ) → without x c ≡ true → cutAt x (c ++ (x ∷ t)) ≡ c ∷ cutAt x t
+pub cut-more : (x : ℕ) (c t : List ℕ) → without x c ≡ true → cutAt x (c ++ (x ∷ t)) ≡ c ∷ cutAt x t
 unfolding cutAt every
 cut-more x [] t h = rw (eq-eqb x x refl)
 cut-more x (b ∷ c) t h = rw (not-true (eqb b x) (and-left _ (without x c) h), cut-more x c t (and-right (not (eqb b x)) (without x c) h))

@@ -20,7 +20,7 @@ use Rattle.path.specs.declared.Refusal.{Refusal}
 use Rattle.path.specs.declared.Refusal.the-variants.{TooLong, NotAscii, NotAPath, NoDigits as WithoutDigits, NotADigit as WithoutDigit, TooLarge as AboveAll}
 use Rattle.path.specs.Text.{cutAt, component, placeAt}
 use Rattle.path.specs.Kinds.{Part, word, name, count, pair, Kind, kinds}
-use Rattle.path.specs.Read.{fits, componentCount, allFrom, suits, suitsKind, numeralFaults, pairFaults, partFaults, faultsFrom, whyNot, readFirst, refusalOf, placeOf, faultOf}
+use Rattle.path.specs.Read.{fits, componentCount, allFrom, suits, suitsKind, numeralFaults, pairFaults, partFaults, faultsFrom, whyNot, readFirst, refusalOf, placeOf, asFault}
 use Rattle.path.specs.Reads.{Has}
 use Rattle.path.specs.ReadLaws.{has-both}
 use Rattle.path.specs.Number.{Wrong, BadNumber, whole, before-dash, behind-dash, NumberWrong, Marks}
@@ -52,7 +52,7 @@ one-number m = has-both (λ e. oneNumber (e .parts)) (λ e. true) m one-all
 abbrev pub asRefusal : Fault → Refusal
 asRefusal f = cond (eqb (f .refusal) 17) (WithoutDigits (f .place)) (cond (eqb (f .refusal) 18) (WithoutDigit (f .place)) (AboveAll (f .place)))
 
-pub back-fault : (w : Refusal) → hasPlace (refusalOf w) ≡ true → asRefusal (faultOf w) ≡ w
+pub back-fault : (w : Refusal) → hasPlace (refusalOf w) ≡ true → asRefusal (asFault w) ≡ w
 back-fault TooLong h = let z : _≡_ {A = ℕ} 0 1 = cc in absurd (omega (arith, z))
 back-fault NotAscii h = let z : _≡_ {A = ℕ} 0 1 = cc in absurd (omega (arith, z))
 back-fault NotAPath h = let z : _≡_ {A = ℕ} 0 1 = cc in absurd (omega (arith, z))
@@ -62,7 +62,7 @@ back-fault (AboveAll i) h = refl
 
 same-fault : (w v : Refusal) → hasPlace (refusalOf w) ≡ true → hasPlace (refusalOf v) ≡ true → refusalOf w ≡ refusalOf v → placeOf w ≡ placeOf v → w ≡ v
 same-fault w v h k r p =
-    let e : faultOf w ≡ faultOf v = cc in
+    let e : asFault w ≡ asFault v = cc in
     sym (back-fault w h) ∙ ap asRefusal e ∙ back-fault v k
 
 -- ---- one number text

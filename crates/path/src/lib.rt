@@ -12,7 +12,7 @@ use text::refusal::NOT_ASCII;
 use text::refusal::TOO_LARGE;
 use text::refusal::TOO_LONG;
 ghost use mathlib.Core.Path.{_≡_};
-ghost use Rattle.path.specs.Read.{faultOf, numberOf};
+ghost use Rattle.path.specs.Read.{asFault, numberOf};
 ghost use Rattle.path.specs.Revision.{below};
 ghost use Rattle.path.specs.View.{viewOf};
 
@@ -180,7 +180,7 @@ pub fn is_below(p: Revision, q: Revision) -> bool
 
 // A refusal with its number and place.
 pub fn fault_of(why: Refusal) -> Fault
-    ensures { λ r. ⌜ r ≡ faultOf why ⌝ }
+    ensures { λ r. ⌜ r ≡ asFault why ⌝ }
 {
     match why {
         Refusal::TooLong => Fault {

@@ -72,8 +72,8 @@ consensusOf t = record { client = placeAt t 1; number = firstOf (component t 3);
 abbrev pub endsOf : List ℕ → ChannelPlaces
 endsOf t = record { port = placeAt t 2; channel = placeAt t 4 }
 
-abbrev pub packetOf : List ℕ → PacketPlaces
-packetOf t = record { port = placeAt t 2; channel = placeAt t 4; sequence = sequenceIn (component t 6) }
+abbrev pub packetPlacesOf : List ℕ → PacketPlaces
+packetPlacesOf t = record { port = placeAt t 2; channel = placeAt t 4; sequence = sequenceIn (component t 6) }
 
 -- ---- the answers
 -- the word w at component k and an identifier after it: where the identifier stands
@@ -106,7 +106,7 @@ endsIn t = cond (fitFrom 1 endsParts t) (Channel (endsOf t)) NoChannel
 
 -- `ports/P/channels/H/sequences/S` after the first component
 unfoldable pub packetIn : List ℕ → PacketAnswer
-packetIn t = cond (fitFrom 1 packetParts t) (Packet (packetOf t)) NoPacket
+packetIn t = cond (fitFrom 1 packetParts t) (Packet (packetPlacesOf t)) NoPacket
 
 -- where the first dash stands: the length where there is none
 unfoldable pub firstDash : List ℕ → ℕ

@@ -16,7 +16,7 @@ use Rattle.path.specs.declared.Path.{Path}
 use Rattle.path.specs.declared.Refusal.{Refusal}
 use Rattle.path.specs.declared.Reading.{Reading}
 use Rattle.path.specs.declared.Reading.the-variants.{Read, Refused}
-use Rattle.path.specs.Read.{placeBytes, refusalOf, faultOf, readPath, bytesBy, readingBytes, readFault}
+use Rattle.path.specs.Read.{placeBytes, refusalOf, asFault, readPath, bytesBy, readingBytes, readFault}
 use Rattle.text.specs.Number.{bigEndian}
 use Rattle.path.specs.View.{viewOf}
 use Rattle.text.specs.NumberLaws.{length-big}
@@ -71,7 +71,7 @@ module _ (r : Reading) where
     unfolding answerBy
     fault-read p x h w e a i = rw (i, e, h)
 
-    pub fault-refused : (w : Refusal) (f : Fault) → r ≡ Refused w → f ≡ faultOf w → f ≡ answerBy r room
+    pub fault-refused : (w : Refusal) (f : Fault) → r ≡ Refused w → f ≡ asFault w → f ≡ answerBy r room
     unfolding answerBy answer
     fault-refused w f h e = rw h e
 

@@ -38,7 +38,7 @@ pub struct Fault {
 }
 
 // Whether v with the digit d after it is more than a u64 has. Most numbers are told by the first test.
-fn over(v: u64, d: u64) -> bool
+pub fn over(v: u64, d: u64) -> bool
     requires { ⌜ d < 10 ⌝ }
     ensures { λ r. ⌜ (r ≡ true → 18446744073709551615 < v * 10 + d) × (r ≡ false → v * 10 + d ≤ 18446744073709551615) ⌝ }
 {
@@ -94,7 +94,7 @@ pub fn read_number(s: &[u8]) -> Numeral
 }
 
 // What is wrong with a number text whose first byte stands at `at`.
-pub fn number_fault(n: Numeral, at: usize) -> Fault
+pub fn numeral_fault(n: Numeral, at: usize) -> Fault
     requires { ⌜ at + numeralPlace n < 2 ^ 64 ⌝ }
     ensures { λ r. ⌜ r ≡ fault (numeralFault n) (at + numeralPlace n) ⌝ }
 {

@@ -4,7 +4,7 @@ ghost use mathlib.Core.Bool.{cond};
 ghost use Prim.Native.Nat.{_+_, _≤_, max};
 ghost use lib.Dec.{eqb};
 ghost use lib.ListN.{length, take, drop};
-ghost use Rattle.text.specs.Number.{little};
+ghost use Rattle.text.specs.Number.{Bytes, little};
 ghost use Rattle.text.specs.Part.{ascii, startsWith, same, top};
 
 // The larger of two bytes.
@@ -28,9 +28,10 @@ pub fn largest(s: &[u8]) -> u8
 }
 
 // The eight bytes of `s` from `at` on as a number, the first lowest: one load.
-fn eight(s: &[u8], at: usize) -> u64
+pub fn eight(s: &[u8], at: usize) -> u64
     requires { ⌜ at + 8 ≤ length (now s) ⌝ }
     ensures { λ r. ⌜ r ≡ little 8 (drop at (now (s .entry))) ⌝ }
+    ensures { λ _. ⌜ Bytes (now (s .entry)) ⌝ }
 {
     let mut r: u64 = 0;
     let mut i: usize = 0;

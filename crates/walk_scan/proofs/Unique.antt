@@ -1,8 +1,7 @@
 -- The contract of each public function, as the source has it, leaves one outcome.
 -- Assumes nothing.
-use mathlib.Core.Path.{_≡_, sym, _∙_}
+use mathlib.Core.Path.{sym, _∙_}
 use Rattle.text.specs.Outcome.{One}
-use Rattle.walk_scan.proofs.word.eight.Reads as eight
 use Rattle.walk_scan.proofs.word.word8.Reads as word8
 use Rattle.walk_scan.proofs.word.word16.Reads as word16
 use Rattle.walk_scan.proofs.word.word24.Reads as word24
@@ -11,9 +10,6 @@ use Rattle.walk_scan.proofs.name.channel_length.Reads as channel-length
 use Rattle.walk_scan.proofs.name.connection_length.Reads as connection-length
 use Rattle.walk_scan.proofs.name.slash.Reads as slash
 use Rattle.walk_scan.proofs.number.number.Reads as number
-
-pub one-eight : One eight.Post
-one-eight κs a r₁ r₂ s₁ s₂ p q = p .0 ∙ sym (q .0)
 
 pub one-word8 : One word8.Post
 one-word8 κs a r₁ r₂ s₁ s₂ p q = p ∙ sym q

@@ -1,23 +1,23 @@
 -- The digits loop, and the answers of the number reader.
 -- Assumes nothing.
-use Prim.Native.Nat.{ℕ, zero, suc, _+_, _*_, _-_, _/_, _^_, _≤_, _<_}
+use Prim.Native.Nat.{ℕ, zero, suc, _+_, _-_, _/_, _^_, _≤_, _<_}
 use mathlib.Core.Path.{_≡_, refl, sym, ap, _∙_}
-use mathlib.Core.List.{List, [], _∷_, _++_}
+use mathlib.Core.List.{List, [], _∷_}
 use mathlib.Core.Logic.{_⊎_, inl, inr}
-use mathlib.Core.Bool.{Bool, true, false, cond, not, _&&_, and-true, and-false}
+use mathlib.Core.Bool.{Bool, true, false, cond, not, and-true}
 use native.Mathlib.Omega.{arith}
-use native.Mathlib.Nat.{add-zero, pow-suc, pow-le-pow-right}
+use native.Mathlib.Nat.{add-zero}
 use native.Mathlib.Numerals.{add-one}
 use lib.Dec.{eqb, ltb, leb}
 use lib.ListN.{length, take, drop, getD, length-take, length-drop, drop-of-length-le}
-use lib.Seq.{getD-drop, drop-cons, drop-drop}
-use borrow.Author.Tests.{lt-ltb, le-ltb, ltb-true, ne-eqb, eq-eqb, eqb-true, eqb-false, leb-true}
+use lib.Seq.{getD-drop, drop-cons}
+use borrow.Author.Tests.{lt-ltb, le-ltb, ne-eqb, eq-eqb, eqb-true, eqb-false, leb-true}
 use Rattle.text.specs.Number.{isDigit, withDigit, digitsFrom, digitsAt, numeralOf, width, decimal}
-use Rattle.text.specs.NumberLaws.{NoLonger, Digit, decimal-no-longer, decimal-each, decimal-first, decimal-small, length-decimal, length-decimal-some, width-small, width-more}
-use Rattle.text.specs.Part.{every, startsWith}
+use Rattle.text.specs.NumberLaws.{decimal-no-longer, decimal-each, decimal-first, decimal-small, length-decimal, length-decimal-some, width-small, width-more}
+use Rattle.text.specs.Part.{startsWith}
 use Rattle.text.specs.PartLaws.{and-left, and-right, starts-byte}
 use Rattle.text.specs.declared.Numeral.{Numeral}
-use Rattle.text.specs.declared.Numeral.the-variants.{Value, NoDigits, NotADigit, TooLarge}
+use Rattle.text.specs.declared.Numeral.the-variants.{Value, NotADigit, TooLarge}
 use Rattle.identifiers.specs.Check.{isValue}
 use Rattle.path.specs.Kinds.{count}
 use Rattle.path.specs.Read.{valueOf, isNumber, numberIn}
@@ -25,7 +25,7 @@ use Rattle.path.specs.Spelled.{spelled}
 use Rattle.walk_scan.specs.declared.number.Figures.{Figures}
 use Rattle.walk_scan.specs.declared.number.Counted.{Counted}
 use Rattle.walk_scan.specs.Run.{run}
-use Rattle.walk_scan.specs.RunLaws.{run-within, run-every}
+use Rattle.walk_scan.specs.RunLaws.{run-within}
 use Rattle.walk_scan.specs.Number.{figures, sign, numLen, numText, countedOf, plainOf}
 use Rattle.walk_scan.specs.WordLaws.{starts-split}
 use Rattle.walk_scan.specs.NumberLaws.{value-cond, no-value, num-within}

@@ -3,8 +3,8 @@
 use Prim.Native.Nat.{ℕ, zero, suc, _+_, _-_, _≤_, _<_}
 use mathlib.Core.Path.{_≡_, refl, sym, ap, _∙_}
 use mathlib.Core.List.{List, [], _∷_, _++_, append-assoc}
-use mathlib.Core.Logic.{_⊎_, inl, inr}
-use mathlib.Core.Bool.{Bool, true, false, cond, _&&_, _||_}
+use mathlib.Core.Logic.{inl, inr}
+use mathlib.Core.Bool.{Bool, true, false, _&&_}
 use native.Mathlib.Omega.{arith}
 use lib.Dec.{eqb, ltb}
 use lib.ListN.{length, take, drop, getD, length-append, take-append-drop, drop-of-length-le}
@@ -17,7 +17,7 @@ use Rattle.text.specs.PartLaws.{every-append}
 use Rattle.text.specs.Fault.{numeralFault}
 use Rattle.text.specs.declared.Numeral.{Numeral}
 use Rattle.text.specs.declared.Numeral.the-variants.{Value, NoDigits, NotADigit, TooLarge}
-use Rattle.identifiers.specs.Check.{isValue, unless, indexOf, namedOf, checkOf, Rule, indexed, channel, connection, identifierByte, among}
+use Rattle.identifiers.specs.Check.{isValue, indexOf, namedOf, checkOf, Rule, indexed, channel, connection, identifierByte, among}
 use Rattle.identifiers.specs.CheckLaws.{index-short, index-other, accepted-by}
 use Rattle.identifiers.specs.IndexLaws.{channel-name, connection-name}
 use Rattle.path.specs.Read.{isNumber}

@@ -10,4 +10,3 @@ pub mod RunLaws
 pub mod Tail
 pub mod TailLaws
 pub mod WordLaws
-pub mod WordsLaws

@@ -1,17 +1,15 @@
 -- The scanner of an identifier: the run of identifier bytes that its rule accepts.
 -- Assumes nothing.
-use Prim.Native.Nat.{ℕ, zero, suc, _+_, _-_, _≤_, _<_}
-use mathlib.Core.Path.{_≡_, refl, sym, ap, _∙_}
-use mathlib.Core.List.{List, [], _∷_, _++_}
+use Prim.Native.Nat.{ℕ, _+_, _-_, _≤_, _<_}
+use mathlib.Core.Path.{_≡_, refl, sym, _∙_}
+use mathlib.Core.List.{List, _++_}
 use mathlib.Core.Bool.{Bool, true, false, cond}
 use native.Mathlib.Omega.{arith}
 use lib.Dec.{eqb, ltb}
 use lib.ListN.{length, take, length-take}
 use lib.Seq.{take-at}
-use borrow.Author.Tests.{eq-eqb, ne-eqb, eqb-true, lt-ltb, le-ltb, ltb-true}
-use Rattle.text.specs.Part.{every}
-use Rattle.text.specs.declared.Fault.{Fault}
-use Rattle.identifiers.specs.Check.{Rule, plain, checkOf, faultOf, identifierByte, among}
+use borrow.Author.Tests.{eq-eqb, ne-eqb, eqb-true, lt-ltb, ltb-true}
+use Rattle.identifiers.specs.Check.{Rule, plain, checkOf, identifierByte, among}
 use Rattle.identifiers.specs.Check as check
 use Rattle.identifiers.specs.CheckLaws.{accepted-bytes, accepted-length, accepted-by}
 use Rattle.path.specs.Kinds.{name}
@@ -19,7 +17,7 @@ use Rattle.path.specs.TextLaws.{without}
 use Rattle.path.specs.declared.name.Name.{Name}
 use Rattle.path.specs.declared.name.Name.the-variants.{Client, Connection, Port, Channel}
 use Rattle.path.specs.Read.{fits, nameFault}
-use Rattle.walk_scan.specs.Run.{run, ruleRun}
+use Rattle.walk_scan.specs.Run.{run, ruleRun, nameRun}
 use Rattle.walk_scan.specs.RunLaws.{run-within, run-every, run-to, run-clear}
 use Rattle.walk_scan.specs.Tail.{Stops}
 use Rattle.walk_scan.specs.TailLaws.{Scans}
@@ -62,12 +60,23 @@ rule-plain least most s h k =
     let r : Rule = record { least = least; most = most; form = plain } in
     rule-in r s (accepted-by r (take (run identifierByte s) s) (run-every identifierByte s) (rw (run-length r s) h) (rw (run-length r s) k) refl)
 
-module _ (r : Rule) (s : List ℕ) (n v : ℕ) (e : n ≡ run identifierByte s) (f : v ≡ checkOf r (take n s)) where
-  pub rule-refused : (v ≡ 0 → ⊥) → ruleRun r s ≡ 0
-  rule-refused h = rule-out r s (λ k. h (f ∙ rw e k))
+-- by the check of a name
+module _ (m : Name) (s : List ℕ) (n v : ℕ) (e : n ≡ run identifierByte s) (f : v ≡ nameFault m (take n s)) where
+  pub name-refused : (v ≡ 0 → ⊥) → 0 ≡ nameRun m s
+  unfolding nameRun
+  name-refused h = sym (rw (ne-eqb (nameFault m (take (run identifierByte s) s)) 0 (λ k. h (f ∙ rw e k))))
 
-  pub rule-accepted : v ≡ 0 → ruleRun r s ≡ n
-  rule-accepted h = rule-in r s (rw (← e) (sym f ∙ h)) ∙ sym e
+  pub name-accepted : v ≡ 0 → n ≡ nameRun m s
+  unfolding nameRun
+  name-accepted h = rw (eq-eqb (nameFault m (take (run identifierByte s) s)) 0 (rw (← e) (sym f ∙ h))) e
+
+pub connection-by-name : (s : List ℕ) → nameRun Connection s ≡ ruleRun check.connection s
+unfolding nameRun ruleRun nameFault
+connection-by-name s = refl
+
+pub channel-by-name : (s : List ℕ) → nameRun Channel s ≡ ruleRun check.channel s
+unfolding nameRun ruleRun nameFault
+channel-by-name s = refl
 
 -- an identifier up to the end of its component
 pub run-is : (r : Rule) (c t : List ℕ) → Stops t → checkOf r c ≡ 0 → ruleRun r (c ++ t) ≡ length c
@@ -109,8 +118,3 @@ scans-port = scans-name Port check.port (omega arith) (λ c. refl)
 pub scans-channel : Scans (name Channel) (λ s. ltb 0 (ruleRun check.channel s)) (ruleRun check.channel)
 unfolding nameFault
 scans-channel = scans-name Channel check.channel (omega arith) (λ c. refl)
-
--- the refusal of a check with its place is the check's
-pub check-refusal : (r : Rule) (s : List ℕ) (f : Fault) → f ≡ faultOf r s → f .refusal ≡ checkOf r s
-unfolding faultOf
-check-refusal r s f e = ap (λ (x : Fault). x .refusal) e

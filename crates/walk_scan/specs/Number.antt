@@ -4,8 +4,8 @@ use Prim.Native.Nat.{ℕ, _+_, _^_}
 use mathlib.Core.List.{List, [], _∷_}
 use mathlib.Core.Bool.{Bool, true, false, cond, not, _&&_}
 use lib.Dec.{eqb, ltb}
-use lib.ListN.{length, take, drop, getD}
-use Rattle.text.specs.Number.{isDigit, withDigit, numeralOf}
+use lib.ListN.{take, drop}
+use Rattle.text.specs.Number.{isDigit, withDigit}
 use Rattle.text.specs.Part.{ascii, startsWith}
 use Rattle.path.specs.Kinds.{count}
 use Rattle.path.specs.Read.{isNumber, numberIn}

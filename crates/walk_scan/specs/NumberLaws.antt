@@ -1,35 +1,28 @@
 -- The scanners of S or n, of R-h and of U.
 -- Assumes nothing.
-use Prim.Native.Nat.{ℕ, zero, suc, _+_, _*_, _-_, _^_, _≤_, _<_}
+use Prim.Native.Nat.{ℕ, suc, _+_, _-_, _^_, _≤_, _<_}
 use mathlib.Core.Path.{_≡_, refl, sym, ap, _∙_}
 use mathlib.Core.List.{List, [], _∷_, _++_, append-assoc}
-use mathlib.Core.Bool.{Bool, true, false, cond, not, _&&_, and-true, and-false}
+use mathlib.Core.Bool.{Bool, true, false, cond, not, _&&_}
 use native.Mathlib.Omega.{arith}
-use native.Mathlib.Nat.{add-zero, pow-suc, pow-le-pow-right}
-use native.Mathlib.Numerals.{add-one}
-use lib.Dec.{eqb, ltb, leb}
-use lib.ListN.{length, take, drop, getD, length-append, length-take, length-drop, take-append-drop, drop-of-length-le}
-use lib.Seq.{getD-drop, drop-cons, drop-drop, drop-at, take-at, take-add}
-use borrow.Author.Tests.{lt-ltb, le-ltb, ltb-true, ltb-false, ne-eqb, eq-eqb, eqb-true, eqb-false, leb-true, not-true}
-use Rattle.text.specs.Number.{isDigit, withDigit, digitsFrom, digitsAt, numeralOf, decimal}
-use Rattle.text.specs.NumberLaws.{NoLonger, decimal-no-longer, decimal-each, decimal-first, length-decimal, length-decimal-some, below-pow}
+use lib.Dec.{eqb, ltb}
+use lib.ListN.{length, take, drop, length-append, length-take, length-drop}
+use lib.Seq.{drop-drop, drop-at, take-at, take-add}
+use borrow.Author.Tests.{eqb-true}
+use Rattle.text.specs.Number.{isDigit, withDigit, digitsFrom, digitsAt, numeralOf}
 use Rattle.text.specs.Part.{every, ascii, startsWith}
 use Rattle.text.specs.PartLaws.{and-left, and-right, every-append}
 use Rattle.text.specs.declared.Numeral.{Numeral}
-use Rattle.text.specs.declared.Numeral.the-variants.{Value, NoDigits, NotADigit, TooLarge}
-use Rattle.identifiers.specs.Check.{isValue, first, unless}
+use Rattle.text.specs.declared.Numeral.the-variants.{NotADigit, TooLarge}
+use Rattle.identifiers.specs.Check.{isValue}
 use Rattle.path.specs.Kinds.{name, count, pair}
 use Rattle.path.specs.Text.{cutAt, joinBy}
 use Rattle.path.specs.TextLaws.{without, join-cut, cut-join}
 use Rattle.path.specs.declared.name.Name.the-variants.{Upgrade}
-use Rattle.path.specs.Read.{fits, nameFault, valueOf, isNumber, numberIn, arePair}
-use Rattle.path.specs.ExactLaws.{value-is}
-use Rattle.path.specs.Spelled.{spelled}
-use Rattle.walk_scan.specs.declared.number.Figures.{Figures}
-use Rattle.walk_scan.specs.declared.number.Counted.{Counted}
+use Rattle.path.specs.Read.{fits, nameFault, isNumber, arePair}
 use Rattle.walk_scan.specs.Run.{run}
-use Rattle.walk_scan.specs.RunLaws.{run-within, run-every, run-to, run-clear}
-use Rattle.walk_scan.specs.Number.{figures, sign, numLen, numText, countedOf, pairOk, pairLen, noSlash, upgradeOk}
+use Rattle.walk_scan.specs.RunLaws.{run-within, run-every, run-to}
+use Rattle.walk_scan.specs.Number.{sign, numLen, numText, pairOk, pairLen, noSlash, upgradeOk}
 use Rattle.walk_scan.specs.Tail.{Stops}
 use Rattle.walk_scan.specs.Tail as tail
 use Rattle.walk_scan.specs.WordLaws.{starts-split, starts-room}

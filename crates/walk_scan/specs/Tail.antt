@@ -1,10 +1,9 @@
 -- What the rest of a text reads as, part by part: the walk's own words.
 -- Assumes nothing.
 use Prim.Native.Nat.{ℕ, _+_}
-use mathlib.Core.List.{List, [], _∷_, _++_}
-use mathlib.Core.Bool.{Bool, true, false, cond, _&&_}
+use mathlib.Core.List.{List, [], _∷_}
+use mathlib.Core.Bool.{Bool, true, cond, _&&_}
 use lib.Dec.{eqb}
-use lib.ListN.{length}
 use Rattle.path.specs.declared.Place.{Place}
 use Rattle.path.specs.Text.{components, placesFrom, nowhere}
 use Rattle.path.specs.Kinds.{Part, Carried, carried}

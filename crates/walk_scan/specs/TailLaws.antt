@@ -4,36 +4,23 @@ use Prim.Native.Nat.{ℕ, zero, suc, _+_, _-_, _≤_, _<_}
 use mathlib.Core.Path.{_≡_, refl, sym, ap, _∙_}
 use mathlib.Core.List.{List, [], _∷_, _++_, append-nil}
 use mathlib.Core.Bool.{Bool, true, false, cond, not, _&&_, and-true, and-false}
-use native.Mathlib.Decide.{decLt}
 use native.Mathlib.Omega.{arith}
-use native.Mathlib.Numerals.{add-one}
-use native.Mathlib.Nat.{add-zero}
-use lib.Dec.{eqb, ltb}
-use lib.ListN.{length, take, drop, getD, length-append, length-drop, drop-of-length-le}
-use lib.Seq.{drop-cons, drop-at, take-at, drop-drop}
-use borrow.Author.Tests.{not-true, eq-eqb, ne-eqb, eqb-true, eqb-false}
+use lib.Dec.{eqb}
+use lib.ListN.{length, take, drop, length-drop}
+use lib.Seq.{drop-at, take-at, drop-drop}
+use borrow.Author.Tests.{not-true, eqb-true}
 use Rattle.text.specs.Part.{every, startsWith, same}
 use Rattle.text.specs.PartLaws.{and-left, and-right, same-is, same-refl, starts-append}
 use Rattle.path.specs.declared.Place.{Place}
-use Rattle.path.specs.Text.{components, cutAt, cutStep, onto, places, placesFrom, placeStep, longer, nowhere}
-use Rattle.path.specs.TextLaws.{without, count-components}
-use Rattle.path.specs.Kinds.{Part, word, name, count, pair, Carried, carried, Kind}
-use Rattle.path.specs.Read.{fits, adds, carriedFrom, componentCount, fitsKind, readKind}
-use Rattle.path.specs.Spelled.{allOf, fitAll, spelled, spelledFrom}
+use Rattle.path.specs.Text.{components, placesFrom, nowhere}
+use Rattle.path.specs.TextLaws.{without, cut-some, cut-one, cut-more}
+use Rattle.path.specs.Kinds.{Part, word, Carried, carried}
+use Rattle.path.specs.Read.{fits, adds}
+use Rattle.path.specs.Spelled.{fitAll, spelled}
 use Rattle.walk_scan.specs.WordLaws.{starts-split, starts-whole, starts-room}
-use Rattle.walk_scan.specs.Tail.{carriedAll, spelledAll, Tail, none, some, tailOf, afterOf, added, Stops, at-end, at-slash}
+use Rattle.walk_scan.specs.Tail.{Tail, none, some, tailOf, afterOf, added, Stops, at-end, at-slash}
 
 -- ---- the first component, and what is left
-cut-one : (x : ℕ) (c : List ℕ) → without x c ≡ true → cutAt x c ≡ c ∷ []
-unfolding cutAt every
-cut-one x [] h = refl
-cut-one x (b ∷ c) h = rw (not-true (eqb b x) (and-left _ (without x c) h), cut-one x c (and-right (not (eqb b x)) (without x c) h))
-
-cut-more : (x : ℕ) (c t : List ℕ) → without x c ≡ true → cutAt x (c ++ (x ∷ t)) ≡ c ∷ cutAt x t
-unfolding cutAt every
-cut-more x [] t h = rw (eq-eqb x x refl)
-cut-more x (b ∷ c) t h = rw (not-true (eqb b x) (and-left _ (without x c) h), cut-more x c t (and-right (not (eqb b x)) (without x c) h))
-
 places-one : (i : ℕ) (c : List ℕ) → without 47 c ≡ true → placesFrom i c ≡ record { start = i; len = length c } ∷ []
 unfolding placesFrom every
 places-one i [] h = refl
@@ -45,16 +32,6 @@ places-more i [] r h = let e : i + 0 + 1 ≡ i + 1 = omega arith in rw e
 places-more i (b ∷ c) r h =
     let e : i + 1 + length c + 1 ≡ i + suc (length c) + 1 = omega arith in
     rw (not-true (eqb b 47) (and-left _ (without 47 c) h), places-more (i + 1) c r (and-right (not (eqb b 47)) (without 47 c) h), e)
-
-cut-some : (x : ℕ) (t : List ℕ) → 0 < length (cutAt x t)
-unfolding cutAt
-cut-some x [] = omega arith
-cut-some x (b ∷ t) = go (eqb b x) (cutAt x t)
-  where
-    go : (v : Bool) (cs : List (List ℕ)) → 0 < length (cutStep v b cs)
-    go true cs = omega arith
-    go false [] = omega arith
-    go false (c ∷ cs) = omega arith
 
 fit-none : (cs : List (List ℕ)) → 0 < length cs → fitAll [] cs ≡ false
 fit-none [] h = absurd (omega arith)

@@ -7,7 +7,7 @@ use mathlib.Core.Bool.{Bool, true, false, _&&_, and-false}
 use native.Mathlib.Omega.{arith}
 use lib.Dec.{eqb}
 use lib.ListN.{length, take, drop, getD, length-drop}
-use lib.Seq.{drop-drop, getD-drop}
+use lib.Seq.{take-all, drop-drop, getD-drop}
 use borrow.Author.Tests.{eq-eqb, eqb-true, eqb-false}
 use Rattle.text.specs.Bytes.{bytes}
 use Rattle.text.specs.Number.{Bytes, little, lowBytes}
@@ -47,6 +47,24 @@ starts-little (suc n) (b ∷ s) a h k l =
 pub starts-eight : (s : List ℕ) (at a n : ℕ) → at + 8 ≤ length s → Bytes s → a < 18446744073709551616 → n ≡ little 8 (drop at s) → eqb n a ≡ startsWith (lowBytes 8 a) (drop at s)
 starts-eight s at a n h k l e =
     rw e (sym (starts-little 8 (drop at s) a (rw length-drop (omega arith)) (λ i. rw getD-drop (k (at + i))) l))
+
+-- the first bytes of a text are those of their number
+pub low-little : (n : ℕ) (w : List ℕ) → n ≤ length w → Bytes w → lowBytes n (little n w) ≡ take n w
+unfolding little lowBytes
+low-little zero w h k = refl
+low-little (suc n) [] h k = absurd (omega arith)
+low-little (suc n) (b ∷ w) h k =
+    let p : (little n w * 256 + b) % 256 ≡ b = omega (arith, k 0) in
+    let q : (little n w * 256 + b) / 256 ≡ little n w = omega (arith, k 0) in
+    rw (p, q, low-little n w (omega arith) (λ i. k (suc i)))
+
+-- a word of eight bytes, as the code makes its number
+pub eight-word : (w : List ℕ) (a : ℕ) → 8 ≤ length w → (a ≡ little 8 (drop 0 w)) × Bytes w → lowBytes 8 a ≡ take 8 w
+eight-word w a h e = ap (lowBytes 8) (e .0) ∙ low-little 8 w h (e .1)
+
+-- all of its bytes
+pub eight-whole : (w : List ℕ) (a : ℕ) → length w ≡ 8 → (a ≡ little 8 (drop 0 w)) × Bytes w → lowBytes 8 a ≡ w
+eight-whole w a h e = eight-word w a (omega arith) e ∙ take-all 8 w (omega arith)
 
 -- a text too short for it
 pub starts-none : (s : List ℕ) (at a : ℕ) → length s < at + 8 → startsWith (lowBytes 8 a) (drop at s) ≡ false

@@ -2,54 +2,19 @@
 use crate::number::number;
 use crate::word::word8;
 use crate::word::word16;
-use identifiers::validate::validate_channel_identifier;
-use identifiers::validate::validate_connection_identifier;
+use identifiers::validate::is_identifier_byte;
+use path::name::Name;
+use path::name::name_fault;
+use text::part::eight;
 ghost use mathlib.Core.Path.{_≡_};
 ghost use mathlib.Core.Bool.{_&&_};
 ghost use Prim.Native.Nat.{_+_, _≤_, _<_};
-ghost use lib.Dec.{eqb, ltb, leb};
+ghost use lib.Dec.{eqb, ltb};
 ghost use lib.ListN.{length, drop, getD};
-ghost use Rattle.text.specs.Part.{ascii};
 ghost use Rattle.identifiers.specs.Check.{identifierByte, plain, channel, connection};
 ghost use Rattle.walk_scan.specs.Index.{Index};
 ghost use Rattle.walk_scan.specs.Number.{noSlash};
-ghost use Rattle.walk_scan.specs.Run.{run, ruleRun};
-
-// `channel-`, and the first and last eight bytes of `connection-`.
-const CHANNEL_: u64 = 3273102554164193379;
-
-const CONNECTI: u64 = 7598807758576447331;
-
-const NECTION_: u64 = 3273676477859849582;
-
-// Which bytes may stand in an identifier, a bit each: of those from 0 to 63 (`#`, `+`, `-`, `.`, digits, `<`, `>`), and of
-// those from 64 to 127 (letters, `[`, `]`, `_`).
-const LOW: u64 = 0x53ff680800000000;
-
-const HIGH: u64 = 0x07fffffeaffffffe;
-
-// Whether the byte is one from 64 to 127, where the letters are; both tests compile to one comparison.
-fn is_high(b: u8) -> bool
-    ensures { λ r. ⌜ r ≡ (leb 64 b && ltb b 128) ⌝ }
-{
-    if b < 64 {
-        return false;
-    }
-    b < 128
-}
-
-// Whether a byte may stand in an identifier; letters are told first, being the most.
-fn is_identifier(b: u8) -> bool
-    ensures { λ r. ⌜ r ≡ identifierByte b ⌝ }
-{
-    if is_high(b) {
-        return (HIGH >> (b % 64)) % 2 == 1;
-    }
-    if b < 64 {
-        return (LOW >> b) % 2 == 1;
-    }
-    false
-}
+ghost use Rattle.walk_scan.specs.Run.{run, ruleRun, nameRun};
 
 // Where the identifier bytes from `at` on end.
 fn identifier_end(s: &[u8], at: usize) -> usize
@@ -57,7 +22,7 @@ fn identifier_end(s: &[u8], at: usize) -> usize
     ensures { λ r. ⌜ (at ≤ r) × (r ≤ length (now (s .entry))) × (r ≡ at + run identifierByte (drop at (now (s .entry)))) ⌝ }
 {
     let mut i = at;
-    while i < s.len() && is_identifier(s[i]) {
+    while i < s.len() && is_identifier_byte(s[i]) {
         i += 1;
     }
     i
@@ -115,14 +80,13 @@ fn index_end(s: &[u8], d: usize) -> usize
     0
 }
 
-// How long the channel at `at` is, by its check.
-fn checked_channel(s: &[u8], at: usize) -> usize
+// How long the identifier at `at` is, by its check.
+fn checked(s: &[u8], at: usize, name: Name) -> usize
     requires { ⌜ at ≤ length (now s) ⌝ }
-    ensures { λ r. ⌜ (at + r ≤ length (now (s .entry))) × (r ≡ ruleRun channel (drop at (now (s .entry)))) ⌝ }
+    ensures { λ r. ⌜ (at + r ≤ length (now (s .entry))) × (r ≡ nameRun name (drop at (now (s .entry)))) ⌝ }
 {
     let end = identifier_end(s, at);
-    let fault = validate_channel_identifier(&s[at..end]);
-    if fault.refusal != 0 {
+    if name_fault(name, &s[at..end]) != 0 {
         return 0;
     }
     end - at
@@ -133,27 +97,14 @@ pub fn channel_length(s: &[u8], at: usize) -> usize
     requires { ⌜ at ≤ length (now s) ⌝ }
     ensures { λ r. ⌜ (at + r ≤ length (now (s .entry))) × (r ≡ ruleRun channel (drop at (now (s .entry)))) ⌝ }
 {
-    if !word8(s, at, CHANNEL_) {
-        return checked_channel(s, at);
+    if !word8(s, at, b"channel-") {
+        return checked(s, at, Name::Channel);
     }
     let e = index_end(s, at + 8);
     if e == 0 {
-        return checked_channel(s, at);
+        return checked(s, at, Name::Channel);
     }
     e - at
-}
-
-// How long the connection at `at` is, by its check.
-fn checked_connection(s: &[u8], at: usize) -> usize
-    requires { ⌜ at ≤ length (now s) ⌝ }
-    ensures { λ r. ⌜ (at + r ≤ length (now (s .entry))) × (r ≡ ruleRun connection (drop at (now (s .entry)))) ⌝ }
-{
-    let end = identifier_end(s, at);
-    let fault = validate_connection_identifier(&s[at..end]);
-    if fault.refusal != 0 {
-        return 0;
-    }
-    end - at
 }
 
 // How long the connection at `at` is, 0 where there is none.
@@ -161,12 +112,12 @@ pub fn connection_length(s: &[u8], at: usize) -> usize
     requires { ⌜ at ≤ length (now s) ⌝ }
     ensures { λ r. ⌜ (at + r ≤ length (now (s .entry))) × (r ≡ ruleRun connection (drop at (now (s .entry)))) ⌝ }
 {
-    if !word16(s, at, 11, CONNECTI, NECTION_) {
-        return checked_connection(s, at);
+    if !word16(s, at, 11, eight(b"connecti", 0), eight(b"nection-", 0)) {
+        return checked(s, at, Name::Connection);
     }
     let e = index_end(s, at + 11);
     if e == 0 {
-        return checked_connection(s, at);
+        return checked(s, at, Name::Connection);
     }
     e - at
 }

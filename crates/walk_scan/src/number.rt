@@ -1,10 +1,10 @@
 // The number at a place of a text.
+use text::over;
 ghost use mathlib.Core.Path.{_≡_};
 ghost use mathlib.Core.Bool.{true, false};
 ghost use mathlib.Core.List.{_∷_, []};
-ghost use Prim.Native.Nat.{_+_, _*_, _≤_, _<_};
-ghost use lib.Dec.{ltb};
-ghost use lib.ListN.{length, drop, getD};
+ghost use Prim.Native.Nat.{_+_, _≤_, _<_};
+ghost use lib.ListN.{length, drop};
 ghost use Rattle.text.specs.Number.{isDigit};
 ghost use Rattle.text.specs.Part.{startsWith};
 ghost use Rattle.walk_scan.specs.Number.{figures, countedOf, plainOf};
@@ -34,20 +34,6 @@ fn is_digit(b: u8) -> bool
         return false;
     }
     true
-}
-
-// Whether v with the digit d after it is more than a u64 has. Most numbers are told by the first test.
-fn over(v: u64, d: u64) -> bool
-    requires { ⌜ d < 10 ⌝ }
-    ensures { λ r. ⌜ (r ≡ true → 18446744073709551615 < v * 10 + d) × (r ≡ false → v * 10 + d ≤ 18446744073709551615) ⌝ }
-{
-    if v < 1844674407370955161 {
-        return false;
-    }
-    if 1844674407370955161 < v {
-        return true;
-    }
-    5 < d
 }
 
 // The digits from `at` on.

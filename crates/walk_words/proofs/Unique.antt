@@ -1,6 +1,6 @@
 -- The contract of each public function, as the source has it, leaves one outcome.
 -- Assumes nothing.
-use mathlib.Core.Path.{_≡_, sym, _∙_}
+use mathlib.Core.Path.{sym, _∙_}
 use Rattle.text.specs.Outcome.{One}
 use Rattle.walk_words.proofs.is_clients_open.Reads as is-clients-open
 use Rattle.walk_words.proofs.is_client_state.Reads as is-client-state

@@ -6,7 +6,7 @@ use mathlib.Core.Bool.{Bool, true, false, cond, _&&_, and-false}
 use mathlib.Core.List.{List, _++_}
 use native.Mathlib.Nat.{sub-zero}
 use native.Mathlib.Omega.{arith}
-use lib.Dec.{eqb, ltb, leb}
+use lib.Dec.{ltb, leb}
 use lib.ListN.{length, take, drop}
 use lib.Seq.{take-at}
 use borrow.Author.Tests.{le-leb, lt-leb, lt-ltb, le-ltb, ltb-true, ne-eqb, leb-true}
@@ -21,7 +21,7 @@ use Rattle.text.specs.PutLaws.{put-zero}
 use Rattle.text.specs.TableLaws.{agree-at}
 use Rattle.identifiers.specs.Check.{first, unless, identifierByte, within, namedOf, indexPlace, Form, indexed, Rule, clientType, formOf}
 use Rattle.identifiers.specs.Check as check
-use Rattle.identifiers.specs.CheckLaws.{first-zero, first-some, first-none, first-last, unless-zero}
+use Rattle.identifiers.specs.CheckLaws.{first-zero, first-some, first-none, first-last, first-first, unless-zero}
 use Rattle.identifiers.specs.OwnedLaws.{accepted-some, accepted-none}
 use Rattle.path.specs.declared.Refusal.the-variants.{TooLong}
 use Rattle.path.specs.declared.Reading.{Reading}
@@ -58,13 +58,6 @@ unfolding checkIn within
 accepted-length m r s ok =
     let k = unless-zero 6 _ (omega arith) (first-zero _ _ (first-zero (charsIn m s) _ ok .1) .0) in
     (leb-true _ _ (and-left _ _ k), leb-true _ _ (and-right (leb (r .least) (length s)) _ k))
-
-first-first : (a b d : ℕ) → first a (first b d) ≡ first (first a b) d
-first-first a b d = go (eqb a 0) refl
-  where
-    go : (t : Bool) → eqb a 0 ≡ t → cond t (first b d) a ≡ first (cond t b a) d
-    go true e = refl
-    go false e = rw e
 
 module _ (m : Mode) (least most : ℕ) (s : List ℕ) where
   pub check-short : checkIn m (record { least = least; most = most; form = check.plain }) s ≡ first (charsIn m s) (within least most (length s))

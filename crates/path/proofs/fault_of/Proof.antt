@@ -3,12 +3,12 @@
 use mathlib.Core.Path.{_≡_, sym, ap}
 use borrow.Author.Needs.{needs}
 use Rattle.path.specs.declared.Refusal.{Refusal}
-use Rattle.path.specs.Read.{faultOf}
+use Rattle.path.specs.Read.{asFault}
 use Rattle.path.proofs.fault_of.Statement.{statement}
 use Rattle.path.proofs.fault_of.Tie as tie
 
-answers : (p q : Refusal) → p ≡ q → faultOf q ≡ faultOf p
-answers p q e = ap faultOf (sym e)
+answers : (p q : Refusal) → p ≡ q → asFault q ≡ asFault p
+answers p q e = ap asFault (sym e)
 
 pub fault-of-spec : {M : Type 1} → statement M
 fault-of-spec =

@@ -1,6 +1,5 @@
 -- `is_ports` meets its contract.
 -- Assumes nothing.
-use mathlib.Core.Path.{_≡_, ap, _∙_}
 use Rattle.walk_scan.specs.WordLaws.{ports-six}
 use native.Mathlib.Omega.{arith}
 use borrow.Author.Needs.{needs}

@@ -25,7 +25,7 @@ loop-holds c = (search needs, ap trimEnd (sym (take-length _)))
 loop-again : tie.Need-loop-again Inv-loop μ-loop
 loop-again c =
     let l = c .before .before .before .before .loop in
-    (search needs, l .inv .1 ∙ end-more _ (l .end) (l .end - 1) (omega arith) (omega arith) (sym (c .before .is-blank .ensures) ∙ c .if1 .taken))
+    (search needs, l .inv .1 ∙ end-more _ (l .end) (l .end - 1) (omega arith) (omega arith) (sym (c .before .is-white .ensures) ∙ c .if1 .taken))
 
 returns : tie.Need-returns Inv-loop μ-loop
 returns c =

@@ -21,7 +21,7 @@ abbrev μ-loop : tie.MeasureT-loop
 loop-again : tie.Need-loop-again Inv-loop μ-loop
 loop-again c =
     let l = c .before .before .before .before .loop in
-    (search needs, l .inv .1 ∙ start-more _ (l .i) (omega arith) (sym (c .before .is-blank .ensures) ∙ c .if1 .taken))
+    (search needs, l .inv .1 ∙ start-more _ (l .i) (omega arith) (sym (c .before .is-white .ensures) ∙ c .if1 .taken))
 
 returns : tie.Need-returns Inv-loop μ-loop
 returns c =

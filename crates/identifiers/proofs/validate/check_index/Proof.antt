@@ -17,8 +17,8 @@ returns c =
     let a = c .before .before .before .before .before .before .args in
     c .placeless .ensures ∙ index-refused (a .id .now) _ (a .start) (part-rest (a .start) (a .id .now)) (search needs) (c .before .if2 .taken)
 
-number-fault-requires : tie.Need-number-fault-requires
-number-fault-requires c κs =
+numeral-fault-requires : tie.Need-numeral-fault-requires
+numeral-fault-requires c κs =
     let s = c .before .before .before .before in
     index-room (s .args .id .now) _ (s .args .start) (part-rest (s .args .start) (s .args .id .now)) _ (c .read-number .ensures) (s .pre) (search needs)
 
@@ -26,7 +26,7 @@ returns-2 : tie.Need-returns-2
 returns-2 c =
     let a = c .before .before .before .before .before .args in
     let d = take (length (a .id .now) - a .start) (drop (a .start) (a .id .now)) in
-    c .number-fault .ensures
+    c .numeral-fault .ensures
     ∙ index-answers (a .id .now) d (a .start) (part-rest (a .start) (a .id .now)) _ (c .before .read-number .ensures) (⊎-elim (λ w. index-other d (omega arith) (w .2 .left)) (λ w. index-short d (omega arith)) (c .before .before .if1 .came))
 
 pub check-index-spec : {M : Type 1} → statement M
@@ -40,5 +40,5 @@ check-index-spec =
     (λ c κs. search needs)
     returns
     (λ c κs. search needs)
-    number-fault-requires
+    numeral-fault-requires
     returns-2)

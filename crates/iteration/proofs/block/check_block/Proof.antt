@@ -6,14 +6,14 @@ use native.Mathlib.Omega.{arith}
 use borrow.Author.Needs.{needs}
 use lib.ListN.{length, drop}
 use Rattle.iteration.specs.Block.{blockOf, isBlock, keysIn}
-use Rattle.iteration.specs.Search.{keyOf}
+use Rattle.iteration.specs.Search.{revisionOf}
 use Rattle.iteration.specs.BlockLaws.{risingIn, block-odd, block-start, rising-end, check-stop, check-more}
 use Rattle.iteration.proofs.block.check_block.Statement.{statement}
 use Rattle.iteration.proofs.block.check_block.Tie as tie
 
 -- the keys from i on rise from the last one on
 abbrev Inv-loop : tie.InvT-loop
-Inv-loop block n last₀ i₀ last i = (i ≤ n) × (isBlock (blockOf block) ≡ risingIn (keyOf last) (keysIn (n - i) (drop (38 * i) block)))
+Inv-loop block n last₀ i₀ last i = (i ≤ n) × (isBlock (blockOf block) ≡ risingIn (revisionOf last) (keysIn (n - i) (drop (38 * i) block)))
 
 abbrev μ-loop : tie.MeasureT-loop
 μ-loop block n last₀ i₀ last i = n - i
@@ -36,18 +36,18 @@ key-at-requires c κs = search needs
 returns-2 : tie.Need-returns-2 Inv-loop μ-loop
 returns-2 c =
     let l = c .before .before .before .before .loop in
-    sym (l .inv .1 ∙ check-stop _ _ (l .i) (c .before .before .before .loop-test .taken) (keyOf (l .last)) _ (c .before .before .key-at .ensures) _ (c .before .is-next .ensures) (c .if2 .taken))
+    sym (l .inv .1 ∙ check-stop _ _ (l .i) (c .before .before .before .loop-test .taken) (revisionOf (l .last)) _ (c .before .before .key-at .ensures) _ (c .before .is-next .ensures) (c .if2 .taken))
 
 loop-again : tie.Need-loop-again Inv-loop μ-loop
 loop-again c =
     let l = c .before .before .before .before .loop in
-    (omega arith, l .inv .1 ∙ check-more _ _ (l .i) (c .before .before .before .loop-test .taken) (keyOf (l .last)) _ (c .before .before .key-at .ensures) _ (c .before .is-next .ensures) (c .if2 .left))
+    (omega arith, l .inv .1 ∙ check-more _ _ (l .i) (c .before .before .before .loop-test .taken) (revisionOf (l .last)) _ (c .before .before .key-at .ensures) _ (c .before .is-next .ensures) (c .if2 .left))
 
 returns-3 : tie.Need-returns-3 Inv-loop μ-loop
 returns-3 c =
     let l = c .before .loop in
     let s = c .before .before .before .before .args .block .now in
-    sym (l .inv .1 ∙ rising-end (keyOf (l .last)) (length s / 38 - l .i) (drop (38 * l .i) s) (omega arith))
+    sym (l .inv .1 ∙ rising-end (revisionOf (l .last)) (length s / 38 - l .i) (drop (38 * l .i) s) (omega arith))
 
 pub check-block-spec : {M : Type 1} → statement M
 check-block-spec = tie.close (tie.spec Inv-loop μ-loop returns loop-holds mul-key-at key-at-requires (λ c κs. search needs) returns-2 (λ c. search needs) (λ c. search needs) loop-again returns-3)

@@ -14,7 +14,7 @@ use Rattle.text.proofs.part.eight_ascii.Tie as tie
 
 returns : tie.Need-returns
 returns c =
-    ap (λ v. eqb (bitAnd v (highBits 8)) 0) (c .eight .ensures)
+    ap (λ v. eqb (bitAnd v (highBits 8)) 0) (c .eight .ensures .0)
     ∙ high-ascii 8 _ (rw length-drop (omega arith)) (λ i. rw getD-drop (omega (arith, c .before .shared-slice-known .given (c .before .before .args .at + i))))
 
 pub eight-ascii-spec : {M : Type 1} → statement M

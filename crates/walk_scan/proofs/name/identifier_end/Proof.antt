@@ -21,10 +21,10 @@ loop-holds : tie.Need-loop-holds Inv-loop μ-loop
 loop-holds c = (search needs, refl)
 
 loop-again : tie.Need-loop-again Inv-loop μ-loop
-loop-again c = let l = c .before .before .before .before .loop in let e = run-more identifierByte (c .before .before .before .before .before .before .args .s .now) (l .i) (omega arith) (sym (c .before .is-identifier .ensures) ∙ c .if1 .taken) in (search needs, omega (arith, e, l .inv .1))
+loop-again c = let l = c .before .before .before .before .loop in let e = run-more identifierByte (c .before .before .before .before .before .before .args .s .now) (l .i) (omega arith) (sym (c .before .is-identifier-byte .ensures) ∙ c .if1 .taken) in (search needs, omega (arith, e, l .inv .1))
 
 returns : tie.Need-returns Inv-loop μ-loop
-returns c = let l = c .before .before .before .before .loop in let e = run-stop identifierByte (c .before .before .before .before .before .before .args .s .now) (l .i) (omega arith) (sym (c .before .is-identifier .ensures) ∙ c .if1 .left) in (omega arith, omega arith, omega (arith, e, l .inv .1))
+returns c = let l = c .before .before .before .before .loop in let e = run-stop identifierByte (c .before .before .before .before .before .before .args .s .now) (l .i) (omega arith) (sym (c .before .is-identifier-byte .ensures) ∙ c .if1 .left) in (omega arith, omega arith, omega (arith, e, l .inv .1))
 
 returns-2 : tie.Need-returns-2 Inv-loop μ-loop
 returns-2 c = let l = c .before .loop in let e = run-none identifierByte (c .before .before .before .args .s .now) (l .i) (omega arith) in (omega arith, omega arith, omega (arith, e, l .inv .1))

@@ -1,6 +1,5 @@
 -- `zero_first` meets its contract.
 -- Assumes nothing.
-use Prim.Native.Nat.{_<_, _≤_}
 use borrow.Author.Tests.{lt-ltb, le-ltb}
 use borrow.Author.Needs.{needs}
 use Rattle.walk_scan.proofs.name.zero_first.Statement.{statement}

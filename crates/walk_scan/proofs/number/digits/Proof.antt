@@ -1,10 +1,8 @@
 -- `digits` meets its contract.
 -- Assumes nothing.
-use Prim.Native.Nat.{ℕ, _+_, _*_, _-_, _^_, _≤_, _<_}
+use Prim.Native.Nat.{_-_, _^_, _≤_, _<_}
 use mathlib.Core.Path.{_≡_, refl, sym, _∙_}
-use mathlib.Core.Bool.{true}
 use lib.ListN.{length, getD, drop}
-use Rattle.text.specs.Number.{isDigit, withDigit}
 use Rattle.walk_scan.specs.Number.{figures}
 use Rattle.walk_scan.specs.CountLaws.{digit-is, figures-end, figures-stop, figures-over, figures-more}
 use native.Mathlib.Omega.{arith}

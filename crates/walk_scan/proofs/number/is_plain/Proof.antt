@@ -1,6 +1,5 @@
 -- `is_plain` meets its contract.
 -- Assumes nothing.
-use mathlib.Core.Path.{_≡_, refl}
 use borrow.Author.Tests.{eq-eqb, ne-eqb}
 use Rattle.walk_scan.specs.Number.{plainOf}
 use Rattle.walk_scan.proofs.number.is_plain.Statement.{statement}

@@ -1,7 +1,6 @@
 -- `number` meets its contract.
 -- Assumes nothing.
-use mathlib.Core.Path.{_≡_, sym, ap, _∙_}
-use lib.ListN.{length, drop}
+use mathlib.Core.Path.{_∙_}
 use borrow.Author.Tests.{eq-eqb, ne-eqb}
 use Rattle.walk_scan.specs.CountLaws.{count-end, count-byte}
 use native.Mathlib.Omega.{arith}

@@ -1,10 +1,9 @@
 -- `signed` meets its contract.
 -- Assumes nothing.
-use mathlib.Core.Path.{_≡_, sym, ap, _∙_}
+use mathlib.Core.Path.{_∙_}
 use lib.ListN.{drop}
 use lib.Seq.{drop-drop}
 use borrow.Author.Tests.{not-true, not-false}
-use Rattle.walk_scan.specs.Number.{figures}
 use Rattle.walk_scan.specs.CountLaws.{sign-none, sign-empty, sign-some}
 use borrow.Author.Needs.{needs}
 use Rattle.walk_scan.proofs.number.signed.Statement.{statement}

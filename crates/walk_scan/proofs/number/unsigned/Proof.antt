@@ -1,6 +1,6 @@
 -- `unsigned` meets its contract.
 -- Assumes nothing.
-use mathlib.Core.Path.{_≡_, sym, ap, _∙_}
+use mathlib.Core.Path.{_∙_}
 use lib.ListN.{drop}
 use borrow.Author.Tests.{not-true, not-false}
 use Rattle.walk_scan.specs.CountLaws.{free-none, free-empty, free-some, first-at}

@@ -1,6 +1,6 @@
 -- `word24` meets its contract.
 -- Assumes nothing.
-use mathlib.Core.Path.{_≡_, sym, _∙_}
+use mathlib.Core.Path.{sym, _∙_}
 use Prim.Native.Nat.{_+_, _-_}
 use borrow.Author.Tests.{not-true, not-false}
 use Rattle.text.specs.Number.{lowBytes}

@@ -1,2 +1,0 @@
--- The table of words.
-pub mod Words
