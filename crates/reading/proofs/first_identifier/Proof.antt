@@ -4,8 +4,8 @@ use mathlib.Core.Path.{sym, ap, _∙_}
 use Rattle.path.specs.View.{firstPlace}
 use Rattle.path.specs.ViewLaws.{shows-at, view-first}
 use borrow.Author.Needs.{needs}
-use Rattle.reader.proofs.first_identifier.Statement.{statement}
-use Rattle.reader.proofs.first_identifier.Tie as tie
+use Rattle.reading.proofs.first_identifier.Statement.{statement}
+use Rattle.reading.proofs.first_identifier.Tie as tie
 
 returns : tie.Need-returns
 returns c = shows-at _ _ _ _ (sym (ap firstPlace (c .before .enum-told .given .1))) (c .part .ensures)

@@ -4,8 +4,8 @@ use mathlib.Core.Path.{_≡_, sym, _∙_}
 use mathlib.Core.Bool.{true, false}
 use Rattle.text.specs.Part.{ascii}
 use borrow.Author.Needs.{needs}
-use Rattle.reader.proofs.fault.Statement.{statement}
-use Rattle.reader.proofs.fault.Tie as tie
+use Rattle.reading.proofs.fault.Statement.{statement}
+use Rattle.reading.proofs.fault.Tie as tie
 
 returns : tie.Need-returns
 returns c = let h : ascii (c .before .before .before .before .args .text .now) ≡ true = sym (c .before .before .all-ascii .ensures) ∙ c .before .if1 .taken in rw h (c .number-fault .ensures)

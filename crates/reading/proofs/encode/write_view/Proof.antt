@@ -3,11 +3,11 @@
 use mathlib.Core.Path.{sym, ap, _∙_}
 use Rattle.text.specs.Put.{done}
 use Rattle.text.specs.PutLaws.{answer-fits, answer-short, left-fits, left-short}
-use Rattle.reader.specs.EncodeLaws.{length-view, put-view}
+use Rattle.reading.specs.EncodeLaws.{length-view, put-view}
 use borrow.Author.Needs.{needs}
 use native.Mathlib.Omega.{arith}
-use Rattle.reader.proofs.encode.write_view.Statement.{statement}
-use Rattle.reader.proofs.encode.write_view.Tie as tie
+use Rattle.reading.proofs.encode.write_view.Statement.{statement}
+use Rattle.reading.proofs.encode.write_view.Tie as tie
 
 returns : tie.Need-returns
 returns c =

@@ -6,8 +6,8 @@ use Rattle.text.specs.Number.{bigEndian}
 use Rattle.text.specs.NumberLaws.{length-big}
 use borrow.Author.Needs.{needs}
 use native.Mathlib.Omega.{arith}
-use Rattle.reader.proofs.encode.write_place.Statement.{statement}
-use Rattle.reader.proofs.encode.write_place.Tie as tie
+use Rattle.reading.proofs.encode.write_place.Statement.{statement}
+use Rattle.reading.proofs.encode.write_place.Tie as tie
 
 returns : tie.Need-returns
 returns c =

@@ -6,8 +6,8 @@ use mathlib.Core.Path.{refl}
 use borrow.Author.Tests.{le-leb, lt-leb}
 use Rattle.path.specs.Text.{shownOf, shownStart}
 use borrow.Author.Needs.{needs}
-use Rattle.reader.proofs.part.Statement.{statement}
-use Rattle.reader.proofs.part.Tie as tie
+use Rattle.reading.proofs.part.Statement.{statement}
+use Rattle.reading.proofs.part.Tie as tie
 
 returns : tie.Need-returns
 unfolding shownOf shownStart

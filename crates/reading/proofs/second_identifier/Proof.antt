@@ -4,8 +4,8 @@ use mathlib.Core.Path.{sym, ap, _∙_}
 use Rattle.path.specs.View.{secondPlace}
 use Rattle.path.specs.ViewLaws.{shows-at, view-second}
 use borrow.Author.Needs.{needs}
-use Rattle.reader.proofs.second_identifier.Statement.{statement}
-use Rattle.reader.proofs.second_identifier.Tie as tie
+use Rattle.reading.proofs.second_identifier.Statement.{statement}
+use Rattle.reading.proofs.second_identifier.Tie as tie
 
 returns : tie.Need-returns
 returns c = shows-at _ _ _ _ (sym (ap secondPlace (c .before .enum-told .given .1))) (c .part .ensures)

@@ -1,13 +1,13 @@
--- `wide::reading::read_path` meets its contract.
+-- `wide::read::read_path` meets its contract.
 -- Assumes nothing.
 use mathlib.Core.Path.{sym, ap, _∙_}
 use borrow.Author.Tests.{not-true, not-false}
-use Rattle.wide.specs.declared.reading.WideReading.the-variants.{Of}
+use Rattle.wide.specs.declared.read.WideReading.the-variants.{Of}
 use Rattle.wide.specs.AsciiLaws.{read-ascii}
 use Rattle.wide.specs.StepLaws.{read-long, read-other, read-seen}
 use borrow.Author.Needs.{needs}
-use Rattle.wide.proofs.reading.read_path.Statement.{statement}
-use Rattle.wide.proofs.reading.read_path.Tie as tie
+use Rattle.wide.proofs.read.read_path.Statement.{statement}
+use Rattle.wide.proofs.read.read_path.Tie as tie
 
 returns : tie.Need-returns
 returns c = read-long _ (c .if1 .taken)

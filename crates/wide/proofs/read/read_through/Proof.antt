@@ -1,11 +1,11 @@
--- `wide::reading::read_through` meets its contract.
+-- `wide::read::read_through` meets its contract.
 -- Assumes nothing.
 use mathlib.Core.Path.{ap, _∙_}
 use Rattle.path.specs.Read.{readPath}
 use Rattle.wide.specs.StepLaws.{picture-part}
 use borrow.Author.Needs.{needs}
-use Rattle.wide.proofs.reading.read_through.Statement.{statement}
-use Rattle.wide.proofs.reading.read_through.Tie as tie
+use Rattle.wide.proofs.read.read_through.Statement.{statement}
+use Rattle.wide.proofs.read.read_through.Tie as tie
 
 returns : tie.Need-returns
 returns c =

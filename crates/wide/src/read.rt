@@ -79,7 +79,7 @@ pub fn write_reading(text: &[u8], out: &mut [u8]) -> Fault
     ensures { λ _. ⌜ now (out .exit) ≡ left (readingBytesIn wide (now (text .entry))) (now (out .entry)) ⌝ }
 {
     match read_path(text) {
-        WideReading::Of(reading) => reader::write_answer(reading, out),
+        WideReading::Of(reading) => reading::write_answer(reading, out),
         WideReading::NotTaken => Fault {
             refusal: BAD_UTF8,
             place: 0,

@@ -11,7 +11,7 @@ ghost use Prim.Native.Nat.{_+_, _≤_};
 ghost use lib.ListN.{length};
 ghost use Rattle.text.specs.Put.{put, text, answer, left};
 ghost use Rattle.path.specs.Read.{placeBytes};
-ghost use Rattle.reader.specs.Encode.{viewBytes};
+ghost use Rattle.reading.specs.Encode.{viewBytes};
 
 fn mark(exact: bool) -> u8
     ensures { λ r. ⌜ r ≡ cond exact 1 0 ⌝ }

@@ -1,4 +1,4 @@
--- `wide::reading::write_reading` meets its contract.
+-- `wide::read::write_reading` meets its contract.
 -- Assumes nothing.
 use mathlib.Core.Path.{sym, ap, _∙_}
 use lib.ListN.{length}
@@ -6,8 +6,8 @@ use Rattle.text.specs.Put.{Wanted, left}
 use Rattle.text.specs.PutLaws.{left-refused}
 use Rattle.wide.specs.StepLaws.{other-bytes, other-fault, of-bytes, of-fault}
 use borrow.Author.Needs.{needs}
-use Rattle.wide.proofs.reading.write_reading.Statement.{statement}
-use Rattle.wide.proofs.reading.write_reading.Tie as tie
+use Rattle.wide.proofs.read.write_reading.Statement.{statement}
+use Rattle.wide.proofs.read.write_reading.Tie as tie
 
 returns : tie.Need-returns
 returns c =

@@ -20,7 +20,7 @@ use Rattle.path.specs.Read.{placeBytes, refusalOf, faultOf, readPath, bytesBy, 
 use Rattle.text.specs.Number.{bigEndian}
 use Rattle.path.specs.View.{viewOf}
 use Rattle.text.specs.NumberLaws.{length-big}
-use Rattle.reader.specs.Encode.{viewBytes, answerBy}
+use Rattle.reading.specs.Encode.{viewBytes, answerBy}
 
 pub length-place : (p : Place) → length (placeBytes p) ≡ 4
 length-place p = simp (length-append, length-big)

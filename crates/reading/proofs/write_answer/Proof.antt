@@ -3,10 +3,10 @@
 use mathlib.Core.Path.{ap, _∙_}
 use lib.ListN.{length}
 use Rattle.text.specs.Put.{Wanted, left}
-use Rattle.reader.specs.EncodeLaws.{bytes-read, bytes-refused, fault-read, fault-refused}
+use Rattle.reading.specs.EncodeLaws.{bytes-read, bytes-refused, fault-read, fault-refused}
 use borrow.Author.Needs.{needs}
-use Rattle.reader.proofs.write_answer.Statement.{statement}
-use Rattle.reader.proofs.write_answer.Tie as tie
+use Rattle.reading.proofs.write_answer.Statement.{statement}
+use Rattle.reading.proofs.write_answer.Tie as tie
 
 returns : tie.Need-returns
 returns c =

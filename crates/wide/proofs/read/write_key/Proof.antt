@@ -1,4 +1,4 @@
--- `wide::reading::write_key` meets its contract.
+-- `wide::read::write_key` meets its contract.
 -- Assumes nothing.
 use mathlib.Core.Path.{sym}
 use Rattle.text.specs.PutLaws.{gives-refusal, gives-same}
@@ -6,8 +6,8 @@ use Rattle.wide.specs.Mode.{wide}
 use Rattle.wide.specs.Read.{keyIn}
 use Rattle.wide.specs.StepLaws.{other-key, of-key}
 use borrow.Author.Needs.{needs}
-use Rattle.wide.proofs.reading.write_key.Statement.{statement}
-use Rattle.wide.proofs.reading.write_key.Tie as tie
+use Rattle.wide.proofs.read.write_key.Statement.{statement}
+use Rattle.wide.proofs.read.write_key.Tie as tie
 
 returns : tie.Need-returns
 returns c =
