@@ -1,15 +1,13 @@
 -- The lengths of what is encoded, and one writer after the other.
 -- Assumes nothing.
 use Prim.Native.Nat.{ℕ, _+_, _≤_}
-use mathlib.Core.Path.{_≡_, refl, sym, ap, _∙_}
+use mathlib.Core.Path.{_≡_}
 use mathlib.Core.Bool.{Bool, cond}
-use mathlib.Core.List.{List, [], _∷_}
-use native.Mathlib.Omega.{arith}
+use mathlib.Core.List.{List, [], _∷_, _++_, append-assoc}
 use lib.ListN.{length, length-append}
-use Rattle.text.specs.Put.{put, text, refused, Wanted, answer}
+use Rattle.text.specs.Put.{put, Wrote, text, refused, Wanted, answer}
 use Rattle.text.specs.declared.Fault.{Fault}
 use Rattle.text.specs.declared.Written.{Written}
-use Rattle.text.specs.PutLaws.{put-next, length-put}
 use Rattle.path.specs.declared.Place.{Place}
 use Rattle.path.specs.declared.PathView.{PathView}
 use Rattle.path.specs.declared.Path.{Path}
@@ -17,44 +15,30 @@ use Rattle.path.specs.declared.Refusal.{Refusal}
 use Rattle.path.specs.declared.Reading.{Reading}
 use Rattle.path.specs.declared.Reading.the-variants.{Read, Refused}
 use Rattle.path.specs.Read.{placeBytes, refusalOf, faultOf, readPath, bytesBy, readingBytes, readFault}
-use Rattle.text.specs.Number.{bigEndian}
 use Rattle.path.specs.View.{viewOf}
+use Rattle.text.specs.Number.{bigEndian}
 use Rattle.text.specs.NumberLaws.{length-big}
 use Rattle.reading.specs.Encode.{viewBytes, answerBy}
 
 pub length-place : (p : Place) → length (placeBytes p) ≡ 4
 length-place p = simp (length-append, length-big)
 
+pub length-places : (p q : Place) → length (placeBytes p ++ placeBytes q) ≡ 8
+length-places p q = simp (length-append, length-big)
+
 pub length-view : (v : PathView) (e : Bool) → length (viewBytes v e) ≡ 26
 unfolding viewBytes
 length-view v e = simp (length-append, length-big)
 
--- what is written leaves the length
-kept : (o o′ a : List ℕ) (p : ℕ) → p + length a ≤ length o → o′ ≡ put o p a → length o′ ≡ length o
-kept o o′ a p h e = ap length e ∙ length-put o p a h
+-- a text of n bytes was written
+pub wrote : {out o w : List ℕ} {at r : ℕ} (n : ℕ) → length w ≡ n → r ≡ at + n → o ≡ put out at w → at + n ≤ length out → Wrote out at w r o
+wrote n l e p h = record { next = rw l e; after = p; room = rw l h }
 
--- one writer after the other
-pub put-view : (v : PathView) (x : Bool) (m : ℕ) (o o1 o2 o3 o4 o5 o6 : List ℕ) → 26 ≤ length o → m ≡ cond x 1 0
-    → o1 ≡ put o 0 (v .kind ∷ []) → o2 ≡ put o1 1 (m ∷ []) → o3 ≡ put o2 2 (placeBytes (v .first)) → o4 ≡ put o3 6 (placeBytes (v .second))
-    → o5 ≡ put o4 10 (bigEndian 8 (v .a)) → o6 ≡ put o5 18 (bigEndian 8 (v .b)) → o6 ≡ put o 0 (viewBytes v x)
+-- the writers of kind and mark, of places and of numbers make the 26 bytes
+pub wrote-view : {out o : List ℕ} {at r : ℕ} (v : PathView) (e : Bool)
+    → Wrote out at ((v .kind ∷ cond e 1 0 ∷ []) ++ ((placeBytes (v .first) ++ placeBytes (v .second)) ++ (bigEndian 8 (v .a) ++ bigEndian 8 (v .b)))) r o → Wrote out at (viewBytes v e) r o
 unfolding viewBytes
-put-view v x m o o1 o2 o3 o4 o5 o6 h i e1 e2 e3 e4 e5 e6 =
-    let n3 = length-place (v .first) in
-    let n4 = length-place (v .second) in
-    let n5 = length-big 8 (v .a) in
-    let l1 = kept o o1 (v .kind ∷ []) 0 (omega arith) e1 in
-    let l2 = kept o1 o2 (m ∷ []) 1 (omega arith) e2 in
-    let l3 = kept o2 o3 (placeBytes (v .first)) 2 (omega arith) e3 in
-    let l4 = kept o3 o4 (placeBytes (v .second)) 6 (omega arith) e4 in
-    sym (
-    rw (← i)
-    (put-next o 0 (v .kind ∷ []) _ o1 1 (omega arith) refl e1
-    ∙ put-next o1 1 (m ∷ []) _ o2 2 (omega arith) refl e2
-    ∙ put-next o2 2 (placeBytes (v .first)) _ o3 6 (omega arith) (omega arith) e3
-    ∙ put-next o3 6 (placeBytes (v .second)) _ o4 10 (omega arith) (omega arith) e4
-    ∙ put-next o4 10 (bigEndian 8 (v .a)) _ o5 18 (omega arith) (omega arith) e5
-    ∙ sym e6)
-    )
+wrote-view v e h = rw (append-assoc (placeBytes (v .first)) (placeBytes (v .second)) (bigEndian 8 (v .a) ++ bigEndian 8 (v .b))) at h
 
 -- ---- a reading's bytes: those of what a path shows, or a refusal
 module _ (r : Reading) where
