@@ -228,8 +228,9 @@ struct hp_written hp_channel_id_new(uint64_t counter, uint8_t *out, size_t out_l
  * and of the second, 2 bytes each; two numbers of 8 bytes. What the kind lacks is 0. 17, 18 and 19 stand at 3's place, where
  * a number alone is wrong, with the byte of the text where its fault stands: 1, 2, 3 (17, 18, 19), 4. */
 struct hp_fault hp_read(const uint8_t *text, size_t text_len, uint8_t *out, size_t out_len);
-/* The same by the second reader, which walks the text once: equal to hp_read on every input, and faster, so of the two this is
- * the one to call. hp_read is the plainer one, which it is held against. */
+/* The same by the second reader, which goes forward over the text and keeps no table of its components. A text that is refused
+ * is looked at again for the reason, a bad number by such a table. Equal to hp_read on every input, and faster, so of the two
+ * this is the one to call. hp_read is the plainer one, which it is held against. */
 struct hp_fault hp_walk(const uint8_t *text, size_t text_len, uint8_t *out, size_t out_len);
 /* The rendering of the text: 1, 2, 3 (17, 18, 19), 4. */
 struct hp_written hp_key(const uint8_t *text, size_t text_len, uint8_t *out, size_t out_len);

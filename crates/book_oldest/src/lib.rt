@@ -40,7 +40,7 @@ fn state_in(key: &[u8], client: &[u8]) -> StateAnswer
     if kind != 5 {
         return StateAnswer::Nothing;
     }
-    if !text::part::equal(reader::part(key, v.first), client) {
+    if !text::part::equal(reading::part(key, v.first), client) {
         return StateAnswer::Nothing;
     }
     StateAnswer::State(Revision {

@@ -26,7 +26,7 @@ use Rattle.path.specs.Read.{renderOf, keyOf, bytesBy, readingBytes, readFault}
 use Rattle.path.specs.Parents.{textOf, consensusParent, consensusLeaf, packetsPath}
 use Rattle.path.specs.Revision.{revision}
 use Rattle.writers.specs.Texts.{parentText}
-use Rattle.reader.specs.Encode.{viewBytes, answerBy}
+use Rattle.reading.specs.Encode.{viewBytes, answerBy}
 use Rattle.key.specs.Key.{shownBy}
 use Rattle.wide.specs.Mode.{wide}
 use Rattle.wide.specs.Check.{namedIndexFaultIn, faultIn, newClientIn}
@@ -136,8 +136,8 @@ use Rattle.render.proofs.texts.commitment_prefix.Reads as commitment-prefix
 use Rattle.render.proofs.texts.ack_prefix.Reads as ack-prefix
 use Rattle.render.proofs.texts.receipt_prefix.Reads as receipt-prefix
 use Rattle.wide.proofs.client_id.write_client_id.Reads as wide-write-client-id
-use Rattle.wide.proofs.reading.write_key.Reads as wide-write-key
-use Rattle.wide.proofs.reading.write_reading.Reads as wide-write-reading
+use Rattle.wide.proofs.read.write_key.Reads as wide-write-key
+use Rattle.wide.proofs.read.write_reading.Reads as wide-write-reading
 use Rattle.wide.proofs.rendering.render.Reads as wide-render
 use Rattle.wide.proofs.rendering.consensus_state_parent.Reads as wide-consensus-state-parent
 use Rattle.wide.proofs.rendering.commitments_path.Reads as wide-commitments-path
@@ -178,8 +178,8 @@ use Rattle.path.proofs.name.name_fault.Reads as name-fault
 use Rattle.path.proofs.fault_of.Reads as fault-of
 use Rattle.path.proofs.refusal_of.Reads as refusal-of
 use Rattle.path.proofs.provable.kind_is_provable.Reads as kind-is-provable
-use Rattle.reader.proofs.write_answer.Reads as write-answer
-use Rattle.reader.proofs.encode.write_view.Reads as write-view
+use Rattle.reading.proofs.write_answer.Reads as write-answer
+use Rattle.reading.proofs.encode.write_view.Reads as write-view
 use Rattle.render.proofs.texts.fit_parent.Reads as fit-parent
 use Rattle.key.proofs.write_shown.Reads as write-shown
 use Rattle.iteration.proofs.read_iteration_key.Reads as read-iteration-key

@@ -25,7 +25,7 @@ use Rattle.path.specs.Read.{nameFault, fitsKind, partsOf, renderPath}
 use Rattle.path.specs.Reads.{Has}
 use Rattle.path.specs.Read as paths
 use Rattle.path.specs.Valid.{only}
-use Rattle.wide.specs.declared.reading.WideReading.the-variants.{Of}
+use Rattle.wide.specs.declared.read.WideReading.the-variants.{Of}
 use Rattle.wide.specs.Mode.{wide}
 use Rattle.wide.specs.Check.{checkIn, faultIn}
 use Rattle.wide.specs.Read.{readIn, keyIn}

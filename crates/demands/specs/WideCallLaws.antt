@@ -23,7 +23,7 @@ use Rattle.letters.specs.Character.{utf8}
 use Rattle.letters.specs.Narrow.{narrow}
 use Rattle.letters.specs.NarrowLaws.{length-narrow}
 use Rattle.key.specs.KeyLaws.{length-rendering}
-use Rattle.wide.specs.declared.reading.WideReading.the-variants.{Of, NotTaken}
+use Rattle.wide.specs.declared.read.WideReading.the-variants.{Of, NotTaken}
 use Rattle.wide.specs.Mode.{wide}
 use Rattle.wide.specs.Read.{readIn, keyIn, readingBytesIn, readFaultIn}
 use Rattle.wide.specs.Render.{renderIn}

@@ -16,8 +16,8 @@ use Rattle.path.specs.BackLaws.{read-reads}
 use Rattle.letters.specs.Character.{utf8}
 use Rattle.letters.specs.Narrow.{narrow}
 use Rattle.letters.specs.NarrowLaws.{length-narrow, narrow-ascii}
-use Rattle.wide.specs.declared.reading.WideReading.{WideReading}
-use Rattle.wide.specs.declared.reading.WideReading.the-variants.{Of, NotTaken}
+use Rattle.wide.specs.declared.read.WideReading.{WideReading}
+use Rattle.wide.specs.declared.read.WideReading.the-variants.{Of, NotTaken}
 use Rattle.wide.specs.Mode.{wide}
 use Rattle.wide.specs.Read.{readIn, keyIn, readingBytesIn, readFaultIn}
 use Rattle.demands.specs.WideWritten.{fitsWide, NoWideKind, WhenWideRead}

@@ -23,8 +23,8 @@ use Rattle.path.specs.Parents.{consensusParent, packetsPath}
 use Rattle.letters.specs.Character.{utf8}
 use Rattle.letters.specs.Narrow.{narrow}
 use Rattle.letters.specs.NarrowLaws.{narrow-ascii}
-use Rattle.wide.specs.declared.reading.WideReading.{WideReading}
-use Rattle.wide.specs.declared.reading.WideReading.the-variants.{Of, NotTaken}
+use Rattle.wide.specs.declared.read.WideReading.{WideReading}
+use Rattle.wide.specs.declared.read.WideReading.the-variants.{Of, NotTaken}
 use Rattle.wide.specs.Mode.{wide}
 use Rattle.wide.specs.Check.{takenIn, charsIn, lengthIn, prefixLengthIn, namedIndexIn, checkIn, trimIn, newClientIn}
 use Rattle.wide.specs.Read.{readIn, keyByIn, keyIn, bytesByIn, readingBytesIn}

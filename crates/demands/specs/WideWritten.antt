@@ -25,7 +25,7 @@ use Rattle.letters.specs.declared.Character.{Character}
 use Rattle.letters.specs.declared.Character.the-variants.{Scalar, Broken}
 use Rattle.letters.specs.Character.{characters, each, utf8}
 use Rattle.letters.specs.Class.{isLetter}
-use Rattle.wide.specs.declared.reading.WideReading.the-variants.{Of}
+use Rattle.wide.specs.declared.read.WideReading.the-variants.{Of}
 use Rattle.wide.specs.Mode.{wide}
 use Rattle.wide.specs.Read.{readIn}
 use Rattle.wide.specs.Render.{nameFaultIn, namesFaultIn}

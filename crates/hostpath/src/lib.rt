@@ -151,8 +151,9 @@ pub extern "C" fn hp_read(text: &[u8], out: &mut [u8]) -> Fault
     reader::write_reading(text, out)
 }
 
-// The same by the second reader, which walks the text once: equal to hp_read on every input, and faster, so of the two this is
-// the one to call. hp_read is the plainer one, which it is held against.
+// The same by the second reader, which goes forward over the text and keeps no table of its components. A text that is refused
+// is looked at again for the reason, a bad number by such a table. Equal to hp_read on every input, and faster, so of the two
+// this is the one to call. hp_read is the plainer one, which it is held against.
 #[no_mangle]
 pub extern "C" fn hp_walk(text: &[u8], out: &mut [u8]) -> Fault
     ensures { λ r. ⌜ r ≡ readFault (now (text .entry)) (length (now (out .entry))) ⌝ }
@@ -479,7 +480,7 @@ pub extern "C" fn hp_wide_read(text: &[u8], out: &mut [u8]) -> Fault
     ensures { λ r. ⌜ r ≡ readFaultIn wide (now (text .entry)) (length (now (out .entry))) ⌝ }
     ensures { λ _. ⌜ now (out .exit) ≡ left (readingBytesIn wide (now (text .entry))) (now (out .entry)) ⌝ }
 {
-    wide::reading::write_reading(text, out)
+    wide::read::write_reading(text, out)
 }
 
 // As hp_key: 1, 21, 3 (17, 18, 19), 4.
@@ -488,7 +489,7 @@ pub extern "C" fn hp_wide_key(text: &[u8], out: &mut [u8]) -> Written
     ensures { λ r. ⌜ r ≡ answer (keyIn wide (now (text .entry))) (length (now (out .entry))) ⌝ }
     ensures { λ _. ⌜ now (out .exit) ≡ left (keyIn wide (now (text .entry))) (now (out .entry)) ⌝ }
 {
-    wide::reading::write_key(text, out)
+    wide::read::write_key(text, out)
 }
 
 // As hp_render: 14, first, second (an upgrade path: 21, 13), 1, 4.

@@ -1,7 +1,7 @@
 // The key of a text: the rendering of what it reads as.
 use path::PathView;
 use path::Reading;
-use reader::part;
+use reading::part;
 use render::fit::fit_kind;
 use text::Written;
 use writers::kinds::write_kind;

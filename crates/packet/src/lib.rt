@@ -112,10 +112,10 @@ pub fn client_identifier(key: &[u8], answer: PacketAnswer) -> &[u8]
     ensures { λ r. ⌜ Shows r (key .entry) (clientPlace answer) ⌝ }
 {
     let PacketAnswer::Key(packet) = answer else {
-        return reader::part(key, Place { start: 0, len: 0 });
+        return reading::part(key, Place { start: 0, len: 0 });
     };
     let len = packet.length;
-    reader::part(key, Place { start: 0, len })
+    reading::part(key, Place { start: 0, len })
 }
 
 // An answer as it crosses to C.

@@ -1,4 +1,2 @@
--- What the contracts of `reader` cite. Files that end in `Laws` hold consequences, which a reader may skip.
-pub mod Encode
-pub mod EncodeLaws
+-- What the proofs of `reader` use. Files that end in `Laws` hold consequences, which a reader may skip.
 pub mod ReadingLaws

@@ -1,23 +1,21 @@
 -- What is read has a kind, its places lie in the text, it is ASCII, and the exact mark goes by the length of the rendering.
 -- Assumes nothing.
 use Prim.Native.Nat.{ℕ, _+_, _≤_, _<_, _^_}
-use mathlib.Core.Path.{_≡_, refl, sym, ap, _∙_}
-use mathlib.Core.Bool.{Bool, true, false, cond}
-use mathlib.Core.List.{List, [], _∷_}
+use mathlib.Core.Path.{_≡_, sym, _∙_}
+use mathlib.Core.List.{List}
 use native.Mathlib.Omega.{arith}
 use lib.Dec.{eqb}
 use lib.ListN.{length, length-take, length-drop}
-use borrow.Author.Tests.{lt-ltb, le-ltb}
-use Rattle.text.specs.Part.{ascii, same}
+use borrow.Author.Tests.{le-ltb}
+use Rattle.text.specs.Part.{same}
 use Rattle.path.specs.declared.Place.{Place}
 use Rattle.path.specs.declared.Path.{Path}
 use Rattle.path.specs.declared.PathView.{PathView}
-use Rattle.path.specs.declared.PathAnswer.the-variants.{Found, Nothing}
-use Rattle.path.specs.declared.Refusal.the-variants.{TooLong, NotAscii}
-use Rattle.path.specs.declared.Reading.the-variants.{Read, Refused}
+use Rattle.path.specs.declared.PathAnswer.the-variants.{Found}
+use Rattle.path.specs.declared.Reading.the-variants.{Read}
 use Rattle.path.specs.Text.{partOf}
 use Rattle.path.specs.Kinds.{kinds, carried}
-use Rattle.path.specs.Read.{partsOf, textsOf, renderPath, carriedFrom, readFirst, readPath, whyNot}
+use Rattle.path.specs.Read.{partsOf, textsOf, renderPath, carriedFrom, readFirst, readPath}
 use Rattle.path.specs.View.{kindOf, carriedOf, viewOf}
 use Rattle.path.specs.AsciiLaws.{first-low, kinds-low}
 use Rattle.path.specs.Reads.{Reads}
@@ -59,16 +57,3 @@ module _ (t : List ℕ) (p : Path) (h : Found p ≡ readFirst kinds t) where
   pub found-read : length t ≤ 4096 → (v : PathView) → v ≡ viewOf p → (n : ℕ) → n ≡ renderLength (partsOf (v .kind)) (carried (v .first .len) (v .second .len) (v .a) (v .b)) → Read p (eqb n (length t)) ≡ readPath t
   unfolding viewOf readPath
   found-read short v e n l = rw (le-ltb 4096 (length t) short, first-low kinds t p kinds-low (sym h), ← h, exact-mark n (l ∙ rw e))
-
--- ---- what is not read
-pub too-long : (t : List ℕ) → 4096 < length t → Refused TooLong ≡ readPath t
-unfolding readPath
-too-long t long = rw (lt-ltb 4096 (length t) long)
-
-pub no-path : (t : List ℕ) → length t ≤ 4096 → Nothing ≡ readFirst kinds t → Refused (cond (ascii t) (whyNot t) NotAscii) ≡ readPath t
-unfolding readPath
-no-path t short h = rw (le-ltb 4096 (length t) short, ← h) (go (ascii t))
-  where
-    go : (v : Bool) → Refused (cond v (whyNot t) NotAscii) ≡ cond v (Refused (whyNot t)) (Refused NotAscii)
-    go true = refl
-    go false = refl

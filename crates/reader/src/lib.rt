@@ -1,71 +1,12 @@
-// The reader of path texts.
-pub mod encode;
-
+// The first reader of path texts, which cuts a text into its components: the plainer one, that the second is held against.
 use path::PathAnswer;
-use path::Place;
 use path::Reading;
 use path::Refusal;
 use text::Fault;
 ghost use mathlib.Core.Path.{_≡_};
-ghost use mathlib.Core.Bool.{cond};
 ghost use lib.ListN.{length};
-ghost use Rattle.text.specs.Part.{ascii};
 ghost use Rattle.text.specs.Put.{left};
-ghost use Rattle.path.specs.declared.Refusal.the-variants.{NotAscii};
-ghost use Rattle.path.specs.Read.{whyNot, readPath, bytesBy, readingBytes, readFault};
-ghost use Rattle.path.specs.View.{Shows, firstPlace, secondPlace};
-ghost use Rattle.reader.specs.Encode.{answerBy};
-
-// What stands at a place, as a part of the text: the empty part at the start where the place does not lie in the text.
-pub fn part(text: &[u8], p: Place) -> &[u8]
-    ensures { λ r. ⌜ Shows r (text .entry) p ⌝ }
-{
-    let start = p.start;
-    let len = p.len;
-    if text.len() < start {
-        return &text[0..0];
-    }
-    if text.len() - start < len {
-        return &text[0..0];
-    }
-    &text[start..start + len]
-}
-
-// The first identifier of a reading, or U, as a part of the text that was read, no copy: the empty part at its start on
-// a refusal, or where the kind has none.
-pub fn first_identifier(text: &[u8], reading: Reading) -> &[u8]
-    ensures { λ r. ⌜ Shows r (text .entry) (firstPlace reading) ⌝ }
-{
-    let Reading::Read { path, exact: _ } = reading else {
-        return part(text, Place { start: 0, len: 0 });
-    };
-    let v = path::view(path);
-    let first = v.first;
-    part(text, first)
-}
-
-// The second identifier, likewise.
-pub fn second_identifier(text: &[u8], reading: Reading) -> &[u8]
-    ensures { λ r. ⌜ Shows r (text .entry) (secondPlace reading) ⌝ }
-{
-    let Reading::Read { path, exact: _ } = reading else {
-        return part(text, Place { start: 0, len: 0 });
-    };
-    let v = path::view(path);
-    let second = v.second;
-    part(text, second)
-}
-
-// Why a text of at most 4,096 bytes is no path.
-pub fn fault(text: &[u8]) -> Refusal
-    ensures { λ r. ⌜ r ≡ cond (ascii (now (text .entry))) (whyNot (now (text .entry))) NotAscii ⌝ }
-{
-    if text::part::all_ascii(text) {
-        read_faults::number_fault(text)
-    } else {
-        Refusal::NotAscii
-    }
-}
+ghost use Rattle.path.specs.Read.{readPath, readingBytes, readFault};
 
 // Reads a text as a path. What is read is ASCII, so only another text is tested for it. The mark goes by length, since a
 // rendering that is as long as its text is that text.
@@ -76,7 +17,7 @@ pub fn read_path(text: &[u8]) -> Reading
         return Reading::Refused(Refusal::TooLong);
     }
     let PathAnswer::Found(path) = read_kinds::parse_path(text) else {
-        return Reading::Refused(fault(text));
+        return Reading::Refused(reading::fault(text));
     };
     let v = path::view(path);
     let length = path::measure::render_length(v.kind, v.first.len, v.second.len, v.a, v.b);
@@ -86,27 +27,10 @@ pub fn read_path(text: &[u8]) -> Reading
     }
 }
 
-// A reading as 26 bytes.
-pub fn write_answer(reading: Reading, out: &mut [u8]) -> Fault
-    ensures { λ r. ⌜ r ≡ answerBy reading (length (now (out .entry))) ⌝ }
-    ensures { λ _. ⌜ now (out .exit) ≡ left (bytesBy reading) (now (out .entry)) ⌝ }
-{
-    match reading {
-        Reading::Read { path, exact } => {
-            let written = encode::write_view(path::view(path), exact, out);
-            Fault {
-                refusal: written.refusal,
-                place: 0,
-            }
-        }
-        Reading::Refused(why) => path::fault_of(why),
-    }
-}
-
 // The reading of a text as 26 bytes, for the node.
 pub fn write_reading(text: &[u8], out: &mut [u8]) -> Fault
     ensures { λ r. ⌜ r ≡ readFault (now (text .entry)) (length (now (out .entry))) ⌝ }
     ensures { λ _. ⌜ now (out .exit) ≡ left (readingBytes (now (text .entry))) (now (out .entry)) ⌝ }
 {
-    write_answer(read_path(text), out)
+    reading::write_answer(read_path(text), out)
 }

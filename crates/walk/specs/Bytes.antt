@@ -5,7 +5,7 @@ use mathlib.Core.List.{List}
 use Rattle.text.specs.declared.Fault.{Fault}
 use Rattle.text.specs.Put.{text, answer}
 use Rattle.path.specs.declared.PathView.{PathView}
-use Rattle.reader.specs.Encode.{viewBytes}
+use Rattle.reading.specs.Encode.{viewBytes}
 use Rattle.walk_families.specs.declared.Walked.{Walked}
 
 abbrev pub viewed : Walked → PathView

@@ -10,7 +10,7 @@ use Rattle.path.specs.declared.Reading.{Reading}
 use Rattle.path.specs.declared.Reading.the-variants.{Read}
 use Rattle.path.specs.Kinds.{kinds}
 use Rattle.path.specs.Read.{readFirst, readingBytes, readFault}
-use Rattle.reader.specs.EncodeLaws.{bytes-read, fault-read, answer-reading, bytes-reading}
+use Rattle.reading.specs.EncodeLaws.{bytes-read, fault-read, answer-reading, bytes-reading}
 use Rattle.walk_families.specs.declared.Walked.{Walked}
 use Rattle.walk_families.specs.Walked.{flat}
 use Rattle.walk.specs.Bytes.{viewed, walkBytes, putFault}

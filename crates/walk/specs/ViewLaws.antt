@@ -1,12 +1,12 @@
 -- From the walk to the reading.
 -- Assumes nothing.
-use Prim.Native.Nat.{ℕ, _≤_, _<_}
+use Prim.Native.Nat.{ℕ, _≤_}
 use mathlib.Core.Path.{_≡_, refl, sym, ap, _∙_}
 use mathlib.Core.List.{List, _++_}
 use mathlib.Core.Bool.{Bool, true, false, cond}
 use native.Mathlib.Omega.{arith}
 use lib.ListN.{length}
-use borrow.Author.Tests.{le-ltb, lt-ltb}
+use borrow.Author.Tests.{le-ltb}
 use Rattle.text.specs.Part.{ascii, same}
 use Rattle.path.specs.declared.Path.{Path}
 use Rattle.path.specs.declared.PathAnswer.{PathAnswer}
@@ -14,7 +14,7 @@ use Rattle.path.specs.declared.PathAnswer.the-variants.{Found, Nothing}
 use Rattle.path.specs.declared.PathView.{PathView}
 use Rattle.path.specs.declared.Reading.the-variants.{Read, Refused}
 use Rattle.path.specs.declared.Refusal.{Refusal}
-use Rattle.path.specs.declared.Refusal.the-variants.{TooLong, NotAscii}
+use Rattle.path.specs.declared.Refusal.the-variants.{NotAscii}
 use Rattle.path.specs.declared.Place.{Place}
 use Rattle.path.specs.Kinds.{Carried, carried, Kind, kinds}
 use Rattle.path.specs.Read.{carriedFrom, renderPath, orElse, readFirst, whyNot, readPath}
@@ -23,7 +23,7 @@ use Rattle.path.specs.ReadLaws.{is-reads, made-range, path-made}
 use Rattle.path.specs.AsciiLaws.{first-low, kinds-low}
 use Rattle.path.specs.View.{kindOf, carriedOf, seen, viewOf}
 use Rattle.read_pieces.specs.CountLaws.{read-append}
-use Rattle.reader.specs.ReadingLaws.{no-path}
+use Rattle.reading.specs.RefusedLaws.{no-path}
 use Rattle.walk_families.specs.declared.Walked.{Walked}
 use Rattle.walk_families.specs.Walked.{nothing, flat, counters, listed, upgrades}
 
@@ -113,10 +113,6 @@ module _ (t : List ℕ) (w : Walked) where
 
     pub refused-read : length t ≤ 4096 → w .kind ≡ 0 → (r : Refusal) → r ≡ cond (ascii t) (whyNot t) NotAscii → Refused r ≡ readPath t
     refused-read short h r f = ap Refused f ∙ no-path t short (unread h)
-
-pub long-read : (t : List ℕ) → 4096 < length t → Refused TooLong ≡ readPath t
-unfolding readPath
-long-read t h = rw (lt-ltb 4096 (length t) h)
 
 -- the path that a kind makes, by its number
 pub by-kind : (k j : ℕ) (v : Carried Place) → k ≡ j → kindAt j .make v ≡ kindAt k .make v

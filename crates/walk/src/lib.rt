@@ -1,4 +1,4 @@
-// A second reader of path texts: one walk over the bytes. The first eight choose the family.
+// The second reader of path texts: a walk over the bytes. The first eight choose the family.
 mod counter;
 mod dispatch;
 mod opening;
@@ -8,8 +8,8 @@ use crate::counter::counter;
 use path::PathView;
 use path::Reading;
 use path::Refusal;
-use reader::encode::write_view;
-use reader::fault;
+use reading::encode::write_view;
+use reading::fault;
 use text::Fault;
 use walk_families::Walked;
 use walk_families::upgrade::upgrade;

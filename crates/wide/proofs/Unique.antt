@@ -13,11 +13,11 @@ use Rattle.wide.proofs.validate.validate_client_identifier.Reads as val
 use Rattle.wide.proofs.validate.validate_connection_identifier.Reads as validate-connection-identifier
 use Rattle.wide.proofs.validate.validate_port_identifier.Reads as validate-port-identifier
 use Rattle.wide.proofs.validate.validate_channel_identifier.Reads as validate-channel-identifier
-use Rattle.wide.proofs.reading.read_path.Reads as read-path
+use Rattle.wide.proofs.read.read_path.Reads as read-path
 use Rattle.wide.proofs.rendering.name_fault.Reads as name-fault
 use Rattle.wide.proofs.client_id.write_client_id.Reads as write-client-id
-use Rattle.wide.proofs.reading.write_reading.Reads as write-reading
-use Rattle.wide.proofs.reading.write_key.Reads as write-key
+use Rattle.wide.proofs.read.write_reading.Reads as write-reading
+use Rattle.wide.proofs.read.write_key.Reads as write-key
 use Rattle.wide.proofs.rendering.render.Reads as render
 use Rattle.wide.proofs.rendering.consensus_state_parent.Reads as consensus-state-parent
 use Rattle.wide.proofs.rendering.commitments_path.Reads as commitments-path

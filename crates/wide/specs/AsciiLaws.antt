@@ -20,7 +20,7 @@ use Rattle.path.specs.Parents.{textOf}
 use Rattle.path.specs.Read.{nameFault, namesFault, renderOf, readFirst, readingOf, readPath, keyOf, readingBytes, readFault}
 use Rattle.letters.specs.CharacterLaws.{ascii-utf8}
 use Rattle.letters.specs.NarrowLaws.{ascii-narrow}
-use Rattle.wide.specs.declared.reading.WideReading.the-variants.{Of}
+use Rattle.wide.specs.declared.read.WideReading.the-variants.{Of}
 use Rattle.wide.specs.Mode.{plain, wide}
 use Rattle.wide.specs.Check.{charsIn, lengthIn, prefixLengthIn, namedIndexIn, namedIndexFaultIn, checkIn, faultIn, trimIn, newClientIn}
 use Rattle.wide.specs.Read.{readIn, keyIn, readingBytesIn, readFaultIn}

@@ -19,8 +19,8 @@ use Rattle.path.specs.declared.name.Name.the-variants.{Client as client, Connec
 use Rattle.path.specs.Kinds.{Part, word, name, count, pair, Carried, nameIn, kinds}
 use Rattle.path.specs.Parents.{textOf}
 use Rattle.path.specs.Read.{nameFault, namesFault, renderOf, readFirst, readingOf, readPath, readPlace, keyBy, keyOf, bytesBy, readingBytes, readFault}
-use Rattle.wide.specs.declared.reading.WideReading.{WideReading}
-use Rattle.wide.specs.declared.reading.WideReading.the-variants.{Of, NotTaken}
+use Rattle.wide.specs.declared.read.WideReading.{WideReading}
+use Rattle.wide.specs.declared.read.WideReading.the-variants.{Of, NotTaken}
 use Rattle.wide.specs.Mode.{plain}
 use Rattle.wide.specs.Check.{charsIn, lengthIn, prefixLengthIn, namedIndexIn, namedIndexFaultIn, checkIn, faultIn, trimIn, newClientIn}
 use Rattle.wide.specs.Read.{readIn, placeIn, keyByIn, keyIn, bytesByIn, readingBytesIn, readFaultIn}

@@ -10,8 +10,8 @@ use Rattle.text.specs.declared.Fault.{Fault}
 use Rattle.path.specs.declared.Refusal.the-variants.{TooLong}
 use Rattle.path.specs.declared.Reading.the-variants.{Refused}
 use Rattle.path.specs.Read.{readPlace, readPath, keyBy, bytesBy}
-use Rattle.wide.specs.declared.reading.WideReading.{WideReading}
-use Rattle.wide.specs.declared.reading.WideReading.the-variants.{Of, NotTaken}
+use Rattle.wide.specs.declared.read.WideReading.{WideReading}
+use Rattle.wide.specs.declared.read.WideReading.the-variants.{Of, NotTaken}
 use Rattle.wide.specs.Mode.{Mode}
 
 unfoldable pub readIn : Mode → List ℕ → WideReading

@@ -36,13 +36,13 @@ use Rattle.letters.specs.NarrowLaws.{length-narrow}
 use Rattle.letters.specs.Text.{wideChars, leading, wideTrim}
 use Rattle.writers.specs.Texts.{parentText, packetsText}
 use Rattle.writers.specs.TextLaws.{parent-text, packets-text}
-use Rattle.reader.specs.Encode.{answerBy}
+use Rattle.reading.specs.Encode.{answerBy}
 use Rattle.render.specs.declared.Names.the-variants.{PortAndChannel}
 use Rattle.render.specs.Render.{namesOf, faultBy, short}
 use Rattle.key.specs.Key.{shownBy}
 use Rattle.key.specs.KeyLaws.{shown-key}
-use Rattle.wide.specs.declared.reading.WideReading.{WideReading}
-use Rattle.wide.specs.declared.reading.WideReading.the-variants.{Of, NotTaken}
+use Rattle.wide.specs.declared.read.WideReading.{WideReading}
+use Rattle.wide.specs.declared.read.WideReading.the-variants.{Of, NotTaken}
 use Rattle.wide.specs.Mode.{Mode, wide}
 use Rattle.wide.specs.Check.{charsIn, checkIn, faultIn, trimIn, newClientIn}
 use Rattle.wide.specs.Read.{readIn, keyIn, readingBytesIn, readFaultIn}

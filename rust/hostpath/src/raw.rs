@@ -286,8 +286,9 @@ pub fn read(text: &[u8], out: &mut [u8]) -> Fault {
     unsafe { c::hp_read(text.as_ptr(), text.len(), out.as_mut_ptr(), out.len()) }
 }
 
-/// The same by the second reader, which walks the text once: equal to hp_read on every input, and faster, so of the two this is
-/// the one to call. hp_read is the plainer one, which it is held against.
+/// The same by the second reader, which goes forward over the text and keeps no table of its components. A text that is refused
+/// is looked at again for the reason, a bad number by such a table. Equal to hp_read on every input, and faster, so of the two
+/// this is the one to call. hp_read is the plainer one, which it is held against.
 pub fn walk(text: &[u8], out: &mut [u8]) -> Fault {
     // SAFETY: each pointer and count are those of one live slice.
     unsafe { c::hp_walk(text.as_ptr(), text.len(), out.as_mut_ptr(), out.len()) }

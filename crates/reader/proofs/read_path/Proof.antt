@@ -2,7 +2,8 @@
 -- Assumes nothing.
 use mathlib.Core.Path.{sym, ap, _∙_}
 use Rattle.path.specs.declared.Reading.the-variants.{Refused}
-use Rattle.reader.specs.ReadingLaws.{found-measured, found-read, too-long, no-path}
+use Rattle.reading.specs.RefusedLaws.{too-long, no-path}
+use Rattle.reader.specs.ReadingLaws.{found-measured, found-read}
 use borrow.Author.Needs.{needs}
 use Rattle.reader.proofs.read_path.Statement.{statement}
 use Rattle.reader.proofs.read_path.Tie as tie

@@ -3,7 +3,7 @@
 use mathlib.Core.Path.{ap, _∙_}
 use lib.ListN.{length}
 use Rattle.text.specs.Put.{Wanted, left}
-use Rattle.reader.specs.EncodeLaws.{answer-reading, bytes-reading}
+use Rattle.reading.specs.EncodeLaws.{answer-reading, bytes-reading}
 use borrow.Author.Needs.{needs}
 use Rattle.reader.proofs.write_reading.Statement.{statement}
 use Rattle.reader.proofs.write_reading.Tie as tie

@@ -1,13 +1,14 @@
 -- `walk_path` meets its contract.
 -- Assumes nothing.
 use mathlib.Core.Path.{_∙_}
-use Rattle.walk.specs.ViewLaws.{long-read, refused-read, kind-range, typed-read}
+use Rattle.reading.specs.RefusedLaws.{too-long}
+use Rattle.walk.specs.ViewLaws.{refused-read, kind-range, typed-read}
 use borrow.Author.Needs.{needs}
 use Rattle.walk.proofs.walk_path.Statement.{statement}
 use Rattle.walk.proofs.walk_path.Tie as tie
 
 returns : tie.Need-returns
-returns c = long-read (c .before .before .args .text .now) (c .if1 .taken)
+returns c = too-long (c .before .before .args .text .now) (c .if1 .taken)
 
 returns-2 : tie.Need-returns-2
 returns-2 c = refused-read (c .before .before .before .before .before .before .args .text .now) (c .before .before .before .walk-view .result) (c .before .before .before .walk-view .ensures) (c .before .before .before .before .if1 .left) (c .before .if2 .taken) (c .fault .result) (c .fault .ensures)

@@ -5,9 +5,10 @@ use lib.ListN.{length}
 use Rattle.text.specs.Put.{left}
 use Rattle.path.specs.declared.Reading.the-variants.{Refused}
 use Rattle.path.specs.declared.Refusal.the-variants.{TooLong}
-use Rattle.reader.specs.EncodeLaws.{bytes-refused, fault-refused, answer-reading, bytes-reading}
+use Rattle.reading.specs.EncodeLaws.{bytes-refused, fault-refused, answer-reading, bytes-reading}
+use Rattle.reading.specs.RefusedLaws.{too-long}
 use Rattle.walk.specs.BytesLaws.{put-fault, put-bytes}
-use Rattle.walk.specs.ViewLaws.{long-read, refused-read, all-first, all-second}
+use Rattle.walk.specs.ViewLaws.{refused-read, all-first, all-second}
 use borrow.Author.Needs.{needs}
 use Rattle.walk.proofs.write_walk.Statement.{statement}
 use Rattle.walk.proofs.write_walk.Tie as tie
@@ -15,7 +16,7 @@ use Rattle.walk.proofs.write_walk.Tie as tie
 returns : tie.Need-returns
 unfolding left
 returns c =
-    let h = long-read (c .before .before .before .before .args .text .now) (c .before .if1 .taken) in
+    let h = too-long (c .before .before .before .before .args .text .now) (c .before .if1 .taken) in
     let e = bytes-refused (Refused TooLong) TooLong refl ∙ bytes-reading _ _ h in
     (fault-refused (Refused TooLong) _ TooLong _ refl (c .fault-of .ensures) ∙ answer-reading _ _ h _, rw (← e))
 
