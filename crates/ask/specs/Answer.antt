@@ -29,8 +29,8 @@ abbrev pub viewText : List ℕ → PathView → List ℕ
 viewText t v = render (partsOf (v .kind)) (carried (shownOf t (v .first)) (shownOf t (v .second)) (v .a) (v .b))
 
 -- what is printed of a text that is read
-abbrev pub viewAnswer : List ℕ → PathView → Bool → List ℕ
-viewAnswer t v e = head (v .kind) e ++ (viewText t v ++ 10 ∷ [])
+abbrev pub viewAnswer : List ℕ → PathView → List ℕ
+viewAnswer t v = head (v .kind) (v .exact) ++ (viewText t v ++ 10 ∷ [])
 
 -- the sentence of a refusal
 abbrev pub spoken : ℕ → List ℕ

@@ -21,9 +21,11 @@ use Rattle.path.specs.declared.PathAnswer.{PathAnswer}
 use Rattle.path.specs.declared.PathAnswer.the-variants.{Found, Nothing}
 use Rattle.path.specs.declared.Reading.{Reading}
 use Rattle.path.specs.declared.Reading.the-variants.{Read, Refused}
+use Rattle.path.specs.declared.ViewAnswer.the-variants.{Seen, Refused as Unread}
 use Rattle.path.specs.Kinds.{Carried, kinds}
 use Rattle.path.specs.Read.{refusalOf, placeOf, render, partsOf, textsOf, renderPath, fits, fitsKind, readKind, readFirst, suits, suitsKind, kindFaults, faultsAs, whyNot, readingOf, readPath}
-use Rattle.path.specs.View.{kindOf, carriedOf, viewOf}
+use Rattle.path.specs.View.{kindOf, carriedOf, viewOf, viewedBy}
+use Rattle.path.specs.ViewLaws.{is-seen, is-unread}
 use Rattle.path.specs.ReadLaws.{made-range, has-both, kind-has, kind-parts}
 use Rattle.path.specs.BackLaws.{read-reads}
 use Rattle.path.specs.WrongLaws.{why-wrong, wrong-marks}
@@ -33,20 +35,25 @@ use Rattle.path.specs.MeasureLaws.{lengths, render-length, length-sums}
 use Rattle.key.specs.KeyLaws.{view-parts}
 use Rattle.ask.specs.Answer.{mark, head, viewText, viewAnswer, spoken, placed, reason, saying, refusalAnswer, printed, lineAnswer, extra}
 
--- what a line that was refused, or read, is answered with
-module _ (why : Bool) (t : List ℕ) (r : Reading) (by : r ≡ readPath t) where
-  pub answer-refused : (w : Refusal) → r ≡ Refused w → lineAnswer why t ≡ refusalAnswer why w
+-- what a line that was read is answered with
+module _ (why : Bool) (t : List ℕ) (r : Reading) (by : r ≡ readPath t) (p : Path) (e : Bool) (is : r ≡ Read p e) where
+  answer-read : lineAnswer why t ≡ head (kindOf p) e ++ (renderPath t p ++ 10 ∷ [])
   unfolding lineAnswer
-  answer-refused w e = rw (← by, e)
-
-  pub answer-read : (p : Path) (e : Bool) → r ≡ Read p e → lineAnswer why t ≡ head (kindOf p) e ++ (renderPath t p ++ 10 ∷ [])
-  unfolding lineAnswer
-  answer-read p e f = rw (← by, f)
+  answer-read = rw (← by, is)
 
   -- the same from the view of the path
-  pub answer-view : (p : Path) (e : Bool) (is : r ≡ Read p e) (v : PathView) → v ≡ viewOf p → lineAnswer why t ≡ viewAnswer t v e
+  answer-view : (v : PathView) → v ≡ viewOf p e → lineAnswer why t ≡ viewAnswer t v
   unfolding viewOf
-  answer-view p e is v seen = answer-read p e is ∙ rw (← view-parts t r p e is by v seen, seen)
+  answer-view v seen = answer-read ∙ rw (← view-parts t r p e is by v seen, seen)
+
+-- and by the flat form of its reading; or a line that was refused
+module _ (why : Bool) (t : List ℕ) where
+  pub answer-seen : (v : PathView) → Seen v ≡ viewedBy (readPath t) → lineAnswer why t ≡ viewAnswer t v
+  answer-seen v by = let q = is-seen (readPath t) v by in answer-view why t (readPath t) refl (q .path) (q .mark) (q .read) v (q .shows)
+
+  pub answer-unread : (w : Refusal) → Unread w ≡ viewedBy (readPath t) → lineAnswer why t ≡ refusalAnswer why w
+  unfolding lineAnswer
+  answer-unread w by = ap (printed why t) (is-unread (readPath t) w by)
 
 length-mark : (e : Bool) → length (mark e) ≡ 3
 length-mark true = refl
@@ -55,8 +62,8 @@ length-mark false = refl
 pub head-length : (k : ℕ) (e : Bool) → length (head k e) ≡ 2 + length (decimal k) + 3
 head-length k e = simp length-append (omega (arith, length-mark e))
 
-pub view-length : (t : List ℕ) (v : PathView) (e : Bool) → length (viewAnswer t v e) ≡ length (head (v .kind) e) + (length (viewText t v) + 1)
-view-length t v e = length-append (head (v .kind) e) (viewText t v ++ 10 ∷ []) ∙ rw (length-append (viewText t v) (10 ∷ []))
+pub view-length : (t : List ℕ) (v : PathView) → length (viewAnswer t v) ≡ length (head (v .kind) (v .exact)) + (length (viewText t v) + 1)
+view-length t v = length-append (head (v .kind) (v .exact)) (viewText t v ++ 10 ∷ []) ∙ rw (length-append (viewText t v) (10 ∷ []))
 
 pub placed-length : (i n : ℕ) → length (placed i n) ≡ 1 + length (decimal i) + length (spoken n)
 placed-length i n = simp length-append (omega arith)

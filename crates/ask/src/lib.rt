@@ -2,8 +2,8 @@
 pub mod input;
 
 use path::PathView;
-use path::Reading;
 use path::Refusal;
+use path::ViewAnswer;
 use sentences::write_sentence;
 use text::refusal::NO_DIGITS;
 use text::refusal::NOT_A_DIGIT;
@@ -102,13 +102,13 @@ fn write_refusal(out: &mut [u8], at: usize, w: Refusal, why: bool) -> usize
 }
 
 // Writes the answer to a line that was read, and returns the place after it.
-fn write_view(out: &mut [u8], at: usize, line: &[u8], v: PathView, exact: bool) -> usize
+fn write_view(out: &mut [u8], at: usize, line: &[u8], v: PathView) -> usize
     requires { ⌜ (1 ≤ v .kind) × (v .kind ≤ 19) ⌝ }
-    requires { ⌜ at + length (viewAnswer (now line) v exact) ≤ length (now out) ⌝ }
-    ensures { λ r. ⌜ r ≡ at + length (viewAnswer (now (line .entry)) v exact) ⌝ }
-    ensures { λ _. ⌜ now (out .exit) ≡ put (now (out .entry)) at (viewAnswer (now (line .entry)) v exact) ⌝ }
+    requires { ⌜ at + length (viewAnswer (now line) v) ≤ length (now out) ⌝ }
+    ensures { λ r. ⌜ r ≡ at + length (viewAnswer (now (line .entry)) v) ⌝ }
+    ensures { λ _. ⌜ now (out .exit) ≡ put (now (out .entry)) at (viewAnswer (now (line .entry)) v) ⌝ }
 {
-    let rendering = write_head(out, at, v.kind, exact);
+    let rendering = write_head(out, at, v.kind, v.exact);
     let end = key::write_rendering(out, rendering, line, v);
     text::put::write_byte(out, end, 10)
 }
@@ -119,8 +119,8 @@ pub fn answer_line(out: &mut [u8], at: usize, line: &[u8], why: bool) -> usize
     ensures { λ r. ⌜ r ≡ at + length (lineAnswer why (now (line .entry))) ⌝ }
     ensures { λ _. ⌜ now (out .exit) ≡ put (now (out .entry)) at (lineAnswer why (now (line .entry))) ⌝ }
 {
-    match walk::walk_path(line) {
-        Reading::Read { path, exact } => write_view(out, at, line, path::view(path), exact),
-        Reading::Refused(w) => write_refusal(out, at, w, why),
+    match walk::walk_view(line) {
+        ViewAnswer::Seen(v) => write_view(out, at, line, v),
+        ViewAnswer::Refused(w) => write_refusal(out, at, w, why),
     }
 }

@@ -9,7 +9,7 @@ use book_form::key_at;
 use book_form::slot_at;
 use book_form::slot_ok;
 use book_form::width;
-use path::Reading;
+use path::ViewAnswer;
 ghost use mathlib.Core.Path.{_≡_};
 ghost use Prim.Native.Nat.{_+_, _≤_, _<_};
 ghost use lib.Dec.{eqb};
@@ -71,10 +71,10 @@ pub(crate) fn key_exact(book: &[u8], at: usize) -> bool
     requires { do ⌜ at + 256 ≤ (← ⟦book.len()⟧) ⌝ }
     ensures { λ r. ⌜ Tells r (Exact (stored (now (book .entry)) at)) ⌝ }
 {
-    let Reading::Read { path: _, exact } = walk::walk_path(key_at(book, at)) else {
+    let ViewAnswer::Seen(v) = walk::walk_view(key_at(book, at)) else {
         return false;
     };
-    exact
+    v.exact
 }
 
 // Whether slot i is a record's.

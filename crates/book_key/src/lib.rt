@@ -1,17 +1,17 @@
 // The key of a call: the rendering of its text, owned, in the field of 255 bytes that a book keeps.
 use book_records::Manner;
 use key::write_read;
-use path::Reading;
+use path::ViewAnswer;
 use text::Written;
 use text::refusal::KEY_TOO_LONG;
 use text::refusal::LOOSE;
 use text::refusal::NO_ROOM;
-use walk::walk_path;
+use walk::walk_view;
 ghost use mathlib.Core.Path.{_≡_};
 ghost use lib.ListN.{length};
 ghost use Rattle.text.specs.Put.{left};
-ghost use Rattle.book_records.specs.Calls.{isLoose, keyFor, keyAnswer};
-ghost use Rattle.book_key.specs.Field.{madeKey};
+ghost use Rattle.book_records.specs.Calls.{keyFor, keyAnswer};
+ghost use Rattle.book_key.specs.Field.{looseBy, madeKey};
 
 // A key: its bytes, zero after the last, and their number.
 pub struct Key {
@@ -26,14 +26,14 @@ pub struct MadeKey {
 }
 
 // Whether a call of that manner refuses what was read for its spelling.
-fn is_loose(manner: Manner, reading: Reading) -> bool
-    ensures { λ r. ⌜ r ≡ isLoose manner reading ⌝ }
+fn is_loose(manner: Manner, read: ViewAnswer) -> bool
+    ensures { λ r. ⌜ r ≡ looseBy manner read ⌝ }
 {
-    let Reading::Read { path: _, exact } = reading else {
+    let ViewAnswer::Seen(v) = read else {
         return false;
     };
     match manner {
-        Manner::Plain => !exact,
+        Manner::Plain => !v.exact,
         Manner::Lenient => false,
     }
 }
@@ -44,14 +44,14 @@ fn key_into(manner: Manner, text: &[u8], field: &mut [u8]) -> Written
     ensures { λ r. ⌜ r ≡ keyAnswer (keyFor manner (now (text .entry))) ⌝ }
     ensures { λ _. ⌜ now (field .exit) ≡ left (keyFor manner (now (text .entry))) (now (field .entry)) ⌝ }
 {
-    let reading = walk_path(text);
-    if is_loose(manner, reading) {
+    let read = walk_view(text);
+    if is_loose(manner, read) {
         return Written {
             refusal: LOOSE,
             length: 0,
         };
     }
-    let w = write_read(text, reading, field);
+    let w = write_read(text, read, field);
     if w.refusal == NO_ROOM {
         return Written {
             refusal: KEY_TOO_LONG,

@@ -60,26 +60,26 @@ pub state-refused : (client k : List ℕ) (r : Reading) (w : Refusal) → r ≡ 
 unfolding stateOf
 state-refused client k r w eq er = sym (ap (stateBy client k) (sym er ∙ eq))
 
-module _ (client k : List ℕ) (r : Reading) (p : Path) (e : Bool) (eq : r ≡ Read p e) (er : r ≡ readPath k) (v : PathView) (ev : v ≡ viewOf p) where
+module _ (client k : List ℕ) (r : Reading) (p : Path) (e : Bool) (eq : r ≡ Read p e) (er : r ≡ readPath k) (v : PathView) (ev : v ≡ viewOf p e) where
   told : stateOf client k ≡ cond (eqb (kindOf p) 5 && same (shownOf k (carriedOf p .first)) client) (State (revision (carriedOf p .a) (carriedOf p .b))) Nothing
   unfolding stateOf
   told = ap (stateBy client k) (sym er ∙ eq)
 
   pub state-other : (v .kind ≡ 5 → ⊥) → Nothing ≡ stateOf client k
-  state-other h = sym (told ∙ rw (ne-eqb (kindOf p) 5 (λ q. h (view-kind v p ev ∙ q))))
+  state-other h = sym (told ∙ rw (ne-eqb (kindOf p) 5 (λ q. h (view-kind v p e ev ∙ q))))
 
   module _ (h : v .kind ≡ 5) (part : List ℕ) (ep : part ≡ shownOf k (v .first)) (s : Bool) (es : s ≡ same part client) where
     five : eqb (kindOf p) 5 ≡ true
-    five = eq-eqb (kindOf p) 5 (sym (view-kind v p ev) ∙ h)
+    five = eq-eqb (kindOf p) 5 (sym (view-kind v p e ev) ∙ h)
 
     mine : same (shownOf k (carriedOf p .first)) client ≡ s
-    mine = sym (es ∙ ap (λ (l : List ℕ). same l client) (ep ∙ ap (shownOf k) (view-first v p ev)))
+    mine = sym (es ∙ ap (λ (l : List ℕ). same l client) (ep ∙ ap (shownOf k) (view-first v p e ev)))
 
     pub state-elsewhere : s ≡ false → Nothing ≡ stateOf client k
     state-elsewhere f = sym (told ∙ rw (five, mine ∙ f))
 
     pub state-is : s ≡ true → State (revision (v .a) (v .b)) ≡ stateOf client k
-    state-is f = ap (λ (m : ℕ). State (revision m (v .b))) (view-a v p ev) ∙ ap (λ (h : ℕ). State (revision (carriedOf p .a) h)) (view-b v p ev) ∙ sym (told ∙ rw (five, mine ∙ f))
+    state-is f = ap (λ (m : ℕ). State (revision m (v .b))) (view-a v p e ev) ∙ ap (λ (h : ℕ). State (revision (carriedOf p .a) h)) (view-b v p e ev) ∙ sym (told ∙ rw (five, mine ∙ f))
 
 -- ---- the older of two
 pub older-none : (x : StateAnswer) → older x Nothing ≡ x

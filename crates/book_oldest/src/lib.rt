@@ -7,10 +7,10 @@ use book_form::SLOT;
 use book_form::Version;
 use book_form::key_at;
 use path::Pair;
-use path::Reading;
 use path::Revision;
 use path::RevisionHeight;
 use path::RevisionNumber;
+use path::ViewAnswer;
 use path::is_below;
 use text::part::same_at;
 use text::refusal::ABSENT;
@@ -32,10 +32,9 @@ pub enum StateAnswer {
 fn state_in(key: &[u8], client: &[u8]) -> StateAnswer
     ensures { λ r. ⌜ r ≡ stateOf (now (client .entry)) (now (key .entry)) ⌝ }
 {
-    let Reading::Read { path, exact: _ } = walk::walk_path(key) else {
+    let ViewAnswer::Seen(v) = walk::walk_view(key) else {
         return StateAnswer::Nothing;
     };
-    let v = path::view(path);
     let kind = v.kind;
     if kind != 5 {
         return StateAnswer::Nothing;

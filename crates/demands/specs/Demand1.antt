@@ -644,8 +644,8 @@ fit-parent-holds = writes room _ _ (λ κs a. tt) (λ κs r. r) (λ κs a. text 
 pub write-shown-holds : Demand1 write-shown.Pre write-shown.Post readings (λ κs r. r .refusal) (λ κs r. r .length ∷ []) (λ κs a. now (a .1 .1 .0)) (λ κs s. now (s .1 .1 .0))
 write-shown-holds = writes readings _ _ (λ κs a. tt) (λ κs r. r) (λ κs a. shownBy (now (a .0)) (a .1 .0)) refl refl (λ κs a. shown-wants _ _) (λ κs a r s p. p)
 
-pub write-view-holds : Demand1 write-view.Pre write-view.Post room (λ κs r. r .refusal) (λ κs r. r .length ∷ []) (λ κs a. now (a .1 .1 .0)) (λ κs s. now (s .1 .1 .0))
-write-view-holds = writes room _ _ (λ κs a. tt) (λ κs r. r) (λ κs a. text (viewBytes (a .0) (a .1 .0))) refl refl (λ κs a. tt) (λ κs a r s p. p)
+pub write-view-holds : Demand1 write-view.Pre write-view.Post room (λ κs r. r .refusal) (λ κs r. r .length ∷ []) (λ κs a. now (a .1 .0)) (λ κs s. now (s .1 .0))
+write-view-holds = writes room _ _ (λ κs a. tt) (λ κs r. r) (λ κs a. text (viewBytes (a .0))) refl refl (λ κs a. tt) (λ κs a r s p. p)
 
 pub write-answer-holds : Demand1 write-answer.Pre write-answer.Post readings (λ κs r. r .refusal) (λ κs r. []) (λ κs a. now (a .1 .0)) (λ κs s. now (s .1 .0))
 unfolding answerBy

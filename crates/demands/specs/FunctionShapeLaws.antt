@@ -21,9 +21,9 @@ use Rattle.path.specs.declared.Reading.the-variants.{Read, Refused}
 use Rattle.path.specs.Kinds.{carried}
 use Rattle.path.specs.Text.{shownOf}
 use Rattle.path.specs.Read.{render, renderPath, partsOf, numberOf, readPath, keyBy, keyOf}
-use Rattle.path.specs.View.{kindOf, carriedOf}
+use Rattle.path.specs.View.{kindOf, carriedOf, viewOf}
 use Rattle.render.specs.Render.{short}
-use Rattle.key.specs.Key.{shownBy}
+use Rattle.key.specs.Key.{shownAt, shownBy}
 use Rattle.book_records.specs.declared.Manner.{Manner}
 use Rattle.book_records.specs.Calls.{isLoose, keyFor, keyAnswer}
 use Rattle.demands.specs.Numbers.{readings, keyNumbers}
@@ -47,7 +47,7 @@ module _ (P : ℕ → Type 0) (none : P 0) where
 
 -- ---- what is wanted
 pub shown-wants : (t : List ℕ) (r : Reading) → Wants readings (shownBy t r)
-unfolding shownBy short
+unfolding shownBy shownAt viewOf short
 shown-wants t (Read p e) =
     let w : List ℕ = render (partsOf (kindOf p)) (carried (shownOf t (carriedOf p .first)) (shownOf t (carriedOf p .second)) (carriedOf p .a) (carriedOf p .b)) in
     accepted-wants readings (unless 1 (leb (length w) 4096)) w (one-of (Listed readings) refl 1 (leb (length w) 4096) refl)

@@ -3,6 +3,7 @@
 use mathlib.Core.Path.{sym, _∙_}
 use Rattle.text.specs.Outcome.{One}
 use Rattle.path.proofs.view.Reads as view
+use Rattle.path.proofs.typed.typed_path.Reads as typed-path
 use Rattle.path.proofs.provable.is_provable.Reads as is-provable
 use Rattle.path.proofs.is_below.Reads as is-below
 use Rattle.path.proofs.fault_of.Reads as fault-of
@@ -14,6 +15,9 @@ use Rattle.path.proofs.provable.kind_is_provable.Reads as kind-is-prova
 
 pub one-view : One view.Post
 one-view κs a r₁ r₂ s₁ s₂ p q = p ∙ sym q
+
+pub one-typed-path : One typed-path.Post
+one-typed-path κs a r₁ r₂ s₁ s₂ p q = p ∙ sym q
 
 pub one-is-provable : One is-provable.Post
 one-is-provable κs a r₁ r₂ s₁ s₂ p q = p ∙ sym q

@@ -20,6 +20,7 @@ pub mod RevisionLaws
 pub mod Spelled
 pub mod Text
 pub mod TextLaws
+pub mod TypedLaws
 pub mod Valid
 pub mod View
 pub mod ViewLaws

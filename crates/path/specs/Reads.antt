@@ -6,7 +6,8 @@ use mathlib.Core.Bool.{true}
 use mathlib.Core.List.{List, _∷_}
 use lib.ListN.{getD}
 use Rattle.path.specs.declared.Path.{Path}
-use Rattle.path.specs.Kinds.{Kind, kinds, kind1}
+use Rattle.path.specs.declared.PathView.{PathView}
+use Rattle.path.specs.Kinds.{Kind, kinds, kind1, carried}
 use Rattle.path.specs.Read.{carriedFrom, fitsKind}
 
 -- a list of kinds has the kind e
@@ -24,3 +25,7 @@ pub record Reads (t : List ℕ) (p : Path) : Type 0 where
 -- kind k, counted from 1
 abbrev pub kindAt : ℕ → Kind
 kindAt k = getD kinds (k - 1) kind1
+
+-- the path of a flat form
+abbrev pub typedOf : PathView → Path
+typedOf v = kindAt (v .kind) .make (carried (v .first) (v .second) (v .a) (v .b))

@@ -14,6 +14,8 @@ use Rattle.path.specs.declared.PathView.{PathView}
 use Rattle.path.specs.declared.Path.the-variants.{NextClientSequence, NextConnectionSequence, NextChannelSequence, ClientState, ClientConsensusState, ClientUpdateTime, ClientUpdateHeight, ClientConnection, Connection, Ports, ChannelEnd, SeqSend, SeqRecv, SeqAck, Commitment, Ack, Receipt, UpgradeClientState, UpgradeConsensusState}
 use Rattle.path.specs.declared.Reading.{Reading}
 use Rattle.path.specs.declared.Reading.the-variants.{Read, Refused}
+use Rattle.path.specs.declared.ViewAnswer.{ViewAnswer}
+use Rattle.path.specs.declared.ViewAnswer.the-variants.{Seen, Refused as Unread}
 use Rattle.path.specs.Kinds.{Carried, carried}
 use Rattle.path.specs.Text.{nowhere, shownOf, shownStart}
 
@@ -61,12 +63,17 @@ carriedOf (Receipt x) = carried (x .port) (x .channel) (x .sequence .0) 0
 carriedOf (UpgradeClientState x) = carried (x .upgrade) nowhere (x .height .0) 0
 carriedOf (UpgradeConsensusState x) = carried (x .upgrade) nowhere (x .height .0) 0
 
--- both, in one
-abbrev pub seen : ℕ → Carried Place → PathView
-seen k v = record { kind = k; first = v .first; second = v .second; a = v .a; b = v .b }
+-- both, in one, with the mark of the text
+abbrev pub seen : ℕ → Bool → Carried Place → PathView
+seen k e v = record { kind = k; exact = e; first = v .first; second = v .second; a = v .a; b = v .b }
 
-unfoldable pub viewOf : Path → PathView
-viewOf p = seen (kindOf p) (carriedOf p)
+unfoldable pub viewOf : Path → Bool → PathView
+viewOf p e = seen (kindOf p) e (carriedOf p)
+
+-- a reading, flat
+unfoldable pub viewedBy : Reading → ViewAnswer
+viewedBy (Read p e) = Seen (viewOf p e)
+viewedBy (Refused w) = Unread w
 
 -- all kinds but 8 and 10
 abbrev pub provable : ℕ → Bool

@@ -3,6 +3,7 @@ mod carried;
 pub mod measure;
 pub mod name;
 pub mod provable;
+pub mod typed;
 
 use text::Fault;
 use text::refusal::NO_DIGITS;
@@ -129,39 +130,47 @@ pub enum Reading {
     Refused(Refusal),
 }
 
-// A path as its kind's number, places and numbers. What the kind lacks is the empty part at the start, or 0.
+// A path in one flat form: its kind's number, the mark of its text, places and numbers. What the kind lacks is the empty part
+// at the start, or 0. Kind 0 is of no path.
 pub struct PathView {
     pub kind: u8,
+    pub exact: bool,
     pub first: Place,
     pub second: Place,
     pub a: u64,
     pub b: u64,
 }
 
-// What a path shows.
-pub fn view(p: Path) -> PathView
-    ensures { λ r. ⌜ r ≡ viewOf p ⌝ }
+// What a text reads as, with the path in its flat form.
+pub enum ViewAnswer {
+    Seen(PathView),
+    Refused(Refusal),
+}
+
+// What a path shows, of a text with this mark.
+pub fn view(p: Path, exact: bool) -> PathView
+    ensures { λ r. ⌜ r ≡ viewOf p exact ⌝ }
 {
     match p {
-        Path::NextClientSequence(_) => carried::bare(1),
-        Path::NextConnectionSequence(_) => carried::bare(2),
-        Path::NextChannelSequence(_) => carried::bare(3),
-        Path::ClientState(x) => carried::client(4, x),
-        Path::ClientConsensusState(x) => carried::consensus(5, x),
-        Path::ClientUpdateTime(x) => carried::consensus(6, x),
-        Path::ClientUpdateHeight(x) => carried::consensus(7, x),
-        Path::ClientConnection(x) => carried::client(8, x),
-        Path::Connection(x) => carried::connection(9, x),
-        Path::Ports(x) => carried::port(10, x),
-        Path::ChannelEnd(x) => carried::channel(11, x),
-        Path::SeqSend(x) => carried::channel(12, x),
-        Path::SeqRecv(x) => carried::channel(13, x),
-        Path::SeqAck(x) => carried::channel(14, x),
-        Path::Commitment(x) => carried::packet(15, x),
-        Path::Ack(x) => carried::packet(16, x),
-        Path::Receipt(x) => carried::packet(17, x),
-        Path::UpgradeClientState(x) => carried::upgrade(18, x),
-        Path::UpgradeConsensusState(x) => carried::upgrade(19, x),
+        Path::NextClientSequence(_) => carried::bare(1, exact),
+        Path::NextConnectionSequence(_) => carried::bare(2, exact),
+        Path::NextChannelSequence(_) => carried::bare(3, exact),
+        Path::ClientState(x) => carried::client(4, exact, x),
+        Path::ClientConsensusState(x) => carried::consensus(5, exact, x),
+        Path::ClientUpdateTime(x) => carried::consensus(6, exact, x),
+        Path::ClientUpdateHeight(x) => carried::consensus(7, exact, x),
+        Path::ClientConnection(x) => carried::client(8, exact, x),
+        Path::Connection(x) => carried::connection(9, exact, x),
+        Path::Ports(x) => carried::port(10, exact, x),
+        Path::ChannelEnd(x) => carried::channel(11, exact, x),
+        Path::SeqSend(x) => carried::channel(12, exact, x),
+        Path::SeqRecv(x) => carried::channel(13, exact, x),
+        Path::SeqAck(x) => carried::channel(14, exact, x),
+        Path::Commitment(x) => carried::packet(15, exact, x),
+        Path::Ack(x) => carried::packet(16, exact, x),
+        Path::Receipt(x) => carried::packet(17, exact, x),
+        Path::UpgradeClientState(x) => carried::upgrade(18, exact, x),
+        Path::UpgradeConsensusState(x) => carried::upgrade(19, exact, x),
     }
 }
 

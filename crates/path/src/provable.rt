@@ -25,7 +25,7 @@ fn provable_kind(kind: u8) -> bool
 pub fn is_provable(p: Path) -> bool
     ensures { λ r. ⌜ r ≡ provable (kindOf p) ⌝ }
 {
-    let v = crate::view(p);
+    let v = crate::view(p, false);
     provable_kind(v.kind)
 }
 

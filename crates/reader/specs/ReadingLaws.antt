@@ -2,6 +2,7 @@
 -- Assumes nothing.
 use Prim.Native.Nat.{ℕ, _+_, _≤_, _<_, _^_}
 use mathlib.Core.Path.{_≡_, sym, _∙_}
+use mathlib.Core.Bool.{Bool}
 use mathlib.Core.List.{List}
 use native.Mathlib.Omega.{arith}
 use lib.Dec.{eqb}
@@ -49,11 +50,11 @@ module _ (t : List ℕ) (p : Path) (h : Found p ≡ readFirst kinds t) where
       rw l (sym (exact-by-length found))
 
   -- its view may be measured
-  pub found-measured : length t ≤ 4096 → (v : PathView) → v ≡ viewOf p → (1 ≤ v .kind) × (v .kind ≤ 19) × (v .first .len + v .second .len < 2 ^ 63)
+  pub found-measured : length t ≤ 4096 → (x : Bool) (v : PathView) → v ≡ viewOf p x → (1 ≤ v .kind) × (v .kind ≤ 19) × (v .first .len + v .second .len < 2 ^ 63)
   unfolding viewOf
-  found-measured short v e = rw e (found-kind .0, found-kind .1, omega (arith, found-first, found-second))
+  found-measured short x v e = rw e (found-kind .0, found-kind .1, omega (arith, found-first, found-second))
 
   -- it is ASCII, and the mark goes by the length
-  pub found-read : length t ≤ 4096 → (v : PathView) → v ≡ viewOf p → (n : ℕ) → n ≡ renderLength (partsOf (v .kind)) (carried (v .first .len) (v .second .len) (v .a) (v .b)) → Read p (eqb n (length t)) ≡ readPath t
+  pub found-read : length t ≤ 4096 → (x : Bool) (v : PathView) → v ≡ viewOf p x → (n : ℕ) → n ≡ renderLength (partsOf (v .kind)) (carried (v .first .len) (v .second .len) (v .a) (v .b)) → Read p (eqb n (length t)) ≡ readPath t
   unfolding viewOf readPath
-  found-read short v e n l = rw (le-ltb 4096 (length t) short, first-low kinds t p kinds-low (sym h), ← h, exact-mark n (l ∙ rw e))
+  found-read short x v e n l = rw (le-ltb 4096 (length t) short, first-low kinds t p kinds-low (sym h), ← h, exact-mark n (l ∙ rw e))

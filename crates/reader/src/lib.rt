@@ -19,7 +19,7 @@ pub fn read_path(text: &[u8]) -> Reading
     let PathAnswer::Found(path) = read_kinds::parse_path(text) else {
         return Reading::Refused(reading::fault(text));
     };
-    let v = path::view(path);
+    let v = path::view(path, false);
     let length = path::measure::render_length(v.kind, v.first.len, v.second.len, v.a, v.b);
     Reading::Read {
         path,

@@ -15,7 +15,7 @@ use Rattle.reading.proofs.second_identifier.Reads as second-identifier
 pub one-fault : One fault.Post
 one-fault κs a r₁ r₂ s₁ s₂ p q = p ∙ sym q
 
-pub one-write-view : OneWith write-view.Post (λ κs s. now (s .1 .1 .0))
+pub one-write-view : OneWith write-view.Post (λ κs s. now (s .1 .0))
 one-write-view κs a r₁ r₂ s₁ s₂ p q = agree p q
 
 pub one-write-answer : OneWith write-answer.Post (λ κs s. now (s .1 .0))

@@ -26,23 +26,23 @@ length-place p = simp (length-append, length-big)
 pub length-places : (p q : Place) → length (placeBytes p ++ placeBytes q) ≡ 8
 length-places p q = simp (length-append, length-big)
 
-pub length-view : (v : PathView) (e : Bool) → length (viewBytes v e) ≡ 26
+pub length-view : (v : PathView) → length (viewBytes v) ≡ 26
 unfolding viewBytes
-length-view v e = simp (length-append, length-big)
+length-view v = simp (length-append, length-big)
 
 -- a text of n bytes was written
 pub wrote : {out o w : List ℕ} {at r : ℕ} (n : ℕ) → length w ≡ n → r ≡ at + n → o ≡ put out at w → at + n ≤ length out → Wrote out at w r o
 wrote n l e p h = record { next = rw l e; after = p; room = rw l h }
 
 -- the writers of kind and mark, of places and of numbers make the 26 bytes
-pub wrote-view : {out o : List ℕ} {at r : ℕ} (v : PathView) (e : Bool)
-    → Wrote out at ((v .kind ∷ cond e 1 0 ∷ []) ++ ((placeBytes (v .first) ++ placeBytes (v .second)) ++ (bigEndian 8 (v .a) ++ bigEndian 8 (v .b)))) r o → Wrote out at (viewBytes v e) r o
+pub wrote-view : {out o : List ℕ} {at r : ℕ} (v : PathView)
+    → Wrote out at ((v .kind ∷ cond (v .exact) 1 0 ∷ []) ++ ((placeBytes (v .first) ++ placeBytes (v .second)) ++ (bigEndian 8 (v .a) ++ bigEndian 8 (v .b)))) r o → Wrote out at (viewBytes v) r o
 unfolding viewBytes
-wrote-view v e h = rw (append-assoc (placeBytes (v .first)) (placeBytes (v .second)) (bigEndian 8 (v .a) ++ bigEndian 8 (v .b))) at h
+wrote-view v h = rw (append-assoc (placeBytes (v .first)) (placeBytes (v .second)) (bigEndian 8 (v .a) ++ bigEndian 8 (v .b))) at h
 
 -- ---- a reading's bytes: those of what a path shows, or a refusal
 module _ (r : Reading) where
-  pub bytes-read : (p : Path) (x : Bool) (v : PathView) → r ≡ Read p x → v ≡ viewOf p → text (viewBytes v x) ≡ bytesBy r
+  pub bytes-read : (p : Path) (x : Bool) (v : PathView) → r ≡ Read p x → v ≡ viewOf p x → text (viewBytes v) ≡ bytesBy r
   unfolding viewBytes viewOf
   bytes-read p x v h e = rw (h, e)
 

@@ -69,18 +69,18 @@ fn write_carried(out: &mut [u8], at: usize, v: PathView) -> usize
 }
 
 // The 26 bytes.
-fn write_bytes(out: &mut [u8], v: PathView, exact: bool) -> usize
+fn write_bytes(out: &mut [u8], v: PathView) -> usize
     requires { ⌜ 26 ≤ length (now out) ⌝ }
-    ensures { λ r. ⌜ Wrote (now (out .entry)) 0 (viewBytes v exact) r (now (out .exit)) ⌝ }
+    ensures { λ r. ⌜ Wrote (now (out .entry)) 0 (viewBytes v) r (now (out .exit)) ⌝ }
 {
-    let next = write_head(out, 0, v.kind, mark(exact));
+    let next = write_head(out, 0, v.kind, mark(v.exact));
     write_carried(out, next, v)
 }
 
 // Writes the 26 bytes, or refuses where there is too little room.
-pub fn write_view(v: PathView, exact: bool, out: &mut [u8]) -> Written
-    ensures { λ r. ⌜ r ≡ answer (text (viewBytes v exact)) (length (now (out .entry))) ⌝ }
-    ensures { λ _. ⌜ now (out .exit) ≡ left (text (viewBytes v exact)) (now (out .entry)) ⌝ }
+pub fn write_view(v: PathView, out: &mut [u8]) -> Written
+    ensures { λ r. ⌜ r ≡ answer (text (viewBytes v)) (length (now (out .entry))) ⌝ }
+    ensures { λ _. ⌜ now (out .exit) ≡ left (text (viewBytes v)) (now (out .entry)) ⌝ }
 {
     if out.len() < 26 {
         return Written {
@@ -88,7 +88,7 @@ pub fn write_view(v: PathView, exact: bool, out: &mut [u8]) -> Written
             length: 0,
         };
     }
-    let end = write_bytes(out, v, exact);
+    let end = write_bytes(out, v);
     Written {
         refusal: 0,
         length: end as u64,

@@ -35,10 +35,10 @@ pub fn part(text: &[u8], p: Place) -> &[u8]
 pub fn first_identifier(text: &[u8], reading: Reading) -> &[u8]
     ensures { λ r. ⌜ Shows r (text .entry) (firstPlace reading) ⌝ }
 {
-    let Reading::Read { path, exact: _ } = reading else {
+    let Reading::Read { path, exact } = reading else {
         return part(text, Place { start: 0, len: 0 });
     };
-    let v = path::view(path);
+    let v = path::view(path, exact);
     let first = v.first;
     part(text, first)
 }
@@ -47,10 +47,10 @@ pub fn first_identifier(text: &[u8], reading: Reading) -> &[u8]
 pub fn second_identifier(text: &[u8], reading: Reading) -> &[u8]
     ensures { λ r. ⌜ Shows r (text .entry) (secondPlace reading) ⌝ }
 {
-    let Reading::Read { path, exact: _ } = reading else {
+    let Reading::Read { path, exact } = reading else {
         return part(text, Place { start: 0, len: 0 });
     };
-    let v = path::view(path);
+    let v = path::view(path, exact);
     let second = v.second;
     part(text, second)
 }
@@ -73,7 +73,7 @@ pub fn write_answer(reading: Reading, out: &mut [u8]) -> Fault
 {
     match reading {
         Reading::Read { path, exact } => {
-            let written = encode::write_view(path::view(path), exact, out);
+            let written = encode::write_view(path::view(path, exact), out);
             Fault {
                 refusal: written.refusal,
                 place: 0,

@@ -9,19 +9,20 @@ use lib.ListN.{length, drop}
 use Rattle.text.specs.Bytes.{bytes}
 use Rattle.text.specs.Part.{every, startsWith}
 use Rattle.path.specs.declared.name.Name.the-variants.{Connection, Port, Channel}
+use Rattle.path.specs.declared.PathView.{PathView}
 use Rattle.path.specs.Text.{nowhere}
 use Rattle.path.specs.Kinds.{Part, word, name, count, carried, kinds, kind1, kind2, kind3, kind9, kind10, kind11, kind12, kind13, kind14, kind15, kind16, kind17}
 use Rattle.path.specs.Read.{readFirst}
 use Rattle.path.specs.ReadLaws.{kind-has}
+use Rattle.path.specs.View.{seen}
 use Rattle.walk_scan.specs.Tail.{none, some, tailOf}
 use Rattle.walk_scan.specs.TailLaws.{word-more, word-last, word-longer}
-use Rattle.walk_families.specs.declared.Walked.{Walked}
-use Rattle.walk_families.specs.Walked.{nothing, read, walked, flat, counters, listed, clientKinds, endsParts, packetParts}
+use Rattle.walk_families.specs.Flat.{nothing, walked, flat, counters, listed, clientKinds, endsParts, packetParts}
 use Rattle.walk_families.specs.FlatLaws.{skip, none-left}
 use Rattle.walk.specs.Opening.{NoneOf, openings}
 use Rattle.walk.specs.OpenLaws.{single, only, only-listed, rest-listed, shut, after-ports}
 
-module _ (t : List ℕ) (r : Walked) where
+module _ (t : List ℕ) (r : PathView) where
   pub is-11 : startsWith (bytes "channelEnds/ports/") t ≡ true → r ≡ walked 11 (tailOf endsParts 18 (drop 18 t)) → r ≡ flat t (readFirst listed t)
   unfolding kinds listed every
   is-11 h e = e ∙ ap (walked 11) (sym (after-ports t (bytes "channelEnds") refl (name Port) (word (bytes "channels") ∷ name Channel ∷ []) h)) ∙ single kind11 t 11 (kind-has 11 (omega arith) (omega arith)) (λ v. refl) ∙ ap (flat t) (sym (only-listed t (bytes "channelEnds/ports/") h))
@@ -61,15 +62,15 @@ module _ (t : List ℕ) (r : Walked) where
   not-9 o h e = e ∙ sym (ap (flat t) (only-listed t (bytes "connecti") o ∙ shut t kind9 refl h []) ∙ none-left t)
 
   -- kinds 1 to 3
-  pub is-1 : startsWith (bytes "nextClientSequence") t ≡ true → length t ≡ 18 → r ≡ read 1 (carried nowhere nowhere 0 0) true → r ≡ flat t (readFirst counters t)
+  pub is-1 : startsWith (bytes "nextClientSequence") t ≡ true → length t ≡ 18 → r ≡ seen 1 true (carried nowhere nowhere 0 0) → r ≡ flat t (readFirst counters t)
   unfolding kinds every
   is-1 h l e = e ∙ ap (walked 1) (sym (word-last (bytes "nextClientSequence") refl 0 t h l)) ∙ single kind1 t 1 (kind-has 1 (omega arith) (omega arith)) (λ v. refl) ∙ ap (flat t) (sym (only (bytes "nextClientSequence") t h counters refl))
 
-  pub is-2 : startsWith (bytes "nextConnectionSequence") t ≡ true → length t ≡ 22 → r ≡ read 2 (carried nowhere nowhere 0 0) true → r ≡ flat t (readFirst counters t)
+  pub is-2 : startsWith (bytes "nextConnectionSequence") t ≡ true → length t ≡ 22 → r ≡ seen 2 true (carried nowhere nowhere 0 0) → r ≡ flat t (readFirst counters t)
   unfolding kinds every
   is-2 h l e = e ∙ ap (walked 2) (sym (word-last (bytes "nextConnectionSequence") refl 0 t h l)) ∙ single kind2 t 2 (kind-has 2 (omega arith) (omega arith)) (λ v. refl) ∙ ap (flat t) (sym (only (bytes "nextConnectionSequence") t h counters refl))
 
-  pub is-3 : startsWith (bytes "nextChannelSequence") t ≡ true → length t ≡ 19 → r ≡ read 3 (carried nowhere nowhere 0 0) true → r ≡ flat t (readFirst counters t)
+  pub is-3 : startsWith (bytes "nextChannelSequence") t ≡ true → length t ≡ 19 → r ≡ seen 3 true (carried nowhere nowhere 0 0) → r ≡ flat t (readFirst counters t)
   unfolding kinds every
   is-3 h l e = e ∙ ap (walked 3) (sym (word-last (bytes "nextChannelSequence") refl 0 t h l)) ∙ single kind3 t 3 (kind-has 3 (omega arith) (omega arith)) (λ v. refl) ∙ ap (flat t) (sym (only (bytes "nextChannelSequence") t h counters refl))
 

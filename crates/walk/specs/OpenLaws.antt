@@ -13,6 +13,7 @@ use Rattle.text.specs.Bytes.{bytes}
 use Rattle.text.specs.Part.{every, startsWith, same}
 use Rattle.text.specs.PartLaws.{and-left, and-right, starts-append}
 use Rattle.path.specs.declared.Place.{Place}
+use Rattle.path.specs.declared.PathView.{PathView}
 use Rattle.path.specs.TextLaws.{without}
 use Rattle.path.specs.Kinds.{Part, word, name, count, pair, Carried, Kind, kinds, kind1, kind2, kind3, kind4, kind5, kind6, kind7, kind8, kind9, kind10, kind11, kind12, kind13, kind14, kind15, kind16, kind17}
 use Rattle.path.specs.Read.{readFirst}
@@ -20,8 +21,7 @@ use Rattle.path.specs.Reads.{Has, here}
 use Rattle.path.specs.View.{kindOf}
 use Rattle.walk_scan.specs.Tail.{Tail, none, some, tailOf}
 use Rattle.walk_scan.specs.TailLaws.{word-more, word-other}
-use Rattle.walk_families.specs.declared.Walked.{Walked}
-use Rattle.walk_families.specs.Walked.{nothing, walked, flat, listed, clientKinds, endsParts, packetParts}
+use Rattle.walk_families.specs.Flat.{nothing, walked, flat, listed, clientKinds, endsParts, packetParts}
 use Rattle.walk_families.specs.FlatLaws.{skip, found, none-left}
 use Rattle.walk.specs.Opening.{NoneOf}
 

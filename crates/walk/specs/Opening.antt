@@ -7,10 +7,10 @@ use mathlib.Core.Bool.{Bool, false, cond}
 use lib.ListN.{length, drop}
 use Rattle.text.specs.Bytes.{bytes}
 use Rattle.text.specs.Part.{startsWith}
+use Rattle.path.specs.declared.PathView.{PathView}
 use Rattle.path.specs.Read.{readFirst}
 use Rattle.walk_scan.specs.Tail.{tailOf}
-use Rattle.walk_families.specs.declared.Walked.{Walked}
-use Rattle.walk_families.specs.Walked.{walked, flat, listed, endsOf}
+use Rattle.walk_families.specs.Flat.{walked, flat, listed, endsOf}
 use Rattle.walk.specs.declared.opening.Opening.{Opening}
 
 -- a text that starts with none of hs
@@ -29,4 +29,4 @@ shown v k n = cond v (record { kind = k; at = n }) (record { kind = 0; at = 0 })
 pub record Opens (t : List ℕ) (r : Opening) : Type 0 where
   pub within : r .at ≤ length t
   pub shut : r .kind ≡ 0 → NoneOf openings t
-  pub decides : (r .kind ≡ 0 → ⊥) → (w : Walked) → w ≡ walked (r .kind) (tailOf (endsOf (r .kind)) (r .at) (drop (r .at) t)) → w ≡ flat t (readFirst listed t)
+  pub decides : (r .kind ≡ 0 → ⊥) → (w : PathView) → w ≡ walked (r .kind) (tailOf (endsOf (r .kind)) (r .at) (drop (r .at) t)) → w ≡ flat t (readFirst listed t)

@@ -9,11 +9,11 @@ use lib.ListN.{length, drop}
 use Rattle.text.specs.Bytes.{bytes}
 use Rattle.text.specs.Part.{startsWith}
 use Rattle.text.specs.PartLaws.{and-left, and-right}
+use Rattle.path.specs.declared.PathView.{PathView}
 use Rattle.path.specs.Read.{readFirst}
 use Rattle.walk_scan.specs.Tail.{tailOf}
 use Rattle.walk_scan.specs.WordLaws.{starts-room}
-use Rattle.walk_families.specs.declared.Walked.{Walked}
-use Rattle.walk_families.specs.Walked.{walked, flat, listed, endsOf}
+use Rattle.walk_families.specs.Flat.{walked, flat, listed, endsOf}
 use Rattle.walk.specs.declared.opening.Opening.{Opening}
 use Rattle.walk.specs.Opening.{NoneOf, openings, shown, Opens}
 use Rattle.walk.specs.ArmLaws.{is-11, is-12, is-13, is-14, is-15, is-16, is-17}
@@ -46,7 +46,7 @@ heads = bytes "channelE" ∷ bytes "commitme" ∷ bytes "acks/por" ∷ bytes "re
 
 module _ (t : List ℕ) where
   -- the opening of kind k stands there
-  stands : (w : List ℕ) (k : ℕ) → (k ≡ 0 → ⊥) → startsWith w t ≡ true → ((r : Walked) → r ≡ walked k (tailOf (endsOf k) (length w) (drop (length w) t)) → r ≡ flat t (readFirst listed t)) → Opens t (record { kind = k; at = length w })
+  stands : (w : List ℕ) (k : ℕ) → (k ≡ 0 → ⊥) → startsWith w t ≡ true → ((r : PathView) → r ≡ walked k (tailOf (endsOf k) (length w) (drop (length w) t)) → r ≡ flat t (readFirst listed t)) → Opens t (record { kind = k; at = length w })
   stands w k z h d = record { within = starts-room w t h; shut = λ x. absurd (z x); decides = λ x. d }
 
   nothing-opens : NoneOf openings t → Opens t (record { kind = 0; at = 0 })
@@ -58,7 +58,7 @@ module _ (t : List ℕ) where
 
   -- at the head u, where w alone begins so
   by-head : (u w : List ℕ) (k : ℕ) → (k ≡ 0 → ⊥) → startsWith u t ≡ true → alike u openings ≡ w ∷ []
-      → (startsWith w t ≡ true → (r : Walked) → r ≡ walked k (tailOf (endsOf k) (length w) (drop (length w) t)) → r ≡ flat t (readFirst listed t))
+      → (startsWith w t ≡ true → (r : PathView) → r ≡ walked k (tailOf (endsOf k) (length w) (drop (length w) t)) → r ≡ flat t (readFirst listed t))
       → (v : Bool) → v ≡ startsWith w t → (o : Opening) → o ≡ shown v k (length w) → Opens t o
   by-head u w k z s a d true e o f = rw f (stands w k z (sym e) (d (sym e)))
   by-head u w k z s a d false e o f = rw f (nothing-opens (alike-none u t s openings (rw a (sym e, tt))))

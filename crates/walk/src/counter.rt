@@ -1,14 +1,14 @@
 // Kinds 1 to 3, which are a word each: the length of a text chooses the one that it can be.
-use walk_families::Walked;
+use path::PathView;
 use walk_families::bare;
 use walk_families::no_path;
 ghost use mathlib.Core.Path.{_≡_};
 ghost use lib.ListN.{length};
 ghost use Rattle.path.specs.Read.{readFirst};
-ghost use Rattle.walk_families.specs.Walked.{flat, counters};
+ghost use Rattle.walk_families.specs.Flat.{flat, counters};
 
 // Kind 1.
-fn next_client(text: &[u8]) -> Walked
+fn next_client(text: &[u8]) -> PathView
     requires { ⌜ length (now text) ≡ 18 ⌝ }
     ensures { λ r. ⌜ r ≡ flat (now (text .entry)) (readFirst counters (now (text .entry))) ⌝ }
 {
@@ -19,7 +19,7 @@ fn next_client(text: &[u8]) -> Walked
 }
 
 // Kind 2.
-fn next_connection(text: &[u8]) -> Walked
+fn next_connection(text: &[u8]) -> PathView
     requires { ⌜ length (now text) ≡ 22 ⌝ }
     ensures { λ r. ⌜ r ≡ flat (now (text .entry)) (readFirst counters (now (text .entry))) ⌝ }
 {
@@ -30,7 +30,7 @@ fn next_connection(text: &[u8]) -> Walked
 }
 
 // Kind 3.
-fn next_channel(text: &[u8]) -> Walked
+fn next_channel(text: &[u8]) -> PathView
     requires { ⌜ length (now text) ≡ 19 ⌝ }
     ensures { λ r. ⌜ r ≡ flat (now (text .entry)) (readFirst counters (now (text .entry))) ⌝ }
 {
@@ -41,7 +41,7 @@ fn next_channel(text: &[u8]) -> Walked
 }
 
 // Kinds 1 to 3.
-pub(crate) fn counter(text: &[u8]) -> Walked
+pub(crate) fn counter(text: &[u8]) -> PathView
     ensures { λ r. ⌜ r ≡ flat (now (text .entry)) (readFirst counters (now (text .entry))) ⌝ }
 {
     let n = text.len();

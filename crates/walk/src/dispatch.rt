@@ -1,6 +1,6 @@
 // The family of a text, chosen by its first eight bytes.
 use crate::opening::find_opening;
-use walk_families::Walked;
+use path::PathView;
 use walk_families::client::client;
 use walk_families::ends::after_ports;
 use walk_families::name::connection;
@@ -13,10 +13,10 @@ ghost use Rattle.text.specs.Part.{startsWith};
 ghost use Rattle.path.specs.Kinds.{kind10};
 ghost use Rattle.path.specs.Read.{readFirst};
 ghost use Rattle.walk_scan.specs.Tail.{tailOf};
-ghost use Rattle.walk_families.specs.Walked.{walked, flat, listed};
+ghost use Rattle.walk_families.specs.Flat.{walked, flat, listed};
 
 // Kind 9.
-fn connections(text: &[u8]) -> Walked
+fn connections(text: &[u8]) -> PathView
     requires { ⌜ startsWith (bytes "connecti") (now text) ≡ true ⌝ }
     ensures { λ r. ⌜ r ≡ flat (now (text .entry)) (readFirst listed (now (text .entry))) ⌝ }
 {
@@ -27,7 +27,7 @@ fn connections(text: &[u8]) -> Walked
 }
 
 // Kind 10.
-fn ports(text: &[u8]) -> Walked
+fn ports(text: &[u8]) -> PathView
     ensures { λ r. ⌜ r ≡ walked 10 (tailOf (kind10 .parts) 0 (now (text .entry))) ⌝ }
 {
     if walk_words::is_ports(text, 0) {
@@ -37,7 +37,7 @@ fn ports(text: &[u8]) -> Walked
 }
 
 // Kinds 4 to 17.
-pub(crate) fn by_word(text: &[u8]) -> Walked
+pub(crate) fn by_word(text: &[u8]) -> PathView
     ensures { λ r. ⌜ r ≡ flat (now (text .entry)) (readFirst listed (now (text .entry))) ⌝ }
 {
     if walk_words::is_clients_open(text, 0) {

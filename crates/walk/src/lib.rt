@@ -2,16 +2,16 @@
 mod counter;
 mod dispatch;
 mod opening;
-mod typed;
 
 use crate::counter::counter;
 use path::PathView;
 use path::Reading;
 use path::Refusal;
+use path::ViewAnswer;
+use path::typed::typed_path;
 use reading::encode::write_view;
 use reading::fault;
 use text::Fault;
-use walk_families::Walked;
 use walk_families::upgrade::upgrade;
 ghost use mathlib.Core.Path.{_≡_};
 ghost use mathlib.Core.List.{_++_};
@@ -19,11 +19,13 @@ ghost use lib.ListN.{length};
 ghost use Rattle.text.specs.Put.{text, left};
 ghost use Rattle.path.specs.Kinds.{kinds};
 ghost use Rattle.path.specs.Read.{readFirst, readPath, readingBytes, readFault};
-ghost use Rattle.walk_families.specs.Walked.{flat, listed, upgrades};
-ghost use Rattle.walk.specs.Bytes.{walkBytes, putFault};
+ghost use Rattle.path.specs.View.{viewedBy};
+ghost use Rattle.walk_families.specs.Flat.{flat, listed, upgrades};
+ghost use Rattle.reading.specs.Encode.{viewBytes};
+ghost use Rattle.walk.specs.Bytes.{putFault};
 
 // Kinds 4 to 19: 18 and 19 get their turn wherever no other kind is read.
-fn walk_rest(text: &[u8]) -> Walked
+fn walk_rest(text: &[u8]) -> PathView
     ensures { λ r. ⌜ r ≡ flat (now (text .entry)) (readFirst (listed ++ upgrades) (now (text .entry))) ⌝ }
 {
     let w = dispatch::by_word(text);
@@ -34,7 +36,7 @@ fn walk_rest(text: &[u8]) -> Walked
 }
 
 // Walks a text.
-fn walk_view(text: &[u8]) -> Walked
+fn walk_all(text: &[u8]) -> PathView
     ensures { λ r. ⌜ r ≡ flat (now (text .entry)) (readFirst kinds (now (text .entry))) ⌝ }
 {
     let c = counter(text);
@@ -44,38 +46,43 @@ fn walk_view(text: &[u8]) -> Walked
     walk_rest(text)
 }
 
-// Reads a text as a path. Only a text that is none is looked at again, for the reason.
+// Reads a text as a path in its flat form. Only a text that is none is looked at again, for the reason.
+pub fn walk_view(text: &[u8]) -> ViewAnswer
+    ensures { λ r. ⌜ r ≡ viewedBy (readPath (now (text .entry))) ⌝ }
+{
+    if 4096 < text.len() {
+        return ViewAnswer::Refused(Refusal::TooLong);
+    }
+    let w = walk_all(text);
+    if w.kind == 0 {
+        return ViewAnswer::Refused(fault(text));
+    }
+    ViewAnswer::Seen(w)
+}
+
+// Reads a text as a path.
 pub fn walk_path(text: &[u8]) -> Reading
     ensures { λ r. ⌜ r ≡ readPath (now (text .entry)) ⌝ }
 {
     if 4096 < text.len() {
         return Reading::Refused(Refusal::TooLong);
     }
-    let w = walk_view(text);
+    let w = walk_all(text);
     if w.kind == 0 {
         return Reading::Refused(fault(text));
     }
     Reading::Read {
-        path: typed::typed(w),
+        path: typed_path(w),
         exact: w.exact,
     }
 }
 
 // The 26 bytes of what was walked.
-fn put_walk(w: Walked, out: &mut [u8]) -> Fault
+fn put_walk(w: PathView, out: &mut [u8]) -> Fault
     ensures { λ r. ⌜ r ≡ putFault w (length (now (out .entry))) ⌝ }
-    ensures { λ _. ⌜ now (out .exit) ≡ left (text (walkBytes w)) (now (out .entry)) ⌝ }
+    ensures { λ _. ⌜ now (out .exit) ≡ left (text (viewBytes w)) (now (out .entry)) ⌝ }
 {
-    let first = w.first;
-    let second = w.second;
-    let view = PathView {
-        kind: w.kind,
-        first,
-        second,
-        a: w.a,
-        b: w.b,
-    };
-    let written = write_view(view, w.exact, out);
+    let written = write_view(w, out);
     Fault {
         refusal: written.refusal,
         place: 0,

@@ -8,11 +8,12 @@ use lib.ListN.{drop}
 use Rattle.text.specs.Bytes.{bytes}
 use Rattle.path.specs.declared.Place.{Place}
 use Rattle.path.specs.declared.name.Name.the-variants.{Client}
+use Rattle.path.specs.declared.PathView.{PathView}
 use Rattle.path.specs.Text.{nowhere}
 use Rattle.path.specs.Kinds.{Part, word, pair, Carried, carried, setName}
+use Rattle.path.specs.View.{seen}
 use Rattle.walk_scan.specs.Tail.{Tail, none, some, tailOf, afterOf}
-use Rattle.walk_families.specs.declared.Walked.{Walked}
-use Rattle.walk_families.specs.Walked.{nothing, read}
+use Rattle.walk_families.specs.Flat.{nothing}
 
 -- the parts of kinds 6 and 7 after R-h, and those of 4 and 8 after the client
 abbrev pub timeParts : List Part
@@ -45,10 +46,10 @@ pub data UpdateKind (t : List ℕ) (q : ℕ) : ℕ → Type 0 where
   other : afterOf [] q (drop q t) ≡ none → afterOf timeParts q (drop q t) ≡ none → afterOf heightParts q (drop q t) ≡ none → UpdateKind t q 0
 
 -- R-h and what follows it, after a client of n bytes
-abbrev pub owned : ℕ → ℕ → Carried Place → Bool → Walked
-owned k n v x = read k (setName Client (record { start = 8; len = n }) v) x
+abbrev pub owned : ℕ → ℕ → Carried Place → Bool → PathView
+owned k n v x = seen k x (setName Client (record { start = 8; len = n }) v)
 
-pub data Consensus (t : List ℕ) (at n : ℕ) : Walked → Type 0 where
+pub data Consensus (t : List ℕ) (at n : ℕ) : PathView → Type 0 where
   unread : tailOf (pair ∷ []) at (drop at t) ≡ none → tailOf (pair ∷ timeParts) at (drop at t) ≡ none → tailOf (pair ∷ heightParts) at (drop at t) ≡ none → Consensus t at n nothing
   five : (v : Carried Place) (x : Bool) → tailOf (pair ∷ []) at (drop at t) ≡ some v x → Consensus t at n (owned 5 n v x)
   six : (v : Carried Place) (x : Bool) → tailOf (pair ∷ timeParts) at (drop at t) ≡ some v x → Consensus t at n (owned 6 n v x)

@@ -15,6 +15,7 @@ use Rattle.text.specs.Part.{every, startsWith, same}
 use Rattle.text.specs.PartLaws.{starts-byte}
 use Rattle.identifiers.specs.Check as check
 use Rattle.path.specs.declared.name.Name.the-variants.{Client}
+use Rattle.path.specs.declared.PathView.{PathView}
 use Rattle.path.specs.Text.{nowhere}
 use Rattle.path.specs.Kinds.{Part, word, name, pair, carried, Kind, kinds, kind4, kind5, kind6, kind7, kind8}
 use Rattle.path.specs.Read.{readFirst}
@@ -26,8 +27,7 @@ use Rattle.walk_scan.specs.Run.{ruleRun}
 use Rattle.walk_scan.specs.NameLaws.{scans-client}
 use Rattle.walk_scan.specs.Tail.{none, some, tailOf, afterOf}
 use Rattle.walk_scan.specs.TailLaws.{word-more, after-word, after-last, after-other, after-longer, after-end, after-more}
-use Rattle.walk_families.specs.declared.Walked.{Walked}
-use Rattle.walk_families.specs.Walked.{nothing, read, flat, clientKinds}
+use Rattle.walk_families.specs.Flat.{nothing, flat, clientKinds}
 use Rattle.walk_families.specs.FlatLaws.{skip, found, none-left}
 use Rattle.walk_families.specs.Ends.{withName}
 use Rattle.walk_families.specs.PieceLaws.{withPair, rule-none, rule-some, pair-first, pair-none, pair-some}
@@ -106,7 +106,7 @@ module _ (t : List ℕ) (at n : ℕ) (r : Counted) (e : r ≡ countedOf at (drop
       unpairs : (ps : List Part) → afterOf ps (h .end) (drop (h .end) t) ≡ none → tailOf (pair ∷ ps) at (drop at t) ≡ none
       unpairs ps k = pair-some t at r h e f dash d ok is ok2 ps ∙ rw k
 
-      abbrev answer : ℕ → Walked
+      abbrev answer : ℕ → PathView
       answer k = record { kind = k; exact = b; first = record { start = 8; len = n }; second = nowhere; a = r .value; b = h .value }
 
       pub read-update : (k : ℕ) → UpdateKind t (h .end) k → (k ≡ 0 → ⊥) → Consensus t at n (answer k)
@@ -178,7 +178,7 @@ module _ (t : List ℕ) (start : startsWith (bytes "clients/") t ≡ true) (n : 
         pub client-other : w ≡ false → nothing ≡ flat t (readFirst clientKinds t)
         client-other h = let q = wordless k kind zero-kind in nothing-left (λ ps. after-states ps ∙ rw h) (q .0) (q .1)
 
-        pub client-states : w ≡ true → (r : Walked) → Consensus t (8 + n + 17) n r → r ≡ flat t (readFirst clientKinds t)
+        pub client-states : w ≡ true → (r : PathView) → Consensus t (8 + n + 17) n r → r ≡ flat t (readFirst clientKinds t)
         unfolding kinds
         client-states h _ (unread x y z) = sym (ap (flat t) (skip kind4 t (wordless k kind zero-kind .0) _ ∙ skip kind5 t (after-states [] ∙ rw (h, x)) _ ∙ skip kind6 t (after-states timeParts ∙ rw (h, y)) _ ∙ skip kind7 t (after-states heightParts ∙ rw (h, z)) _ ∙ skip kind8 t (wordless k kind zero-kind .1) []) ∙ none-left t)
         client-states h _ (five v x q) = found kind5 t {es = clientKinds} (later here) clients-apart (kind-has 5 (omega arith) (omega arith)) 5 (λ u. refl) _ x (after-states [] ∙ rw (h, q))

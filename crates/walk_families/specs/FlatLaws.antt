@@ -21,9 +21,9 @@ use Rattle.path.specs.Reads.{Has, Reads}
 use Rattle.path.specs.ReadLaws.{kind-fits, apartAll, read-has, made-carried}
 use Rattle.path.specs.Spelled.{fitAll, spelledFrom}
 use Rattle.path.specs.ExactLaws.{exact-by-spelling}
-use Rattle.path.specs.View.{kindOf}
+use Rattle.path.specs.View.{kindOf, seen}
 use Rattle.walk_scan.specs.Tail.{carriedAll, spelledAll, Tail, none, some, tailOf}
-use Rattle.walk_families.specs.Walked.{nothing, read, flat}
+use Rattle.walk_families.specs.Flat.{nothing, flat}
 
 -- ---- what parts carry, by the numbers of the components and one after the other
 carried-from : (k : ℕ) (ps : List Part) (t : List ℕ) → k + length ps ≡ componentCount t → carriedFrom k ps t ≡ carriedAll ps (drop k (components t)) (drop k (places t))
@@ -76,7 +76,7 @@ module _ (e : Kind) (t : List ℕ) where
   skip h es = rw (tail-unfit h)
 
   -- a kind that the text is, is what is read
-  pub found : {es : List Kind} → Has es e → apartAll es ≡ true → Has kinds e → (k : ℕ) → ((v : Carried Place) → kindOf (e .make v) ≡ k) → (v : Carried Place) (x : Bool) → tailOf (e .parts) 0 t ≡ some v x → read k v x ≡ flat t (readFirst es t)
+  pub found : {es : List Kind} → Has es e → apartAll es ≡ true → Has kinds e → (k : ℕ) → ((v : Carried Place) → kindOf (e .make v) ≡ k) → (v : Carried Place) (x : Bool) → tailOf (e .parts) 0 t ≡ some v x → seen k x v ≡ flat t (readFirst es t)
   found m apart has k number v x h =
       let f = tail-fits v x h in
       let r : Reads t (e .make (carriedFrom 0 (e .parts) t)) = record { kind = e; listed = has; fitting = f .0; made = refl } in

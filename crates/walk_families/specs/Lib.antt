@@ -2,9 +2,9 @@
 pub mod Client
 pub mod ClientLaws
 pub mod Ends
+pub mod Flat
 pub mod FlatLaws
 pub mod NameLaws
 pub mod PieceLaws
 pub mod Upgrade
 pub mod UpgradeLaws
-pub mod Walked

@@ -13,8 +13,10 @@ use Rattle.text.specs.Part.{every, startsWith}
 use Rattle.identifiers.specs.Check as check
 use Rattle.path.specs.declared.name.Name.{Name}
 use Rattle.path.specs.declared.name.Name.the-variants.{Port, Channel}
+use Rattle.path.specs.declared.PathView.{PathView}
 use Rattle.path.specs.Text.{nowhere}
 use Rattle.path.specs.Kinds.{name, count, word, carried, setName}
+use Rattle.path.specs.View.{seen}
 use Rattle.walk_scan.specs.declared.number.Counted.{Counted}
 use Rattle.walk_scan.specs.CountLaws.{count-within}
 use Rattle.walk_scan.specs.Number.{countedOf}
@@ -22,8 +24,7 @@ use Rattle.walk_scan.specs.Run.{ruleRun}
 use Rattle.walk_scan.specs.Tail.{none, some, tailOf, afterOf}
 use Rattle.walk_scan.specs.TailLaws.{Scans, after-end, after-more, after-word}
 use Rattle.walk_families.specs.declared.ends.Ends.{Ends}
-use Rattle.walk_families.specs.declared.Walked.{Walked}
-use Rattle.walk_families.specs.Walked.{nothing, read, walked, endsParts, packetParts, endsOf}
+use Rattle.walk_families.specs.Flat.{nothing, walked, endsParts, packetParts, endsOf}
 use Rattle.walk_families.specs.Ends.{withName, EndsAt}
 use Rattle.walk_families.specs.PieceLaws.{rule-none, rule-some, count-none, count-some}
 
@@ -35,7 +36,7 @@ module _ (k : ℕ) (i : Name) (r : check.Rule) (scans : Scans (name i) (λ s. lt
   pub last-longer : (n ≡ 0 → ⊥) → at + n ≤ length t → (at + n ≡ length t → ⊥) → nothing ≡ walked k (tailOf (name i ∷ []) at (drop at t))
   last-longer h l m = rw (rule-some i r scans t at n e h [], after-more (at + n) (drop (at + n) t) (rw length-drop (omega (arith, m))))
 
-  pub last-name : (n ≡ 0 → ⊥) → at + n ≡ length t → read k (setName i (record { start = at; len = n }) (carried nowhere nowhere 0 0)) true ≡ walked k (tailOf (name i ∷ []) at (drop at t))
+  pub last-name : (n ≡ 0 → ⊥) → at + n ≡ length t → seen k true (setName i (record { start = at; len = n }) (carried nowhere nowhere 0 0)) ≡ walked k (tailOf (name i ∷ []) at (drop at t))
   last-name h m = rw (rule-some i r scans t at n e h [], after-end (at + n) (drop (at + n) t) (rw length-drop (omega arith)))
 
 -- ---- kinds 11 to 14, and 15 to 17
@@ -57,7 +58,7 @@ module _ (k : ℕ) (t : List ℕ) (at : ℕ) (r : Ends) (x : EndsAt t at r) wher
     pub ends-longer : (end ≡ length t → ⊥) → nothing ≡ walked k (tailOf endsParts at (drop at t))
     ends-longer m = rw (x .both some-end [], after-more end (drop end t) (rw length-drop (omega (arith, m, ends-within))))
 
-    pub ends-read : end ≡ length t → read k (carried (record { start = at; len = r .port }) (record { start = at + r .port + 10; len = r .channel }) 0 0) true ≡ walked k (tailOf endsParts at (drop at t))
+    pub ends-read : end ≡ length t → seen k true (carried (record { start = at; len = r .port }) (record { start = at + r .port + 10; len = r .channel }) 0 0) ≡ walked k (tailOf endsParts at (drop at t))
     ends-read m = rw (x .both some-end [], after-end end (drop end t) (rw length-drop (omega arith)))
 
     module _ (v : Bool) (w : v ≡ startsWith (bytes "/sequences/") (drop end t)) where
@@ -81,5 +82,5 @@ module _ (k : ℕ) (t : List ℕ) (at : ℕ) (r : Ends) (x : EndsAt t at r) wher
               let b = count-within t (end + 11) n e l f .1 in
               rw (packet-word, h, count-some t (end + 11) n e f [], after-more (n .end) (drop (n .end) t) (rw length-drop (omega (arith, b, m))))
 
-          pub packet-read : n .end ≡ length t → read k (carried (record { start = at; len = r .port }) (record { start = at + r .port + 10; len = r .channel }) (n .value) 0) (n .plain) ≡ walked k (tailOf packetParts at (drop at t))
+          pub packet-read : n .end ≡ length t → seen k (n .plain) (carried (record { start = at; len = r .port }) (record { start = at + r .port + 10; len = r .channel }) (n .value) 0) ≡ walked k (tailOf packetParts at (drop at t))
           packet-read m = rw (packet-word, h, count-some t (end + 11) n e f [], after-end (n .end) (drop (n .end) t) (rw length-drop (omega arith)), and-true (n .plain))

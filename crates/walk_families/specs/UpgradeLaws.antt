@@ -24,7 +24,7 @@ use Rattle.walk_scan.specs.Number.{countedOf, noSlash, upgradeOk}
 use Rattle.walk_scan.specs.Run.{run}
 use Rattle.walk_scan.specs.Tail.{Tail, none, some, tailOf, afterOf}
 use Rattle.walk_scan.specs.TailLaws.{after-slash, after-last, after-other, after-longer}
-use Rattle.walk_families.specs.Walked.{nothing, flat, upgrades}
+use Rattle.walk_families.specs.Flat.{nothing, flat, upgrades}
 use Rattle.walk_families.specs.FlatLaws.{skip, found, none-left}
 use Rattle.walk_families.specs.Ends.{withName}
 use Rattle.walk_families.specs.PieceLaws.{withCount, upgrade-none, upgrade-some, count-none, count-some}

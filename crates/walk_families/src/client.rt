@@ -1,7 +1,7 @@
 // Kinds 4 to 8.
-use crate::Walked;
 use crate::bare;
 use crate::no_path;
+use path::PathView;
 use path::Place;
 use walk_scan::name::plain_length;
 use walk_scan::number::number;
@@ -17,7 +17,7 @@ ghost use lib.ListN.{length};
 ghost use Rattle.text.specs.Bytes.{bytes};
 ghost use Rattle.text.specs.Part.{startsWith};
 ghost use Rattle.path.specs.Read.{readFirst};
-ghost use Rattle.walk_families.specs.Walked.{flat, clientKinds};
+ghost use Rattle.walk_families.specs.Flat.{flat, clientKinds};
 ghost use Rattle.walk_families.specs.Client.{WordKind, UpdateKind, Consensus};
 
 // The kind that a client and one word more make, 0 where no such word ends the text.
@@ -71,7 +71,7 @@ fn both(a: bool, b: bool) -> bool
 }
 
 // Kinds 5 to 7: R-h from `at` on, after a client of `len` bytes.
-fn consensus(text: &[u8], at: usize, len: usize) -> Walked
+fn consensus(text: &[u8], at: usize, len: usize) -> PathView
     requires { ⌜ at ≤ length (now text) ⌝ }
     ensures { λ r. ⌜ Consensus (now (text .entry)) at len r ⌝ }
 {
@@ -94,7 +94,7 @@ fn consensus(text: &[u8], at: usize, len: usize) -> Walked
     if kind == 0 {
         return no_path();
     }
-    Walked {
+    PathView {
         kind,
         exact: both(r.plain, h.plain),
         first: Place { start: 8, len },
@@ -105,7 +105,7 @@ fn consensus(text: &[u8], at: usize, len: usize) -> Walked
 }
 
 // A text that starts with `clients/`.
-pub fn client(text: &[u8]) -> Walked
+pub fn client(text: &[u8]) -> PathView
     requires { ⌜ startsWith (bytes "clients/") (now text) ≡ true ⌝ }
     ensures { λ r. ⌜ r ≡ flat (now (text .entry)) (readFirst clientKinds (now (text .entry))) ⌝ }
 {

@@ -1,7 +1,7 @@
 // Kinds 11 to 17: `P/channels/H`, and for a packet its sequence.
-use crate::Walked;
 use crate::no_path;
 use crate::packet::packet;
+use path::PathView;
 use path::Place;
 use walk_scan::name::channel_length;
 use walk_scan::name::plain_length;
@@ -10,7 +10,7 @@ ghost use mathlib.Core.Path.{_≡_};
 ghost use Prim.Native.Nat.{_≤_};
 ghost use lib.ListN.{length, drop};
 ghost use Rattle.walk_scan.specs.Tail.{tailOf};
-ghost use Rattle.walk_families.specs.Walked.{walked, endsParts, endsOf};
+ghost use Rattle.walk_families.specs.Flat.{walked, endsParts, endsOf};
 ghost use Rattle.walk_families.specs.Ends.{EndsAt};
 
 // The lengths of P and H in `P/channels/H`: a channel of 0 tells that they do not stand there.
@@ -42,7 +42,7 @@ fn ends_at(text: &[u8], at: usize) -> Ends
 }
 
 // Kinds 11 to 14: no more than `P/channels/H`.
-fn channel(text: &[u8], at: usize, kind: u8, e: Ends) -> Walked
+fn channel(text: &[u8], at: usize, kind: u8, e: Ends) -> PathView
     requires { ⌜ EndsAt (now text) at e ⌝ }
     requires { ⌜ (e .channel ≡ 0 → ⊥) ⌝ }
     ensures { λ r. ⌜ r ≡ walked kind (tailOf endsParts at (drop at (now (text .entry)))) ⌝ }
@@ -53,7 +53,7 @@ fn channel(text: &[u8], at: usize, kind: u8, e: Ends) -> Walked
     if start + channel != text.len() {
         return no_path();
     }
-    Walked {
+    PathView {
         kind,
         exact: true,
         first: Place {
@@ -71,7 +71,7 @@ fn channel(text: &[u8], at: usize, kind: u8, e: Ends) -> Walked
 
 // What follows `W/ports/` in a text of this kind. It is one function for all seven kinds, so that the compiler has one
 // place to put it, and no call is left.
-pub fn after_ports(text: &[u8], at: usize, kind: u8) -> Walked
+pub fn after_ports(text: &[u8], at: usize, kind: u8) -> PathView
     requires { ⌜ at ≤ length (now text) ⌝ }
     ensures { λ r. ⌜ r ≡ walked kind (tailOf (endsOf kind) at (drop at (now (text .entry)))) ⌝ }
 {

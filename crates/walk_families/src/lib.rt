@@ -5,25 +5,17 @@ pub mod name;
 mod packet;
 pub mod upgrade;
 
+use path::PathView;
 use path::Place;
 ghost use mathlib.Core.Path.{_≡_};
 ghost use mathlib.Core.Bool.{true};
-ghost use Rattle.walk_families.specs.Walked.{nothing};
+ghost use Rattle.walk_families.specs.Flat.{nothing};
 
-// What a text reads as: the kind, 0 where nothing is read, the exact mark, and what the kind carries.
-pub struct Walked {
-    pub kind: u8,
-    pub exact: bool,
-    pub first: Place,
-    pub second: Place,
-    pub a: u64,
-    pub b: u64,
-}
-
-pub fn no_path() -> Walked
+// What is answered where nothing is read.
+pub fn no_path() -> PathView
     ensures { λ r. ⌜ r ≡ nothing ⌝ }
 {
-    Walked {
+    PathView {
         kind: 0,
         exact: false,
         first: Place { start: 0, len: 0 },
@@ -34,10 +26,10 @@ pub fn no_path() -> Walked
 }
 
 // A path that carries nothing, or one identifier.
-pub fn bare(kind: u8, start: usize, len: usize) -> Walked
+pub fn bare(kind: u8, start: usize, len: usize) -> PathView
     ensures { λ r. ⌜ r ≡ record { kind = kind; exact = true; first = record { start = start; len = len }; second = record { start = 0; len = 0 }; a = 0; b = 0 } ⌝ }
 {
-    Walked {
+    PathView {
         kind,
         exact: true,
         first: Place { start, len },

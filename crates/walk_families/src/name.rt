@@ -1,7 +1,7 @@
 // Kinds 9 and 10: a word, and an identifier.
-use crate::Walked;
 use crate::bare;
 use crate::no_path;
+use path::PathView;
 use walk_scan::name::connection_length;
 use walk_scan::name::plain_length;
 ghost use mathlib.Core.Path.{_≡_};
@@ -11,10 +11,10 @@ ghost use lib.ListN.{length, drop};
 ghost use Rattle.path.specs.declared.name.Name.the-variants.{Connection, Port};
 ghost use Rattle.path.specs.Kinds.{name};
 ghost use Rattle.walk_scan.specs.Tail.{tailOf};
-ghost use Rattle.walk_families.specs.Walked.{walked};
+ghost use Rattle.walk_families.specs.Flat.{walked};
 
 // Kind 9: `K` from `at` on.
-pub fn connection(text: &[u8], at: usize) -> Walked
+pub fn connection(text: &[u8], at: usize) -> PathView
     requires { ⌜ at ≤ length (now text) ⌝ }
     ensures { λ r. ⌜ r ≡ walked 9 (tailOf (name Connection ∷ []) at (drop at (now (text .entry)))) ⌝ }
 {
@@ -29,7 +29,7 @@ pub fn connection(text: &[u8], at: usize) -> Walked
 }
 
 // Kind 10: `P` from `at` on.
-pub fn port(text: &[u8], at: usize) -> Walked
+pub fn port(text: &[u8], at: usize) -> PathView
     requires { ⌜ at ≤ length (now text) ⌝ }
     ensures { λ r. ⌜ r ≡ walked 10 (tailOf (name Port ∷ []) at (drop at (now (text .entry)))) ⌝ }
 {

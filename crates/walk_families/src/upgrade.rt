@@ -1,6 +1,6 @@
 // Kinds 18 and 19.
-use crate::Walked;
 use crate::no_path;
+use path::PathView;
 use path::Place;
 use walk_scan::name::slash;
 use walk_scan::number::number;
@@ -10,7 +10,7 @@ ghost use mathlib.Core.Path.{_≡_};
 ghost use Prim.Native.Nat.{_≤_};
 ghost use lib.ListN.{length};
 ghost use Rattle.path.specs.Read.{readFirst};
-ghost use Rattle.walk_families.specs.Walked.{flat, upgrades};
+ghost use Rattle.walk_families.specs.Flat.{flat, upgrades};
 ghost use Rattle.walk_families.specs.Upgrade.{UpgradeKind};
 
 // The kind by the word after n, 0 where it is neither.
@@ -35,7 +35,7 @@ fn upgrade_kind(text: &[u8], q: usize) -> u8
 }
 
 // A text of U, n and a word. The bytes of U are looked at again where all else fits, for one of 128 or more.
-pub fn upgrade(text: &[u8]) -> Walked
+pub fn upgrade(text: &[u8]) -> PathView
     ensures { λ r. ⌜ r ≡ flat (now (text .entry)) (readFirst upgrades (now (text .entry))) ⌝ }
 {
     let e = slash(text, 0);
@@ -53,7 +53,7 @@ pub fn upgrade(text: &[u8]) -> Walked
     if !text::part::all_ascii(&text[0..e]) {
         return no_path();
     }
-    Walked {
+    PathView {
         kind,
         exact: n.plain,
         first: Place { start: 0, len: e },

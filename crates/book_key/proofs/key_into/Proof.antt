@@ -7,13 +7,13 @@ use Rattle.book_key.proofs.key_into.Tie as tie
 
 returns : tie.Need-returns
 returns c =
-    let read = c .before .before .walk-path .ensures in
+    let read = c .before .before .walk-view .ensures in
     let told = c .before .is-loose .ensures in
     (field-loose _ _ _ read _ told (c .if1 .taken), loose-kept _ _ _ read _ told (c .if1 .taken) _)
 
 returns-2 : tie.Need-returns-2
 returns-2 c =
-    let read = c .before .before .before .before .before .before .before .before .walk-path .ensures in
+    let read = c .before .before .before .before .before .before .before .before .walk-view .ensures in
     let told = c .before .before .before .before .before .before .before .is-loose .ensures in
     let taken = c .before .before .before .before .before .before .if1 .left in
     let w = c .before .before .before .before .write-read .ensures in
@@ -21,7 +21,7 @@ returns-2 c =
 
 returns-3 : tie.Need-returns-3
 returns-3 c =
-    let read = c .before .before .before .before .before .before .before .before .walk-path .ensures in
+    let read = c .before .before .before .before .before .before .before .before .walk-view .ensures in
     let told = c .before .before .before .before .before .before .before .is-loose .ensures in
     let taken = c .before .before .before .before .before .before .if1 .left in
     let w = c .before .before .before .before .write-read .ensures in

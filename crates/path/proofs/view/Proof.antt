@@ -1,6 +1,7 @@
 -- `view` meets its contract: what an arm shows is the view of the case that the arm took.
 -- Assumes nothing.
 use mathlib.Core.Path.{_≡_, sym, ap, _∙_}
+use mathlib.Core.Bool.{Bool}
 use borrow.Author.Needs.{needs}
 use Rattle.path.specs.declared.Path.{Path}
 use Rattle.path.specs.declared.PathView.{PathView}
@@ -8,8 +9,8 @@ use Rattle.path.specs.View.{viewOf}
 use Rattle.path.proofs.view.Statement.{statement}
 use Rattle.path.proofs.view.Tie as tie
 
-shows : (p q : Path) (r : PathView) → p ≡ q → r ≡ viewOf q → r ≡ viewOf p
-shows p q r e f = f ∙ sym (ap viewOf e)
+shows : (p q : Path) (x : Bool) (r : PathView) → p ≡ q → r ≡ viewOf q x → r ≡ viewOf p x
+shows p q x r e f = f ∙ sym (ap (λ (z : Path). viewOf z x) e)
 
 pub view-spec : {M : Type 1} → statement M
 unfolding viewOf

@@ -15,10 +15,10 @@ returns-2 : tie.Need-returns-2
 returns-2 c = ap Refused (c .fault .ensures) ∙ no-path _ (c .before .before .before .before .if1 .left) (sym (c .before .enum-told .given .1) ∙ c .before .before .before .parse-path .ensures)
 
 render-length-requires : tie.Need-render-length-requires
-render-length-requires c κs = found-measured _ _ (sym (c .before .before .path .given .1) ∙ c .before .before .before .before .parse-path .ensures) (c .before .before .before .before .before .if1 .left) _ (c .view .ensures)
+render-length-requires c κs = found-measured _ _ (sym (c .before .before .path .given .1) ∙ c .before .before .before .before .parse-path .ensures) (c .before .before .before .before .before .if1 .left) _ _ (c .view .ensures)
 
 returns-3 : tie.Need-returns-3
-returns-3 c = found-read _ _ (sym (c .before .before .before .path .given .1) ∙ c .before .before .before .before .before .parse-path .ensures) (c .before .before .before .before .before .before .if1 .left) _ (c .before .view .ensures) _ (c .render-length .ensures)
+returns-3 c = found-read _ _ (sym (c .before .before .before .path .given .1) ∙ c .before .before .before .before .before .parse-path .ensures) (c .before .before .before .before .before .before .if1 .left) _ _ (c .before .view .ensures) _ (c .render-length .ensures)
 
 pub read-path-spec : {M : Type 1} → statement M
 read-path-spec =

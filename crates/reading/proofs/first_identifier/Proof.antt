@@ -11,7 +11,7 @@ returns : tie.Need-returns
 returns c = shows-at _ _ _ _ (sym (ap firstPlace (c .before .enum-told .given .1))) (c .part .ensures)
 
 returns-2 : tie.Need-returns-2
-returns-2 c = shows-at _ _ _ _ (view-first _ _ (c .before .before .view .ensures) ∙ sym (ap firstPlace (c .before .before .before .before .reading .given .1))) (c .part2 .ensures)
+returns-2 c = shows-at _ _ _ _ (view-first _ _ _ (c .before .before .view .ensures) ∙ sym (ap firstPlace (c .before .before .before .before .reading .given .1))) (c .part2 .ensures)
 
 pub first-identifier-spec : {M : Type 1} → statement M
 first-identifier-spec =

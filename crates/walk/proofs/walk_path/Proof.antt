@@ -11,13 +11,13 @@ returns : tie.Need-returns
 returns c = too-long (c .before .before .args .text .now) (c .if1 .taken)
 
 returns-2 : tie.Need-returns-2
-returns-2 c = refused-read (c .before .before .before .before .before .before .args .text .now) (c .before .before .before .walk-view .result) (c .before .before .before .walk-view .ensures) (c .before .before .before .before .if1 .left) (c .before .if2 .taken) (c .fault .result) (c .fault .ensures)
+returns-2 c = refused-read (c .before .before .before .before .before .before .args .text .now) (c .before .before .before .walk-all .result) (c .before .before .before .walk-all .ensures) (c .before .before .before .before .if1 .left) (c .before .if2 .taken) (c .fault .result) (c .fault .ensures)
 
-typed-requires : tie.Need-typed-requires
-typed-requires c κs = kind-range (c .before .before .before .before .before .args .text .now) (c .before .before .walk-view .result) (c .before .before .walk-view .ensures) (c .if2 .left)
+typed-path-requires : tie.Need-typed-path-requires
+typed-path-requires c κs = kind-range (c .before .before .before .before .before .args .text .now) (c .before .before .walk-all .result) (c .before .before .walk-all .ensures) (c .if2 .left)
 
 returns-3 : tie.Need-returns-3
-returns-3 c = typed-read (c .before .before .before .before .before .before .args .text .now) (c .before .before .before .walk-view .result) (c .before .before .before .walk-view .ensures) (c .before .if2 .left) (c .before .before .before .before .if1 .left) (c .typed .result) (c .typed .ensures)
+returns-3 c = typed-read (c .before .before .before .before .before .before .args .text .now) (c .before .before .before .walk-all .result) (c .before .before .before .walk-all .ensures) (c .before .if2 .left) (c .before .before .before .before .if1 .left) (c .typed-path .result) (c .typed-path .ensures)
 
 pub walk-path-spec : {M : Type 1} → statement M
 walk-path-spec =
@@ -27,5 +27,5 @@ walk-path-spec =
     (λ c κs. search needs)
     (λ c κs. search needs)
     returns-2
-    typed-requires
+    typed-path-requires
     returns-3)

@@ -1,6 +1,6 @@
 -- `walk_rest` meets its contract.
 -- Assumes nothing.
-use Rattle.walk_families.specs.Walked.{listed, upgrades}
+use Rattle.walk_families.specs.Flat.{listed, upgrades}
 use Rattle.walk.specs.ViewLaws.{first-part, second-part}
 use borrow.Author.Needs.{needs}
 use Rattle.walk.proofs.walk_rest.Statement.{statement}

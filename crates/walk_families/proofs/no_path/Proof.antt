@@ -1,7 +1,7 @@
 -- `no_path` meets its contract.
 -- Assumes nothing.
 use mathlib.Core.Path.{refl}
-use Rattle.walk_families.specs.Walked.{nothing}
+use Rattle.walk_families.specs.Flat.{nothing}
 use Rattle.walk_families.proofs.no_path.Statement.{statement}
 use Rattle.walk_families.proofs.no_path.Tie as tie
 

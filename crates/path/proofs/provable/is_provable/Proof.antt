@@ -8,4 +8,4 @@ use Rattle.path.proofs.provable.is_provable.Tie as tie
 pub is-provable-spec : {M : Type 1} → statement M
 is-provable-spec =
     tie.close
-    (tie.spec (λ c κs. search needs) (λ c κs. search needs) (λ c. rw (c .provable-kind .ensures, view-kind _ _ (c .before .view .ensures))))
+    (tie.spec (λ c κs. search needs) (λ c κs. search needs) (λ c. rw (c .provable-kind .ensures, view-kind _ _ _ (c .before .view .ensures))))

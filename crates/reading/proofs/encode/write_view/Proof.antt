@@ -9,8 +9,7 @@ use Rattle.reading.proofs.encode.write_view.Tie as tie
 
 returns : tie.Need-returns
 returns c =
-    let a = c .before .before .args in
-    let l = length-view (a .v) (a .exact) in
+    let l = length-view (c .before .before .args .v) in
     gives-short _ _ (omega arith)
 
 returns-2 : tie.Need-returns-2

@@ -11,27 +11,24 @@ use Rattle.path.specs.declared.Path.{Path}
 use Rattle.path.specs.declared.PathAnswer.{PathAnswer}
 use Rattle.path.specs.declared.PathAnswer.the-variants.{Found, Nothing}
 use Rattle.path.specs.declared.name.Name.the-variants.{Client, Connection, Port, Channel, Upgrade}
+use Rattle.path.specs.declared.PathView.{PathView}
 use Rattle.path.specs.Text.{nowhere}
 use Rattle.path.specs.Kinds.{Part, word, name, count, pair, Carried, carried, Kind, kind1, kind2, kind3, kind4, kind5, kind6, kind7, kind8, kind9, kind10, kind11, kind12, kind13, kind14, kind15, kind16, kind17, kind18, kind19}
 use Rattle.path.specs.Read.{renderPath}
-use Rattle.path.specs.View.{kindOf, carriedOf}
+use Rattle.path.specs.View.{kindOf, carriedOf, seen}
 use Rattle.walk_scan.specs.Tail.{Tail, none, some}
-use Rattle.walk_families.specs.declared.Walked.{Walked}
 
-unfoldable pub nothing : Walked
+unfoldable pub nothing : PathView
 nothing = record { kind = 0; exact = false; first = nowhere; second = nowhere; a = 0; b = 0 }
 
-abbrev pub read : ℕ → Carried Place → Bool → Walked
-read k v e = record { kind = k; exact = e; first = v .first; second = v .second; a = v .a; b = v .b }
-
 -- what the parts of kind k carry
-abbrev pub walked : ℕ → Tail → Walked
+abbrev pub walked : ℕ → Tail → PathView
 walked k none = nothing
-walked k (some v e) = read k v e
+walked k (some v e) = seen k e v
 
 -- a reading, flat
-abbrev pub flat : List ℕ → PathAnswer → Walked
-flat t (Found p) = read (kindOf p) (carriedOf p) (same t (renderPath t p))
+abbrev pub flat : List ℕ → PathAnswer → PathView
+flat t (Found p) = seen (kindOf p) (same t (renderPath t p)) (carriedOf p)
 flat t Nothing = nothing
 
 -- what stands after `W/ports/` in kinds 11 to 14, and in 15 to 17
