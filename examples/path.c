@@ -1,6 +1,7 @@
 /* A customer asked for clients/07-tendermint-4/consensusStates/007-2. The store has no such key: the text is a loose
- * spelling of another one. This program reads the text, asks for its key, and keeps a record under it; it is told what
- * is wrong with another text; and it reads a port in Greek and a packet key of IBC version 2. */
+ * spelling of another one. This program reads the text, asks for its key, and keeps a record under it, in a book that two
+ * networks share; it is told what is wrong with another text; it turns a book of version 1 into one of today; and it
+ * reads a port in Greek and a packet key of IBC version 2. */
 #include <inttypes.h>
 #include <stdio.h>
 #include <string.h>
@@ -72,25 +73,28 @@ static int mend_it(void) {
     return 0;
 }
 
-static void look_up(const uint8_t *book, size_t size, const char *path) {
+static void look_up(const uint8_t *book, size_t size, uint8_t owner, const char *path) {
     uint8_t value[HP_BOOK_VALUE];
-    struct hp_written held = hp_book_lookup(book, size, TEXT(path), value, sizeof value);
+    struct hp_written held = hp_book_lookup(book, size, owner, TEXT(path), value, sizeof value);
     if (held.refusal == HP_DONE) {
-        printf("lookup    %s: \"%.*s\"\n", path, (int)held.length, (const char *)value);
+        printf("lookup    by owner %d of %s: \"%.*s\"\n", owner, path, (int)held.length, (const char *)value);
     } else {
-        printf("lookup    %s: refused with %d%s\n", path, held.refusal, held.refusal == HP_ABSENT ? ", no such record" : "");
+        printf("lookup    by owner %d of %s: refused with %d%s\n", owner, path, held.refusal,
+               held.refusal == HP_ABSENT ? ", no such record" : "");
     }
 }
 
-/* Many texts in one call, by a table that is filled from the book; it is filled anew once a record comes or goes. */
-static int look_up_many(const uint8_t *book, size_t size, const char *texts) {
+/* Many texts in one call, by a table that is filled from the book; it is filled anew once a record of either owner's comes
+ * or goes. */
+static int look_up_many(const uint8_t *book, size_t size, uint8_t owner, const char *texts) {
     uint8_t table[HP_BOOK_TABLE];
     uint8_t answers[2 * HP_BOOK_ANSWER];
     uint8_t refusal = hp_book_fill(book, size, table, sizeof table);
     if (refusal != HP_DONE) {
         return refused("fill", refusal);
     }
-    struct hp_written written = hp_book_lookup_many(book, size, table, sizeof table, TEXT(texts), answers, sizeof answers);
+    struct hp_written written = hp_book_lookup_many(book, size, owner, table, sizeof table, TEXT(texts), answers,
+                                                    sizeof answers);
     if (written.refusal != HP_DONE) {
         return refused("many", written.refusal);
     }
@@ -101,28 +105,64 @@ static int look_up_many(const uint8_t *book, size_t size, const char *texts) {
 }
 
 /* Texts of one path share a record; another client, zeros and all, has its own. */
-static int keep_it(void) {
-    static uint8_t book[HP_BOOK_SIZE(2)];
-    uint8_t refusal = hp_book_new(book, sizeof book);
-    if (refusal != HP_DONE) {
-        return refused("new", refusal);
-    }
-    refusal = hp_book_write(book, sizeof book, TEXT(text), TEXT("up to 64 bytes under this key"));
+static int keep_it(uint8_t *book, size_t size) {
+    static const uint8_t owner = HP_OWNER_ONE;
+    uint8_t refusal = hp_book_write(book, size, owner, TEXT(text), TEXT("up to 64 bytes under this key"));
     printf("write     %s: refused with %d%s\n", text, refusal, refusal == HP_LOOSE ? ", not its own key" : "");
-    refusal = hp_book_write_lenient(book, sizeof book, TEXT(text), TEXT("up to 64 bytes under this key"));
+    refusal = hp_book_write_lenient(book, size, owner, TEXT(text), TEXT("up to 64 bytes under this key"));
     if (refusal != HP_DONE) {
         return refused("write", refusal);
     }
     printf("written   %s, leniently\n", text);
-    look_up(book, sizeof book, "clients/07-tendermint-4/consensusStates/7-2");
-    look_up(book, sizeof book, "clients/007-tendermint-4/consensusStates/7-2");
+    look_up(book, size, owner, "clients/07-tendermint-4/consensusStates/7-2");
+    look_up(book, size, owner, "clients/007-tendermint-4/consensusStates/7-2");
 
-    struct hp_pair oldest = hp_book_oldest(book, sizeof book, TEXT("07-tendermint-4"));
+    struct hp_pair oldest = hp_book_oldest(book, size, owner, TEXT("07-tendermint-4"));
     if (oldest.refusal != HP_DONE) {
         return refused("oldest", oldest.refusal);
     }
     printf("oldest    revision number %" PRIu64 ", height %" PRIu64 "\n", oldest.number, oldest.height);
-    return look_up_many(book, sizeof book, "clients/07-tendermint-4/consensusStates/7-2\nports/transfer\n");
+    return look_up_many(book, size, owner, "clients/07-tendermint-4/consensusStates/7-2\nports/transfer\n");
+}
+
+/* Two networks in one book: neither sees or changes the other's records, nor takes a slot of the other's quota. */
+static int share_it(void) {
+    static const char key[] = "clients/07-tendermint-4/consensusStates/7-2";
+    static uint8_t book[HP_BOOK_SIZE(3)];
+    uint8_t refusal = hp_book_new(book, sizeof book, 2, 1);
+    if (refusal != HP_DONE) {
+        return refused("new", refusal);
+    }
+    if (keep_it(book, sizeof book)) {
+        return 1;
+    }
+    look_up(book, sizeof book, HP_OWNER_TWO, key);
+    refusal = hp_book_write(book, sizeof book, HP_OWNER_TWO, TEXT(key), TEXT("of the other network"));
+    if (refusal != HP_DONE) {
+        return refused("write", refusal);
+    }
+    look_up(book, sizeof book, HP_OWNER_TWO, key);
+    look_up(book, sizeof book, HP_OWNER_ONE, key);
+    refusal = hp_book_write(book, sizeof book, HP_OWNER_TWO, TEXT("ports/transfer"), TEXT("one more"));
+    printf("write     by owner 2 of ports/transfer: refused with %d%s\n", refusal,
+           refusal == HP_FULL ? ", its quota is full" : "");
+    return 0;
+}
+
+/* An older book is converted version by version, and all of its records are then owner 1's. */
+static int convert_it(void) {
+    static uint8_t old[8 + 288] = {'H', 'P', 'B', 0, 1, 0, 1, 0, 8, 'p', 'o', 'r', 't', 's', '/', 'a', 'b'};
+    static uint8_t between[HP_BOOK_2_SIZE(1)], book[HP_BOOK_SIZE(1)];
+    memset(old + 8 + 1 + HP_BOOK_KEY, '.', 32);
+    uint8_t refusal = hp_book_convert(old, sizeof old, between, sizeof between);
+    if (refusal == HP_DONE) {
+        refusal = hp_book_convert_owners(between, sizeof between, book, sizeof book, 1, 0);
+    }
+    if (refusal != HP_DONE) {
+        return refused("convert", refusal);
+    }
+    look_up(book, sizeof book, HP_OWNER_ONE, "ports/ab");
+    return 0;
 }
 
 /* A network that names its ports in Greek: the wide calls take what the plain ones refuse. */
@@ -156,5 +196,5 @@ static int key_packet(void) {
 }
 
 int main(void) {
-    return read_it() || mend_it() || keep_it() || read_greek() || key_packet();
+    return read_it() || mend_it() || share_it() || convert_it() || read_greek() || key_packet();
 }

@@ -26,7 +26,7 @@ static const char *const texts[] = {
     "ports/\316\264\317\215\316\277", "\316\264\317\215\316\277\316\264\317\215\316\277-0", "\346\227\245\346\234\254\350\252\236",
     "\360\237\230\200", "\316\264/5/upgradedClient"};
 static uint8_t longest[HP_PATH_MOST + 1];
-static uint8_t book[HP_BOOK_SIZE(SLOTS)], old[HP_BOOK_HEAD + 288 * SLOTS], newer[HP_BOOK_SIZE(SLOTS)];
+static uint8_t book[HP_BOOK_SIZE(SLOTS)], old[8 + 288 * SLOTS], newer[HP_BOOK_2_SIZE(SLOTS)], newest[HP_BOOK_SIZE(SLOTS)];
 static uint8_t table[HP_BOOK_TABLE], out[HP_PATH_MOST], many[SLOTS * HP_BOOK_ANSWER];
 static uint8_t key[HP_ITERATION_KEY], block[2 * HP_ITERATION_KEY];
 
@@ -67,18 +67,21 @@ static void calls_on_two(const uint8_t *t, size_t n, const uint8_t *u, size_t m)
     CALLS_ON_TWO(hp_wide, t, n, u, m);
 }
 
+/* By each owner, and by numbers that are none. */
 static void calls_on_books(const uint8_t *t, size_t n) {
-    hp_book_write(book, sizeof book, t, n, (const uint8_t *)"value", 5);
-    hp_book_write_lenient(book, sizeof book, t, n, (const uint8_t *)"value", 5);
-    hp_book_lookup(book, sizeof book, t, n, out, sizeof out);
-    hp_book_lookup_lenient(book, sizeof book, t, n, out, sizeof out);
-    hp_book_oldest(book, sizeof book, t, n);
-    hp_book_fill(book, sizeof book, table, sizeof table);
-    hp_book_lookup_many(book, sizeof book, table, sizeof table, t, n, many, sizeof many);
-    if (n % 2) {
-        hp_book_remove(book, sizeof book, t, n);
-    } else {
-        hp_book_remove_lenient(book, sizeof book, t, n);
+    for (uint8_t owner = 0; owner <= 3; owner++) {
+        hp_book_write(book, sizeof book, owner, t, n, (const uint8_t *)"value", 5);
+        hp_book_write_lenient(book, sizeof book, owner, t, n, (const uint8_t *)"value", 5);
+        hp_book_lookup(book, sizeof book, owner, t, n, out, sizeof out);
+        hp_book_lookup_lenient(book, sizeof book, owner, t, n, out, sizeof out);
+        hp_book_oldest(book, sizeof book, owner, t, n);
+        hp_book_fill(book, sizeof book, table, sizeof table);
+        hp_book_lookup_many(book, sizeof book, owner, table, sizeof table, t, n, many, sizeof many);
+        if (n % 2) {
+            hp_book_remove(book, sizeof book, owner, t, n);
+        } else {
+            hp_book_remove_lenient(book, sizeof book, owner, t, n);
+        }
     }
 }
 
@@ -107,13 +110,14 @@ static void other_calls(void) {
     hp_receipt_prefix(out, sizeof out);
     memcpy(old, "HPB\0\1\0\0\0", 8);
     hp_book_convert(old, sizeof old, newer, sizeof newer);
+    hp_book_convert_owners(newer, sizeof newer, newest, sizeof newest, SLOTS, 0);
 }
 
 static void nothing(void) {
 }
 
 static void all_calls(void) {
-    hp_book_new(book, sizeof book);
+    hp_book_new(book, sizeof book, SLOTS / 2, SLOTS / 2);
     for (size_t i = 0; i < TEXTS; i++) {
         const uint8_t *t = (const uint8_t *)texts[i];
         calls_on(t, strlen(texts[i]));

@@ -96,8 +96,10 @@ enum {
     HP_LEAF_MOST = 73,          /* hp_consensus_state_leaf, hp_update_time_leaf, hp_update_height_leaf */
     HP_PACKETS_PATH_MOST = 230, /* hp_commitments_path, hp_acks_path, hp_receipts_path */
     HP_REFUSAL_MOST = 128,      /* hp_refusal_text */
-    HP_BOOK_HEAD = 8,           /* what stands before a book's slots */
-    HP_BOOK_SLOT = 321,         /* a slot: HP_BOOK_KEY, HP_BOOK_VALUE and the lengths of both */
+    HP_BOOK_HEAD = 12,          /* what stands before a book's slots */
+    HP_BOOK_SLOT = 322,         /* a slot: the owner, HP_BOOK_KEY, HP_BOOK_VALUE and the lengths of both */
+    HP_BOOK_2_HEAD = 8,         /* what stands before the slots of a book of version 2 */
+    HP_BOOK_2_SLOT = 321,       /* a slot of version 2 */
     HP_BOOK_KEY = 255,          /* the longest key */
     HP_BOOK_VALUE = 64,         /* the longest value; the shortest has one byte: hp_book_lookup */
     HP_BOOK_MOST = 200,         /* the slots of the largest book; the smallest has one */
@@ -118,14 +120,25 @@ enum hp_reading_at {
     HP_AT_B = 18             /* 8 bytes: the second */
 };
 
-/* A book of so many slots is a buffer of this size.
- * Header: `HPB`, version 2 and the count of records in 2 bytes each, high byte first, and a zero byte.
- * Slot: the key's length, 1 byte; the key, HP_BOOK_KEY bytes, zero filled; the value's length, 1 byte; the
- * value, HP_BOOK_VALUE bytes, zero filled. Used slots come first, in strictly rising byte order of key, and
- * the others are all zero. A key is the rendering of a path. Any other buffer is no book, and every call but
- * hp_book_new looks. In version 1, which hp_book_convert alone takes, a slot of 288 bytes has a value of 32
- * behind the key and no value's length. */
+/* The two owners of a book's records. */
+enum hp_owner {
+    HP_OWNER_ONE = 1,
+    HP_OWNER_TWO = 2
+};
+
+/* A book of so many slots is a buffer of this size. Each of its two owners has a quota of the slots.
+ * Header: `HPB`, version 3 and the count of records in 2 bytes each, high byte first, and a zero byte; then the quotas of
+ * owner 1 and of owner 2, 2 bytes each, which sum to no more than the slots.
+ * Slot: the owner, 1 byte; the key's length, 1 byte; the key, HP_BOOK_KEY bytes, zero filled; the value's length, 1 byte;
+ * the value, HP_BOOK_VALUE bytes, zero filled. Used slots come first, owner 1's ahead of owner 2's, and each owner's in
+ * strictly rising byte order of key, no more than its quota; the others are all zero. A key is the rendering of a path. Any
+ * other buffer is no book, and every call but hp_book_new looks. */
 #define HP_BOOK_SIZE(slots) (HP_BOOK_HEAD + HP_BOOK_SLOT * (slots))
+
+/* Older books are only converted. In version 2, which hp_book_convert_owners takes, the header has no quotas and a slot no
+ * owner; a book of that version has this size. In version 1, which hp_book_convert takes and turns into version 2, a
+ * slot of 288 bytes has a value of 32 behind the key and no value's length. */
+#define HP_BOOK_2_SIZE(slots) (HP_BOOK_2_HEAD + HP_BOOK_2_SLOT * (slots))
 
 /* Why a call was refused, and what to do about it. */
 enum hp_refusal {
@@ -145,11 +158,11 @@ enum hp_refusal {
     HP_BAD_LENGTH = 6,
     /* the identifier is not its name, a dash and a number without leading zeros: write it as in channel-7 */
     HP_BAD_PREFIX = 7,
-    /* the buffer holds no book of the version that the call takes: make a new one in it, or convert a book of version 1 */
+    /* the buffer holds no book of the version that the call takes: make a new one in it, or convert an older one */
     HP_BAD_BOOK = 9,
     /* the path's key has more than the 255 bytes that a book keeps: shorten its upgrade path */
     HP_KEY_TOO_LONG = 10,
-    /* every slot of the book holds another key: remove a record, or take a book of more slots */
+    /* the quota has no room for another record, or the book for such quotas: remove a record, or take other quotas */
     HP_FULL = 11,
     /* the book holds no such record, or the block no such key: ask for the key of the text to see which record was looked for */
     HP_ABSENT = 12,
@@ -173,6 +186,8 @@ enum hp_refusal {
     HP_BAD_UTF8 = 21,
     /* the table is not the 512 numbers that filling it from this book gives: fill it again */
     HP_BAD_TABLE = 22,
+    /* the owner is neither 1 nor 2: give the number of the network that the record belongs to */
+    HP_BAD_OWNER = 23,
     /* the bytes are not a client, a marker of 1, 2 or 3 and 8 more, or the kind is not one of these: give a whole packet key */
     HP_BAD_V2_KEY = 24
     /* Above, made by bin/interface. */
@@ -335,34 +350,39 @@ struct hp_written hp_wide_receipts_path(const uint8_t *port, size_t port_len, co
 
 /* Books. */
 
-/* Makes the buffer, whatever it holds, a book of version 2 without records; its size alone is looked at: 9. */
-uint8_t hp_book_new(uint8_t *book, size_t book_len);
-/* The text, which is its own rendering, holds the value from now on, anew or in place of what it held:
- * 9, 1, 2, 3 (17, 18, 19), 20, 10, 6, 11. */
-uint8_t hp_book_write(uint8_t *book, size_t book_len, const uint8_t *text, size_t text_len, const uint8_t *value, size_t value_len);
-/* The text, which is its own rendering, holds nothing from now on: 9, 1, 2, 3 (17, 18, 19), 20, 10, 12. */
-uint8_t hp_book_remove(uint8_t *book, size_t book_len, const uint8_t *text, size_t text_len);
-/* What the text, which is its own rendering, holds, 1 to 64 bytes; wants room for 64 whatever it holds:
- * 9, 1, 2, 3 (17, 18, 19), 20, 10, 4, 12. */
-struct hp_written hp_book_lookup(const uint8_t *book, size_t book_len, const uint8_t *text, size_t text_len, uint8_t *out, size_t out_len);
-/* As hp_book_write, on the rendering of the text, for importers that pad their heights: 9, 1, 2, 3 (17, 18, 19), 10, 6, 11. */
-uint8_t hp_book_write_lenient(uint8_t *book, size_t book_len, const uint8_t *text, size_t text_len, const uint8_t *value, size_t value_len);
-/* As hp_book_remove, on the rendering of the text, for importers that pad their heights: 9, 1, 2, 3 (17, 18, 19), 10, 12. */
-uint8_t hp_book_remove_lenient(uint8_t *book, size_t book_len, const uint8_t *text, size_t text_len);
-/* As hp_book_lookup, on the rendering of the text, for importers that pad their heights: 9, 1, 2, 3 (17, 18, 19), 10, 4, 12. */
-struct hp_written hp_book_lookup_lenient(const uint8_t *book, size_t book_len, const uint8_t *text, size_t text_len, uint8_t *out, size_t out_len);
-/* The smallest pair of revision number and height among the client's records `clients/C/consensusStates/R-h`: 9, the
- * client's 2, 5, 6; then 12. */
-struct hp_pair hp_book_oldest(const uint8_t *book, size_t book_len, const uint8_t *client, size_t client_len);
+/* Makes the buffer, whatever it holds, a book of version 3 without records, in which owner 1 may have quota1 of them and owner 2
+ * quota2; its size alone is looked at: 9, then 11 where the quotas sum to more than its slots. */
+uint8_t hp_book_new(uint8_t *book, size_t book_len, uint16_t quota1, uint16_t quota2);
+/* The owner's text, which is its own rendering, holds the value from now on, anew or in place of what it held:
+ * 9, 23, 1, 2, 3 (17, 18, 19), 20, 10, 6, then 11 where it is new and the owner has as many records as its quota. */
+uint8_t hp_book_write(uint8_t *book, size_t book_len, uint8_t owner, const uint8_t *text, size_t text_len, const uint8_t *value, size_t value_len);
+/* The owner's text, which is its own rendering, holds nothing from now on: 9, 23, 1, 2, 3 (17, 18, 19), 20, 10, 12. */
+uint8_t hp_book_remove(uint8_t *book, size_t book_len, uint8_t owner, const uint8_t *text, size_t text_len);
+/* What the owner's text, which is its own rendering, holds, 1 to 64 bytes; wants room for 64 whatever it holds:
+ * 9, 23, 1, 2, 3 (17, 18, 19), 20, 10, 4, 12. */
+struct hp_written hp_book_lookup(const uint8_t *book, size_t book_len, uint8_t owner, const uint8_t *text, size_t text_len, uint8_t *out, size_t out_len);
+/* As hp_book_write, on the rendering of the text, for importers that pad their heights: 9, 23, 1, 2, 3 (17, 18, 19), 10, 6, 11. */
+uint8_t hp_book_write_lenient(uint8_t *book, size_t book_len, uint8_t owner, const uint8_t *text, size_t text_len, const uint8_t *value, size_t value_len);
+/* As hp_book_remove, on the rendering of the text, for importers that pad their heights: 9, 23, 1, 2, 3 (17, 18, 19), 10, 12. */
+uint8_t hp_book_remove_lenient(uint8_t *book, size_t book_len, uint8_t owner, const uint8_t *text, size_t text_len);
+/* As hp_book_lookup, on the rendering of the text, for importers that pad their heights: 9, 23, 1, 2, 3 (17, 18, 19), 10, 4, 12. */
+struct hp_written hp_book_lookup_lenient(const uint8_t *book, size_t book_len, uint8_t owner, const uint8_t *text, size_t text_len, uint8_t *out, size_t out_len);
+/* The smallest pair of revision number and height among the client's records `clients/C/consensusStates/R-h` of that owner: 9, 23,
+ * the client's 2, 5, 6; then 12. */
+struct hp_pair hp_book_oldest(const uint8_t *book, size_t book_len, uint8_t owner, const uint8_t *client, size_t client_len);
 /* Makes the second buffer, whatever it holds, the book of version 2 that has the slots and the records of `old`, a book
  * of version 1: 9 where that is none, then 4 where the second buffer is not of that book's size. */
 uint8_t hp_book_convert(const uint8_t *old, size_t old_len, uint8_t *book, size_t book_len);
-/* Fills the first 512 bytes of the table with the buckets by which the book's records are found: 9, 4. */
+/* Makes the second buffer, whatever it holds, the book of version 3 that has the slots and the records of `old`, a book of
+ * version 2, all of them owner 1's: 9 where that is none, then 4 where the second buffer is not of that book's size, then 11
+ * where the quotas sum to more than its slots, or there are more records than the first quota. */
+uint8_t hp_book_convert_owners(const uint8_t *old, size_t old_len, uint8_t *book, size_t book_len, uint16_t quota1, uint16_t quota2);
+/* Fills the first 512 bytes of the table with the buckets by which the book's records, of both owners, are found: 9, 4. */
 uint8_t hp_book_fill(const uint8_t *book, size_t book_len, uint8_t *table, size_t table_len);
-/* What hp_book_lookup gives for each text of `texts`, which byte 10 ends, by a table of 512 bytes that was filled from this book
+/* What hp_book_lookup gives the owner for each text of `texts`, which byte 10 ends, by a table of 512 bytes that was filled from this book
  * as it is now: 66 bytes a text, its refusal number, the length of its value, and the value filled with zeros to 64. Bytes after
- * the last 10 are a text if there are any: 9, 22, 4. */
-struct hp_written hp_book_lookup_many(const uint8_t *book, size_t book_len, const uint8_t *table, size_t table_len, const uint8_t *texts, size_t texts_len, uint8_t *out, size_t out_len);
+ * the last 10 are a text if there are any: 9, 23, 22, 4. */
+struct hp_written hp_book_lookup_many(const uint8_t *book, size_t book_len, uint8_t owner, const uint8_t *table, size_t table_len, const uint8_t *texts, size_t texts_len, uint8_t *out, size_t out_len);
 
 /* What refusals mean. */
 

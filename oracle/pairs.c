@@ -37,11 +37,11 @@ struct hp_packet hp_v2_read(const uint8_t *key, size_t key_len) {
     return answer;
 }
 
-void inner_hp_book_oldest(struct hp_pair *answer, const uint8_t *book, size_t book_len, const uint8_t *client, size_t client_len);
+void inner_hp_book_oldest(struct hp_pair *answer, const uint8_t *book, size_t book_len, uint8_t owner, const uint8_t *client, size_t client_len);
 
-struct hp_pair hp_book_oldest(const uint8_t *book, size_t book_len, const uint8_t *client, size_t client_len) {
+struct hp_pair hp_book_oldest(const uint8_t *book, size_t book_len, uint8_t owner, const uint8_t *client, size_t client_len) {
     struct hp_pair answer;
-    inner_hp_book_oldest(&answer, book, book_len, client, client_len);
+    inner_hp_book_oldest(&answer, book, book_len, owner, client, client_len);
     return answer;
 }
 /* Above, made by bin/interface. */

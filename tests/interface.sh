@@ -49,8 +49,8 @@ refuses include/hostpath.h '/^struct hp_pair {/s/number\(.*\)height/height\1numb
 refuses crates/text/src/refusal.rt 's/ABSENT: u8 = 12/ABSENT: u8 = 15/' rust/hostpath/src/refusal.rs
 refuses crates/text/src/refusal.rt '/^pub const FULL_SAYS: /,/";$/d' 'no sentence says what FULL is'
 refuses crates/text/src/refusal.rt '/^pub const FULL: /d' 'a sentence is of no refusal'
-refuses crates/text/src/refusal.rt 's/every slot of the book/each slot of the book/' include/hostpath.h
-refuses rust/hostpath/src/refusal.rs 's/=> "every slot of the book/=> "each slot of the book/' rust/hostpath/src/refusal.rs
+refuses crates/text/src/refusal.rt 's/the quota has no room/a quota has no room/' include/hostpath.h
+refuses rust/hostpath/src/refusal.rs 's/=> "the quota has no room/=> "a quota has no room/' rust/hostpath/src/refusal.rs
 # the version
 for file in include/hostpath.h bin/askpath; do
     refuses rust/hostpath/Cargo.toml 's/^version = .*/version = "9.9.9"/' "$file"

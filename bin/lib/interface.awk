@@ -93,7 +93,7 @@ function take(    n, inner, parts, i) {
         name[n, i] = type[n, i] = parts[i]
         sub(/: .*/, "", name[n, i])
         sub(/.*: /, "", type[n, i])
-        if (type[n, i] !~ /^(u8|u64|&\[u8\]|&mut \[u8\])$/) fault("hp_" call[n] " takes a " type[n, i])
+        if (type[n, i] !~ /^(u8|u16|u64|&\[u8\]|&mut \[u8\])$/) fault("hp_" call[n] " takes a " type[n, i])
     }
 }
 
@@ -245,6 +245,7 @@ function of_call(what, n) {
 
 function c_type(rust) {
     if (rust == "u8") return "uint8_t"
+    if (rust == "u16") return "uint16_t"
     if (rust == "u64") return "uint64_t"
     return "struct hp_" tolower(rust)
 }
@@ -284,7 +285,7 @@ function rust_arguments(n, how,    i, all, id, mut) {
     return all
 }
 
-# Whether it takes a number of one byte: a kind, or that of a refusal.
+# Whether it takes a number of one byte: a kind, an owner, or that of a refusal.
 function numbered(n,    i) {
     for (i = 1; i <= count[n]; i++) if (type[n, i] == "u8") return "true"
     return "false"
@@ -310,6 +311,7 @@ function from_call(n,    i, all, texts, numbers) {
     for (i = 1; i <= count[n]; i++) {
         all = all (i > 1 ? ", " : "")
         if (type[n, i] == "u64") all = all "numbers[" (numbers++) "]"
+        else if (type[n, i] == "u16") all = all "numbers[" (numbers++) "] as u16"
         else if (type[n, i] == "u8") all = all "kind"
         else if (type[n, i] == "&[u8]" && name[n, i] != "book") all = all "texts[" (texts++) "]"
         else if (fills(n, i)) all = all "out"

@@ -3,23 +3,23 @@
 use mathlib.Core.Path.{_≡_, refl, sym, ap, _∙_}
 use mathlib.Core.List.{List, [], _∷_, _++_}
 use mathlib.Core.Option.{some}
-use Prim.Native.Nat.{ℕ, zero, suc, _+_, _*_, _-_, _<_, _≤_}
+use Prim.Native.Nat.{ℕ, zero, suc, _+_, _*_, _-_, _≤_}
 use native.Mathlib.Omega.{arith}
 use lib.ListN.{length, take, drop, getElem?, take-append-drop}
 use lib.Seq.{drop-at, length-take-le}
 use Rattle.text.specs.PlaceLaws.{at-lt, drop-place}
 use Rattle.book_records.specs.Act.{Rec}
 use Rattle.book_form.specs.Form.{Form, AllFit, slots, layout, zeros, place, keyAt}
-use Rattle.book_form.specs.FormLaws.{Lawful, layout-parted, length-before, length-layout, layout-inj, fit-take, place-up, place-back}
+use Rattle.book_form.specs.FormLaws.{Lawful, few, layout-parted, length-before, length-layout, layout-inj, fit-take, place-up, place-back}
 use Rattle.book.specs.declared.check.BookAnswer.{BookAnswer}
 use Rattle.book.specs.declared.check.BookAnswer.the-variants.{Count, Nothing}
-use Rattle.book_form.specs.declared.Version.the-variants.{Two}
+use Rattle.book_form.specs.declared.Version.the-variants.{Three}
 use Rattle.book_form.specs.VersionLaws.{version-lawful}
 use Rattle.book.specs.Book.{Current, Book, Counts, Judged}
 
 -- the form that the calls take is lawful
 pub lawful : Lawful Current
-lawful = version-lawful Two
+lawful = version-lawful Three
 
 pub parted : (s : List Rec) (j : ℕ) (r : Rec) → getElem? s j ≡ some r → s ≡ take j s ++ r ∷ drop (suc j) s
 parted s j r e = sym (take-append-drop j s) ∙ ap (λ (l : List Rec). take j s ++ l) (drop-place s j r e)
@@ -31,8 +31,12 @@ module _ (F : Form) where
   fit-at (q ∷ s) (suc i) r h e = fit-at s i r (h .1) e
 
 module _ (F : Form) (L : Lawful F) where
+  -- there are no more records than slots
+  pub few-records : (b : List ℕ) (x : Book F b) → length (x .records) ≤ x .slots
+  few-records b x = few F L (x .slots) (x .extra) (x .records) (x .exact) (x .quotas) (x .within)
+
   pub size-is : (b : List ℕ) (x : Book F b) → length b ≡ place F (x .slots)
-  size-is b x = ap length (x .bytes) ∙ length-layout F L (x .slots) (x .extra) (x .records) (x .fit) (x .few)
+  size-is b x = ap length (x .bytes) ∙ length-layout F L (x .slots) (x .extra) (x .records) (x .fit) (few-records b x)
 
   -- the bytes tell the number of slots, what the header says, and the records
   pub one-book : (b : List ℕ) (x y : Book F b) → (x .slots ≡ y .slots) × (x .extra ≡ y .extra) × (x .records ≡ y .records)
@@ -63,7 +67,7 @@ module _ (F : Form) (L : Lawful F) where
   pub sizes : (b : List ℕ) (n : ℕ) (h : Counts F b n) → Sizes b n (h .0)
   sizes b n h =
       let x = h .0 in
-      let f : n ≤ x .slots = omega (arith, x .few, h .1) in
+      let f : n ≤ x .slots = omega (arith, few-records b x, h .1) in
       record { bytes = size-is b x; few = f; most = omega (arith, x .most); used = omega (arith, size-is b x, place-up F L n (x .slots) f) }
 
   -- a slot of a book, and the record in it

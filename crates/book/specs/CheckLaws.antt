@@ -17,13 +17,12 @@ use Rattle.text.specs.PlaceLaws.{at-some, at-lt}
 use Rattle.book_records.specs.Records.{Sorted}
 use Rattle.book_records.specs.RecordLaws.{after-trans}
 use Rattle.book_records.specs.Act.{Rec}
-use Rattle.book_records.specs.Calls.{Exact}
-use Rattle.book_form.specs.Form.{Form, AllFit, slots, layout, zeros, place, keyAt, SlotOk}
+use Rattle.book_form.specs.Form.{Form, AllFit, AllExact, Within, slots, layout, zeros, place, keyAt, SlotOk}
 use Rattle.book_form.specs.FormLaws.{Lawful, length-before, place-up, blank-zeros, zeros-blank}
 use Rattle.book_form.specs.Tells.{Tells}
-use Rattle.book.specs.Book.{Book, AllExact, Counts}
-use Rattle.book.specs.BookLaws.{fit-at, size-is, slot-there, record-is, key-is}
-use Rattle.book.specs.Check.{Frame, Framed, SlotGood, SlotsGood, Rises, Rising}
+use Rattle.book.specs.Book.{Book, Counts}
+use Rattle.book.specs.BookLaws.{fit-at, few-records, size-is, slot-there, record-is, key-is}
+use Rattle.book.specs.Check.{Frame, Framed, SlotsGood, Rising}
 use Rattle.book.specs.declared.check.BookAnswer.{BookAnswer}
 use Rattle.book.specs.declared.check.BookAnswer.the-variants.{Count}
 
@@ -46,16 +45,16 @@ sorted-next (a ∷ b ∷ s) h zero r q e f =
     rw (← p, ← o) (h .0 .0)
 sorted-next (a ∷ b ∷ s) h (suc i) r q e f = sorted-next (b ∷ s) (h .1) i r q e f
 
-exact-by : (s : List Rec) → ((i : ℕ) (r : Rec) → getElem? s i ≡ some r → Exact (r .0)) → AllExact s
-exact-by [] h = tt
-exact-by (r ∷ s) h = (h 0 r refl, exact-by s (λ i q e. h (suc i) q e))
-
-pub exact-at : (s : List Rec) (i : ℕ) (r : Rec) → AllExact s → getElem? s i ≡ some r → Exact (r .0)
-exact-at [] i r h e = absurd (let z : _≡_ {A = ℕ} 0 1 = cc in let y : ⊥ = omega arith in y)
-exact-at (q ∷ s) zero r h e = let p : q ≡ r = cc in rw p at (h .0)
-exact-at (q ∷ s) (suc i) r h e = exact-at s i r (h .1) e
-
 module _ (F : Form) where
+  exact-by : (s : List Rec) → ((i : ℕ) (r : Rec) → getElem? s i ≡ some r → F .Exact (r .0)) → AllExact F s
+  exact-by [] h = tt
+  exact-by (r ∷ s) h = (h 0 r refl, exact-by s (λ i q e. h (suc i) q e))
+
+  pub exact-at : (s : List Rec) (i : ℕ) (r : Rec) → AllExact F s → getElem? s i ≡ some r → F .Exact (r .0)
+  exact-at [] i r h e = absurd (let z : _≡_ {A = ℕ} 0 1 = cc in let y : ⊥ = omega arith in y)
+  exact-at (q ∷ s) zero r h e = let p : q ≡ r = cc in rw p at (h .0)
+  exact-at (q ∷ s) (suc i) r h e = exact-at s i r (h .1) e
+
   -- the records of the first n slots
   unfoldable records : ℕ → List ℕ → List Rec
   records zero x = []
@@ -99,10 +98,14 @@ module _ (F : Form) where
       (ok .fit, fits n (drop (F .width) x) (λ i l. rw (shifted i x) (h (suc i) (omega arith))))
 
   -- ---- what is checked is a book
-  pub to-book : (b : List ℕ) (n : ℕ) → Frame F b n → SlotsGood F b n → Rising F b n → every (λ x. eqb x 0) (drop (place F n) b) ≡ true → Counts F b n
+  -- no owner is above its quota, whatever records have the keys of the first n slots
+  abbrev pub WithinBy : (b : List ℕ) (n : ℕ) → Frame F b n → Type 0
+  WithinBy b n c = (s : List Rec) → length s ≡ n → ((i : ℕ) (r : Rec) → getElem? s i ≡ some r → keyAt F b i ≡ r .0) → Within F (c .room) (c .extra) s
+
+  pub to-book : (b : List ℕ) (n : ℕ) (c : Frame F b n) → SlotsGood F b n → Rising F b n → WithinBy b n c → every (λ x. eqb x 0) (drop (place F n) b) ≡ true → Counts F b n
   unfolding layout
-  to-book b n c good order blank =
-      (record { slots = C; extra = c .extra; records = s; least = c .sized .least; most = c .sized .most; fit = fits n y ok; exact = exact-by s keys; sorted = sorted-by-next s next; few = omega (arith, len, c .few); bytes = bytes }, len)
+  to-book b n c good order within blank =
+      (record { slots = C; extra = c .extra; records = s; least = c .sized .least; most = c .sized .most; fit = fits n y ok; exact = exact-by s keys; sorted = sorted-by-next s next; quotas = c .quotas; within = within s len (λ i r e. here i r (omega (arith, at-lt s i r e, len)) e); bytes = bytes }, len)
     where
       C : ℕ
       C = c .room
@@ -127,7 +130,7 @@ module _ (F : Form) where
           let er : F .recordOf (drop (place F i) b) ≡ r = let z = rw (same i) at (record-at n y i l) in cc in
           ap (λ (q : Rec). q .0) er
 
-      keys : (i : ℕ) (r : Rec) → getElem? s i ≡ some r → Exact (r .0)
+      keys : (i : ℕ) (r : Rec) → getElem? s i ≡ some r → F .Exact (r .0)
       keys i r e =
           let l : i < n = omega (arith, at-lt s i r e, len) in
           rw (here i r l e) at (good i l .exact)
@@ -169,7 +172,8 @@ module _ (F : Form) (L : Lawful F) (b : List ℕ) (x : Book F b) where
         room = x .slots;
         extra = x .extra;
         sized = record { least = x .least; most = x .most; size = size-is F L b x };
-        few = x .few;
+        few = few-records F L b x;
+        quotas = x .quotas;
         front = front-is;
       }
 
@@ -184,10 +188,10 @@ module _ (F : Form) (L : Lawful F) (b : List ℕ) (x : Book F b) where
           bytes = ap (λ (l : List ℕ). take (F .width) l) (t .1) ∙ take-at (F .slot r) (t .0) (F .width) (L .slot-length r f) ∙ ap (F .slot) (sym (record-is F L b x i r e));
           fit = rw (record-is F L b x i r e) f;
         };
-        exact = rw (key-is F L b x i r e) (exact-at s i r (x .exact) e);
+        exact = rw (key-is F L b x i r e) (exact-at F s i r (x .exact) e);
       }
 
-  book-rising : Rising F b (length s)
+  pub book-rising : Rising F b (length s)
   book-rising i h =
       let l : i < length s = omega arith in
       let k : suc i < length s = omega arith in
@@ -211,20 +215,23 @@ pub framed : {F : Form} {b : List ℕ} {r : BookAnswer} {n : ℕ} → Framed F b
 framed h e = rw e at h
 
 module _ (F : Form) (L : Lawful F) (b : List ℕ) (n : ℕ) (f : Frame F b n) where
-  count-is : (x : Book F b) → length (x .records) ≡ n
-  count-is x = L .header-inj (x .extra) (f .extra) (length (x .records)) n (sym (front-is F L b x) ∙ f .front) .1
+  pub records-are : (x : Book F b) → length (x .records) ≡ n
+  records-are x = L .header-inj (x .extra) (f .extra) (length (x .records)) n (sym (front-is F L b x) ∙ f .front) .1
 
   pub frame-room : (n ≤ 200) × (place F n ≤ length b)
   frame-room = omega (arith, f .sized, f .few, place-up F L n (f .room) (f .few))
 
+  pub frame-head : F .head ≤ length b
+  frame-head = omega (arith, f .sized .size)
+
   pub no-good : (r : Bool) → Tells r (SlotsGood F b n) → r ≡ false → Book F b → ⊥
-  no-good r t e x = t .fails e (rw (count-is x) at (book-good F L b x))
+  no-good r t e x = t .fails e (rw (records-are x) at (book-good F L b x))
 
   pub no-rising : (r : Bool) → Tells r (Rising F b n) → r ≡ false → Book F b → ⊥
-  no-rising r t e x = t .fails e (rw (count-is x) at (book-rising F L b x))
+  no-rising r t e x = t .fails e (rw (records-are x) at (book-rising F L b x))
 
   pub no-rest : (r : Bool) → r ≡ every (λ v. eqb v 0) (drop (place F n) b) → r ≡ false → Book F b → ⊥
   no-rest r t e x =
-      let g : every (λ v. eqb v 0) (drop (place F n) b) ≡ true = rw (count-is x) at (book-rest F L b x) in
+      let g : every (λ v. eqb v 0) (drop (place F n) b) ≡ true = rw (records-are x) at (book-rest F L b x) in
       let z : _≡_ {A = ℕ} 0 1 = cc in
       omega arith

@@ -1,11 +1,13 @@
 -- Where a key stands in a book, and what calls on it come to.
 -- Assumes nothing.
 use mathlib.Core.Path.{_≡_, refl, sym, ap, _∙_}
+use mathlib.Core.Bool.{true, false}
 use mathlib.Core.List.{List, _∷_, _++_}
 use mathlib.Core.Option.{none, some}
-use Prim.Native.Nat.{ℕ, zero, suc, _+_, _*_, _-_, _<_, _≤_, Ordering, Ordering·lt, Ordering·eq, Ordering·gt}
+use Prim.Native.Nat.{ℕ, suc, _+_, _-_, _<_, _≤_, Ordering, Ordering·lt, Ordering·eq, Ordering·gt}
 use native.Mathlib.Decide.{decLt}
 use native.Mathlib.Omega.{arith}
+use borrow.Author.Tests.{eqb-false}
 use lib.ListN.{length, take, drop, getElem?, length-append, take-append-drop, drop-of-length-le}
 use lib.Seq.{length-take-le}
 use Rattle.text.specs.Order.{cmp, Before}
@@ -16,16 +18,16 @@ use Rattle.text.specs.Put as buffer
 use Rattle.book_records.specs.Records.{get, del, After}
 use Rattle.book_records.specs.Records as records
 use Rattle.book_records.specs.SplitLaws.{AllBefore, put-between, put-over, get-between, get-over, del-over, sorted-at, sorted-drop, after-head, before-take}
-use Rattle.book_records.specs.Act.{Meaning, refuses, writes, removes, looks, says, done, gives, Rec}
+use Rattle.book_records.specs.Act.{Meaning, refuses, writes, removes, looks, says, done, gives, Rec, countBy}
+use Rattle.book_records.specs.Calls.{isOwner}
 use Rattle.book_form.specs.Form.{Form, AllFit, layout, place, keyAt, inserted, removed}
-use Rattle.book_form.specs.FormLaws.{Lawful, layout-inserted, layout-replaced, layout-removed, fit-take, fit-drop}
+use Rattle.book_form.specs.FormLaws.{Lawful, fewer, layout-inserted, layout-replaced, layout-removed, fit-take, fit-drop}
 use Rattle.book_form.specs.Compare.{code}
-use Rattle.book.specs.Book.{Book, Counts}
-use Rattle.book.specs.BookLaws.{parted, sizes, record-is, key-is}
+use Rattle.book.specs.Book.{Book, Counts, fullIn}
+use Rattle.book.specs.BookLaws.{parted, few-records, sizes, record-is, key-is}
 use Rattle.book.specs.Find.{Placed, Spotted}
 use Rattle.book.specs.Outcome.{Changed, Found}
 use Rattle.book.specs.WayLaws.{way-refused, way-replaced, way-added, way-full, way-removed, way-absent, way-found, way-not-found}
-use Rattle.book.specs.declared.find.Spot.{Spot}
 use Rattle.book.specs.declared.find.Spot.the-variants.{Taken, Free}
 
 -- what a comparison's number says
@@ -152,7 +154,7 @@ module _ (F : Form) (L : Lawful F) (b k : List ℕ) (x : Book F b) (p : ℕ) (pl
         let bs : b ≡ layout F C (x .extra) (take p s ++ y ∷ d) = x .bytes ∙ ap (layout F C (x .extra)) es in
         let lm : length (take p s ++ d) ≡ m = omega (arith, ap length es, length-append (take p s) (y ∷ d), length-append (take p s) d) in
         let i : removed F (x .extra) p m (layout F C (x .extra) (take p s ++ y ∷ d)) ≡ layout F C (x .extra) (take p s ++ d) =
-        rw (lp, lm) at (layout-removed F L C (x .extra) (take p s) y d (fit-take F L p s (x .fit)) (fy .0) (fy .1) (omega (arith, lm, x .few))) in
+        rw (lp, lm) at (layout-removed F L C (x .extra) (take p s) y d (fit-take F L p s (x .fit)) (fy .0) (fy .1) (omega (arith, lm, few-records F L b x))) in
         record { answer = done; outcome = way-removed x k (y .1) b₁ held (w ∙ ap (removed F (x .extra) p m) bs ∙ i ∙ sym (ap (layout F C (x .extra)) u)); number = refl }
 
   -- the key stands nowhere
@@ -187,17 +189,21 @@ module _ (F : Form) (L : Lawful F) (b k : List ℕ) (x : Book F b) (p : ℕ) (pl
     pub remove-absent : Changed F b (removes k) 12 b
     remove-absent = record { answer = says 12; outcome = way-absent x k lacks; number = refl }
 
-    pub write-full : (v : List ℕ) → length s ≡ x .slots → Changed F b (writes k v) 11 b
+    pub write-full : (v : List ℕ) → fullIn x k s ≡ true → Changed F b (writes k v) 11 b
     write-full v full = record { answer = says 11; outcome = way-full x k v lacks full; number = refl }
 
-    pub write-inserted : (v b₁ : List ℕ) → F .Fit (k, v) → length s < x .slots → b₁ ≡ inserted F (x .extra) p (length s) b (k, v) → Changed F b (writes k v) 0 b₁
-    write-inserted v b₁ hf room w =
+    -- an owner below its quota leaves a slot
+    pub slot-left : isOwner (F .owner k) ≡ true → fullIn x k s ≡ false → length s < x .slots
+    slot-left w h = fewer F L (x .slots) (x .extra) s (x .exact) (x .quotas) (x .within) (F .owner k) w (eqb-false (countBy (F .owner) (F .owner k) s) (F .quota (x .extra) (x .slots) (F .owner k)) h)
+
+    pub write-inserted : (v b₁ : List ℕ) → F .Fit (k, v) → fullIn x k s ≡ false → length s < x .slots → b₁ ≡ inserted F (x .extra) p (length s) b (k, v) → Changed F b (writes k v) 0 b₁
+    write-inserted v b₁ hf full room w =
         let C = x .slots in
         let u : records.put s k v ≡ take p s ++ (k, v) ∷ drop p s = ap (λ (l : List Rec). records.put l k v) (sym whole) ∙ put-between (take p s) (drop p s) k v befores later in
         let i : inserted F (x .extra) p (length s) (layout F C (x .extra) s) (k, v) ≡ layout F C (x .extra) (take p s ++ (k, v) ∷ drop p s) =
         rw (whole, lp) at (layout-inserted F L C (x .extra) (take p s) (drop p s) (k, v) (fit-take F L p s (x .fit)) (fit-drop F L p s (x .fit)) hf (rw whole room)) in
         let e : b₁ ≡ layout F C (x .extra) (records.put s k v) = w ∙ ap (λ (l : List ℕ). inserted F (x .extra) p (length s) l (k, v)) (x .bytes) ∙ i ∙ sym (ap (layout F C (x .extra)) u) in
-        record { answer = done; outcome = way-added x k v b₁ lacks (λ q. omega arith) e; number = refl }
+        record { answer = done; outcome = way-added x k v b₁ lacks full e; number = refl }
 
 -- refusals that the arguments decide
 pub looked-refused : (F : Form) (b : List ℕ) (n : ℕ) → Counts F b n → (m : Meaning) (r : ℕ) → m ≡ refuses r → (out : List ℕ) → Found F b m out (buffer.refusal r) out

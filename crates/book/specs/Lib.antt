@@ -6,6 +6,7 @@ pub mod OutcomeLaws
 pub mod WayLaws
 pub mod Check
 pub mod CheckLaws
+pub mod ShareLaws
 pub mod SizeLaws
 pub mod CheckWayLaws
 pub mod Find

@@ -36,26 +36,26 @@ module _ (F : Form) (L : Lawful F) (b : List ℕ) where
   book-slots r s x = one-size r (x .slots) (s .some (λ e. s .none e (x .slots) (book-sized x))) (book-sized x)
 
   -- ---- the ways out of the function that counts them
-  pub slots-short : length b < F .head → Slotted F b 0
-  slots-short h = record { none = λ e C s. omega (arith, s .size); some = λ z. absurd (z refl) }
+  -- h is the size of the header, w the width of a slot
+  module _ (h w : ℕ) (eh : h ≡ F .head) (ew : w ≡ F .width) where
+    pub slots-short : length b < h → Slotted F b 0
+    slots-short l = record { none = λ e C s. omega (arith, s .size); some = λ z. absurd (z refl) }
 
-  -- w is the width of a slot
-  module _ (w : ℕ) (ew : w ≡ F .width) where
-    whole : (C : ℕ) → Sized F b C → length b - F .head ≡ w * C
-    whole C s = rw ew (omega (arith, s .size))
+    whole : (C : ℕ) → Sized F b C → length b - h ≡ w * C
+    whole C s = rw (ew, eh) (omega (arith, s .size))
 
-    pub slots-odd : ((length b - F .head) % w ≡ 0 → ⊥) → Slotted F b 0
+    pub slots-odd : ((length b - h) % w ≡ 0 → ⊥) → Slotted F b 0
     slots-odd n = record { none = λ e C s. n (ap (λ (q : ℕ). q % w) (whole C s) ∙ mul-mod-right w C); some = λ z. absurd (z refl) }
 
     -- the quotient is the number of slots
-    by-quotient : (r : ℕ) → r ≡ (length b - F .head) / w → (C : ℕ) → Sized F b C → r ≡ C
+    by-quotient : (r : ℕ) → r ≡ (length b - h) / w → (C : ℕ) → Sized F b C → r ≡ C
     by-quotient r e C s = e ∙ ap (λ (q : ℕ). q / w) (whole C s) ∙ mul-div-cancel-left C (rw ew (L .wide))
 
-    pub slots-many : (r : ℕ) → r ≡ (length b - F .head) / w → 200 < r → Slotted F b 0
-    slots-many r e h = record { none = λ z C s. omega (arith, by-quotient r e C s, s .most); some = λ z. absurd (z refl) }
+    pub slots-many : (r : ℕ) → r ≡ (length b - h) / w → 200 < r → Slotted F b 0
+    slots-many r e l = record { none = λ z C s. omega (arith, by-quotient r e C s, s .most); some = λ z. absurd (z refl) }
 
-    pub slots-are : (r : ℕ) → F .head ≤ length b → (length b - F .head) % w ≡ 0 → r ≡ (length b - F .head) / w → r ≤ 200 → Slotted F b r
-    slots-are r hb m e h =
-        let d : w * r ≡ length b - F .head = ap (λ (q : ℕ). w * q) e ∙ omega (arith, div-add-mod (length b - F .head) w) in
-        let d′ : F .width * r ≡ length b - F .head = rw ew at d in
-        record { none = λ z C s. omega (arith, by-quotient r e C s, s .least); some = λ z. record { least = omega arith; most = h; size = omega arith } }
+    pub slots-are : (r : ℕ) → h ≤ length b → (length b - h) % w ≡ 0 → r ≡ (length b - h) / w → r ≤ 200 → Slotted F b r
+    slots-are r hb m e l =
+        let d : w * r ≡ length b - h = ap (λ (q : ℕ). w * q) e ∙ omega (arith, div-add-mod (length b - h) w) in
+        let d′ : F .width * r ≡ length b - h = rw ew at d in
+        record { none = λ z C s. omega (arith, by-quotient r e C s, s .least); some = λ z. record { least = omega arith; most = l; size = omega arith } }

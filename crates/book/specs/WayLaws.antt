@@ -2,14 +2,13 @@
 -- Assumes nothing.
 use Prim.Native.Nat.{ℕ}
 use mathlib.Core.Path.{_≡_, refl, sym, ap, _∙_}
+use mathlib.Core.Bool.{true, false}
 use mathlib.Core.List.{List}
 use mathlib.Core.Option.{none, some}
-use lib.ListN.{length}
-use borrow.Author.Tests.{eq-eqb, ne-eqb}
 use Rattle.book_records.specs.Records.{Key, get, put, del}
 use Rattle.book_records.specs.Act.{Rec, Meaning, refuses, writes, removes, looks, Answer, says, done, gives, act}
 use Rattle.book_form.specs.Form.{Form}
-use Rattle.book.specs.Book.{Book, bytesWith, acts}
+use Rattle.book.specs.Book.{Book, bytesWith, fullIn, acts}
 use Rattle.book.specs.Outcome.{Outcome, this-book}
 
 module _ {F : Form} {b : List ℕ} (x : Book F b) where
@@ -26,13 +25,13 @@ module _ {F : Form} {b : List ℕ} (x : Book F b) where
   unfolding act
   way-replaced k v u b₁ g f = outcome (writes k v) done (put (x .records) k v) b₁ (rw g) f
 
-  pub way-added : (k : Key) (v b₁ : List ℕ) → get (x .records) k ≡ none → (length (x .records) ≡ x .slots → ⊥) → b₁ ≡ bytesWith x (put (x .records) k v) → Outcome F (writes k v) b done b₁
+  pub way-added : (k : Key) (v b₁ : List ℕ) → get (x .records) k ≡ none → fullIn x k (x .records) ≡ false → b₁ ≡ bytesWith x (put (x .records) k v) → Outcome F (writes k v) b done b₁
   unfolding act
-  way-added k v b₁ g l f = outcome (writes k v) done (put (x .records) k v) b₁ (rw (g, ne-eqb (length (x .records)) (x .slots) l)) f
+  way-added k v b₁ g l f = outcome (writes k v) done (put (x .records) k v) b₁ (rw (g, l)) f
 
-  pub way-full : (k : Key) (v : List ℕ) → get (x .records) k ≡ none → length (x .records) ≡ x .slots → Outcome F (writes k v) b (says 11) b
+  pub way-full : (k : Key) (v : List ℕ) → get (x .records) k ≡ none → fullIn x k (x .records) ≡ true → Outcome F (writes k v) b (says 11) b
   unfolding act
-  way-full k v g w = outcome (writes k v) (says 11) (x .records) b (rw (g, eq-eqb (length (x .records)) (x .slots) w)) (x .bytes)
+  way-full k v g w = outcome (writes k v) (says 11) (x .records) b (rw (g, w)) (x .bytes)
 
   -- a removal
   pub way-removed : (k : Key) (u b₁ : List ℕ) → get (x .records) k ≡ some u → b₁ ≡ bytesWith x (del (x .records) k) → Outcome F (removes k) b done b₁

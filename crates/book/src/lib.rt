@@ -3,6 +3,7 @@ pub mod check;
 pub mod find;
 pub mod record;
 
+use book_form::Quotas;
 use book_form::Version;
 use book_form::clear;
 use book_form::put_header;
@@ -11,17 +12,21 @@ use book_key::key_of;
 use book_records::Manner;
 use check::BookAnswer;
 use check::check_book;
+use check::is_owner;
 use check::slots_of;
+use check::sum_fits;
 use record::look_record;
 use record::put_record;
 use record::take_record;
 use text::Written;
 use text::refusal::BAD_BOOK;
 use text::refusal::BAD_LENGTH;
+use text::refusal::BAD_OWNER;
+use text::refusal::FULL;
 use text::refusal::NO_ROOM;
 ghost use mathlib.Core.Path.{_≡_};
 ghost use Rattle.book.specs.Book.{Current};
-ghost use Rattle.book.specs.Outcome.{Recorded, Removed, Looked, Made};
+ghost use Rattle.book.specs.Outcome.{Recorded, Removed, Looked, Made, quotas};
 ghost use Rattle.book.specs.Open.{Opens};
 
 // What a call starts from: a refusal, or the number of the book's records and the key of the text.
@@ -31,18 +36,27 @@ pub struct Opened {
     pub key: Key,
 }
 
-// Checks the book, then the text, as every call does: 9, 1, 2, 3 (17, 18, 19), in a plain call 20, 10.
-pub(crate) fn open_call(manner: Manner, book: &[u8], text: &[u8]) -> Opened
-    ensures { λ r. ⌜ Opens manner (now (book .entry)) (now (text .entry)) r ⌝ }
+fn refused(refusal: u8) -> Opened
+    ensures { λ r. ⌜ r .refusal ≡ refusal ⌝ }
 {
-    let BookAnswer::Count(count) = check_book(book, Version::Two) else {
-        let bytes = [0u8; 255];
-        return Opened {
-            refusal: BAD_BOOK,
-            count: 0,
-            key: Key { bytes, len: 0 },
-        };
+    let bytes = [0u8; 255];
+    Opened {
+        refusal,
+        count: 0,
+        key: Key { bytes, len: 0 },
+    }
+}
+
+// Checks the book, the owner and the text, as every call does: 9, 23, 1, 2, 3 (17, 18, 19), in a plain call 20, 10.
+pub(crate) fn open_call(manner: Manner, book: &[u8], owner: u8, text: &[u8]) -> Opened
+    ensures { λ r. ⌜ Opens manner (now (book .entry)) owner (now (text .entry)) r ⌝ }
+{
+    let BookAnswer::Count(count) = check_book(book, Version::Three) else {
+        return refused(BAD_BOOK);
     };
+    if !is_owner(owner) {
+        return refused(BAD_OWNER);
+    }
     let made = key_of(manner, text);
     let key = made.key;
     Opened {
@@ -52,11 +66,11 @@ pub(crate) fn open_call(manner: Manner, book: &[u8], text: &[u8]) -> Opened
     }
 }
 
-// Copies what the path of a text holds, and answers its length: 9, 1, 2, 3 (17, 18, 19), in a plain call 20, 10, 4, 12.
-pub fn lookup(manner: Manner, book: &[u8], text: &[u8], out: &mut [u8]) -> Written
-    ensures { λ r. ⌜ Looked Current manner (now (book .entry)) (now (text .entry)) (now (out .entry)) r (now (out .exit)) ⌝ }
+// Copies what the path of a text holds, and answers its length: 9, 23, 1, 2, 3 (17, 18, 19), in a plain call 20, 10, 4, 12.
+pub fn lookup(manner: Manner, book: &[u8], owner: u8, text: &[u8], out: &mut [u8]) -> Written
+    ensures { λ r. ⌜ Looked Current manner (now (book .entry)) owner (now (text .entry)) (now (out .entry)) r (now (out .exit)) ⌝ }
 {
-    let opened = open_call(manner, book, text);
+    let opened = open_call(manner, book, owner, text);
     let refusal = opened.refusal;
     if refusal != 0 {
         return Written { refusal, length: 0 };
@@ -70,14 +84,14 @@ pub fn lookup(manner: Manner, book: &[u8], text: &[u8], out: &mut [u8]) -> Writt
     let key = opened.key;
     let bytes = key.bytes;
     let len = key.len;
-    look_record(book, opened.count, &bytes[0..len], out)
+    look_record(book, opened.count, owner, &bytes[0..len], out)
 }
 
-// Adds or replaces what the path of a text holds: 9, 1, 2, 3 (17, 18, 19), in a plain call 20, 10, 6, 11.
-pub fn write(manner: Manner, book: &mut [u8], text: &[u8], value: &[u8]) -> u8
-    ensures { λ r. ⌜ Recorded Current manner (now (book .entry)) (now (text .entry)) (now (value .entry)) r (now (book .exit)) ⌝ }
+// Adds or replaces what the path of a text holds: 9, 23, 1, 2, 3 (17, 18, 19), in a plain call 20, 10, 6, 11.
+pub fn write(manner: Manner, book: &mut [u8], owner: u8, text: &[u8], value: &[u8]) -> u8
+    ensures { λ r. ⌜ Recorded Current manner (now (book .entry)) owner (now (text .entry)) (now (value .entry)) r (now (book .exit)) ⌝ }
 {
-    let opened = open_call(manner, book, text);
+    let opened = open_call(manner, book, owner, text);
     let refusal = opened.refusal;
     if refusal != 0 {
         return refusal;
@@ -91,14 +105,14 @@ pub fn write(manner: Manner, book: &mut [u8], text: &[u8], value: &[u8]) -> u8
     let key = opened.key;
     let bytes = key.bytes;
     let len = key.len;
-    put_record(book, opened.count, &bytes[0..len], value)
+    put_record(book, opened.count, owner, &bytes[0..len], value)
 }
 
-// Removes what the path of a text holds: 9, 1, 2, 3 (17, 18, 19), in a plain call 20, 10, 12.
-pub fn remove(manner: Manner, book: &mut [u8], text: &[u8]) -> u8
-    ensures { λ r. ⌜ Removed Current manner (now (book .entry)) (now (text .entry)) r (now (book .exit)) ⌝ }
+// Removes what the path of a text holds: 9, 23, 1, 2, 3 (17, 18, 19), in a plain call 20, 10, 12.
+pub fn remove(manner: Manner, book: &mut [u8], owner: u8, text: &[u8]) -> u8
+    ensures { λ r. ⌜ Removed Current manner (now (book .entry)) owner (now (text .entry)) r (now (book .exit)) ⌝ }
 {
-    let opened = open_call(manner, book, text);
+    let opened = open_call(manner, book, owner, text);
     let refusal = opened.refusal;
     if refusal != 0 {
         return refusal;
@@ -106,18 +120,24 @@ pub fn remove(manner: Manner, book: &mut [u8], text: &[u8]) -> u8
     let key = opened.key;
     let bytes = key.bytes;
     let len = key.len;
-    take_record(book, opened.count, &bytes[0..len])
+    take_record(book, opened.count, owner, &bytes[0..len])
 }
 
-// Makes a book of a buffer, with no records: 9 where the length is no book's.
-pub fn new_book(book: &mut [u8]) -> u8
-    ensures { λ r. ⌜ Made Current tt (now (book .entry)) r (now (book .exit)) ⌝ }
+// Makes a book of a buffer, with no records: 9 where the length is no book's, then 11 where it has not the slots for the quotas.
+pub fn new_book(book: &mut [u8], quota1: u16, quota2: u16) -> u8
+    ensures { λ r. ⌜ Made Current (quotas quota1 quota2) (now (book .entry)) r (now (book .exit)) ⌝ }
 {
-    if slots_of(book, Version::Two) == 0 {
+    let slots = slots_of(book, Version::Three);
+    if slots == 0 {
         return BAD_BOOK;
+    }
+    let one = quota1 as usize;
+    let two = quota2 as usize;
+    if !sum_fits(Quotas { one, two }, slots) {
+        return FULL;
     }
     let size = book.len();
     clear(book, 0, size);
-    put_header(book, 0);
+    put_header(book, 0, Quotas { one, two });
     0
 }

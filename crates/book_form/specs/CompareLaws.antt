@@ -2,12 +2,12 @@
 -- Assumes nothing.
 use mathlib.Core.Path.{_≡_, refl, sym, ap, _∙_}
 use mathlib.Core.List.{List, [], _∷_, _++_}
-use Prim.Native.Nat.{ℕ, zero, suc, _+_, _*_, _-_, _<_, _≤_, Ordering, Ordering·lt, Ordering·eq, Ordering·gt}
+use Prim.Native.Nat.{ℕ, zero, suc, _+_, _-_, _<_, _≤_, Ordering, Ordering·lt, Ordering·eq, Ordering·gt, compare}
 use native.Mathlib.Numerals.{add-one}
 use native.Mathlib.Omega.{arith}
-use lib.ListN.{length, take, drop, getD, length-take, length-drop, drop-of-length-le}
+use lib.ListN.{length, take, drop, getD, length-drop, drop-of-length-le}
 use lib.Seq.{drop-drop, drop-cons, getD-take, getD-drop, length-take-le}
-use Rattle.text.specs.Order.{cmp}
+use Rattle.text.specs.Order.{cmp, then}
 use Rattle.text.specs.OrderLaws.{cmp-cons-lt, cmp-cons-gt, cmp-cons-eq, cmp-nil, cmp-nil-cons, cmp-cons-nil}
 use Rattle.book_form.specs.Counted.{countedIn, stored}
 use Rattle.book_form.specs.Compare.{code, Agree, Alike}
@@ -103,3 +103,27 @@ alike-agree s key at by n r hs ha hb ek na nb rn g =
       within = omega arith;
       same = λ j l. rw ek (getD-stored s at j (omega arith) ∙ g j l);
     }
+
+-- ---- keys with as much ahead of them
+then-then : (o p q : Ordering) → then o (then p q) ≡ then (then o p) q
+then-then Ordering·lt p q = refl
+then-then Ordering·eq p q = refl
+then-then Ordering·gt p q = refl
+
+pub cmp-ahead : (a c b d : List ℕ) → length a ≡ length c → cmp (a ++ b) (c ++ d) ≡ then (cmp a c) (cmp b d)
+unfolding cmp
+cmp-ahead [] [] b d h = refl
+cmp-ahead [] (y ∷ c) b d h = absurd (let z : ⊥ = omega arith in z)
+cmp-ahead (x ∷ a) [] b d h = absurd (let z : ⊥ = omega arith in z)
+cmp-ahead (x ∷ a) (y ∷ c) b d h = ap (then (compare x y)) (cmp-ahead a c b d (omega arith)) ∙ then-then (compare x y) (cmp a c) (cmp b d)
+
+-- what is ahead decides, or what follows does
+pub ahead-decides : (o p q : Ordering) (r : ℕ) → o ≡ then p q → r ≡ code p → (r ≡ 1 → ⊥) → r ≡ code o
+ahead-decides o Ordering·lt q r e f n = f ∙ ap code (sym e)
+ahead-decides o Ordering·eq q r e f n = absurd (n f)
+ahead-decides o Ordering·gt q r e f n = f ∙ ap code (sym e)
+
+pub ahead-same : (o p q : Ordering) (r s : ℕ) → o ≡ then p q → r ≡ code p → r ≡ 1 → s ≡ code q → s ≡ code o
+ahead-same o Ordering·lt q r s e f n g = absurd (let z : ⊥ = omega arith in z)
+ahead-same o Ordering·eq q r s e f n g = g ∙ ap code (sym e)
+ahead-same o Ordering·gt q r s e f n g = absurd (let z : ⊥ = omega arith in z)

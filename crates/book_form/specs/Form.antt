@@ -2,11 +2,11 @@
 -- Assumes nothing.
 use mathlib.Core.Path.{_≡_}
 use mathlib.Core.List.{List, [], _∷_, _++_}
-use Prim.Native.Nat.{ℕ, suc, _+_, _*_, _-_}
+use Prim.Native.Nat.{ℕ, suc, _+_, _*_, _-_, _≤_}
 use lib.ListN.{length, take, drop, replicate}
 use Rattle.text.specs.Put.{put}
 use Rattle.book_records.specs.Records.{Key}
-use Rattle.book_records.specs.Act.{Rec}
+use Rattle.book_records.specs.Act.{Rec, countBy}
 use Rattle.book_form.specs.Moves.{raised, lowered}
 
 abbrev pub zeros : ℕ → List ℕ
@@ -24,11 +24,20 @@ pub record Form : Type 1 where
   pub width : ℕ
   -- the record in the slot at the front of some bytes
   pub recordOf : List ℕ → Rec
+  -- the keys that its records stand under
+  pub Exact : Key → Type 0
+  -- whose record a key's is: 1 or 2; and how many records an owner may have, by the header and the number of slots
+  pub owner : Key → ℕ
+  pub quota : Extra → ℕ → ℕ → ℕ
 
 module _ (F : Form) where
   abbrev pub AllFit : List Rec → Type 0
   AllFit [] = Unit {0}
   AllFit (r ∷ rs) = F .Fit r × AllFit rs
+
+  abbrev pub AllExact : List Rec → Type 0
+  AllExact [] = Unit {0}
+  AllExact (r ∷ rs) = F .Exact (r .0) × AllExact rs
 
   unfoldable pub slots : List Rec → List ℕ
   slots [] = []
@@ -44,6 +53,14 @@ module _ (F : Form) where
 
   abbrev pub keyAt : List ℕ → ℕ → Key
   keyAt b i = F .recordOf (drop (place i) b) .0
+
+  -- a book of C slots has the slots for both quotas
+  abbrev pub QuotasFit : ℕ → F .Extra → Type 0
+  QuotasFit C e = F .quota e C 1 + F .quota e C 2 ≤ C
+
+  -- and no owner has more records than its quota
+  abbrev pub Within : ℕ → F .Extra → List Rec → Type 0
+  Within C e rs = (o : ℕ) → countBy (F .owner) o rs ≤ F .quota e C o
 
   -- the slot at the front of some bytes is a record's, filled with zeros
   pub record SlotOk (x : List ℕ) : Type 0 where

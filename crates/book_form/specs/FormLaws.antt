@@ -2,24 +2,25 @@
 -- Assumes nothing.
 use mathlib.Core.Path.{_≡_, refl, sym, ap, _∙_}
 use mathlib.Core.List.{List, [], _∷_, _++_, append-assoc, head-eq-of-cons-eq, tail-eq-of-cons-eq}
-use mathlib.Core.Option.{some}
 use Prim.Native.Nat.{ℕ, zero, suc, _+_, _*_, _-_, _<_, _≤_}
 use native.Mathlib.Nat.{mul-le-mul-left}
 use native.Mathlib.Decide.{decLt}
 use native.Mathlib.Omega.{arith}
 use lib.Dec.{eqb, ltb}
 use borrow.Author.Tests.{eqb-true, eqb-false, lt-ltb, le-ltb}
-use mathlib.Core.Bool.{Bool, true, false}
+use mathlib.Core.Bool.{Bool, true, false, cond, _||_}
 use Rattle.text.specs.Part.{every, top}
 use Rattle.text.specs.PartLaws.{every-top, and-left, and-right}
-use lib.ListN.{getD, length, take, drop, set, getElem?, length-append, length-take, length-drop, length-replicate, replicate-append-replicate, take-append-drop}
+use lib.ListN.{getD, length, take, drop, set, length-append, length-take, length-drop, length-replicate, replicate-append-replicate, take-append-drop}
 use lib.Seq.{drop-at, drop-drop, drop-append-add}
 use Rattle.text.specs.Put.{put}
 use Rattle.text.specs.PutLaws.{length-put}
-use Rattle.book_records.specs.Act.{Rec}
+use Rattle.book_records.specs.Records.{Key}
+use Rattle.book_records.specs.Act.{Rec, countBy}
+use Rattle.book_records.specs.Calls.{isOwner}
 use Rattle.book_form.specs.Moves.{raised, lowered}
 use Rattle.book_form.specs.MovesLaws.{raised-parts, lowered-parts, over-parts, over-set, over-join}
-use Rattle.book_form.specs.Form.{Form, zeros, AllFit, slots, layout, place, inserted, removed}
+use Rattle.book_form.specs.Form.{Form, zeros, AllFit, AllExact, QuotasFit, Within, slots, layout, place, inserted, removed}
 
 -- what a form has to keep
 pub record Lawful (F : Form) : Type 0 where
@@ -27,6 +28,7 @@ pub record Lawful (F : Form) : Type 0 where
   pub header-inj : (d e : F .Extra) (m n : ℕ) → F .header d m ≡ F .header e n → (d ≡ e) × (m ≡ n)
   pub slot-length : (r : Rec) → F .Fit r → length (F .slot r) ≡ F .width
   pub record-of-slot : (r : Rec) (tail : List ℕ) → F .Fit r → F .recordOf (F .slot r ++ tail) ≡ r
+  pub known : (k : Key) → F .Exact k → isOwner (F .owner k) ≡ true
   pub wide : 1 ≤ F .width
 
 -- two joined lists are equal in parts, where the first parts have one length
@@ -82,7 +84,43 @@ clear-turn b f j h =
     ∙ over-join b f (zeros j) (0 ∷ []) (f + j) (omega arith) (omega arith)
     ∙ ap (λ (x : List ℕ). put b f x) (replicate-append-replicate j 1 0)
 
+-- ---- records by their owners
+one-of-two : (o n a b : ℕ) → isOwner o ≡ true → n ≡ a + b → suc n ≡ (cond (eqb o 1) 1 0 + a) + (cond (eqb o 2) 1 0 + b)
+one-of-two o n a b w e = go (eqb o 1) refl (eqb o 2) refl w
+  where
+    go : (x : Bool) → eqb o 1 ≡ x → (y : Bool) → eqb o 2 ≡ y → (x || y) ≡ true → suc n ≡ (cond x 1 0 + a) + (cond y 1 0 + b)
+    go true p true q z = absurd (let y : ⊥ = omega (arith, eqb-true o 1 p, eqb-true o 2 q) in y)
+    go true p false q z = omega arith
+    go false p true q z = omega arith
+    go false p false q z = absurd (let y : _≡_ {A = ℕ} 0 1 = cc in let x : ⊥ = omega arith in x)
+
 module _ (F : Form) (L : Lawful F) where
+  pub by-owner : (s : List Rec) → AllExact F s → length s ≡ countBy (F .owner) 1 s + countBy (F .owner) 2 s
+  unfolding countBy
+  by-owner [] h = refl
+  by-owner (r ∷ s) h = one-of-two (F .owner (r .0)) (length s) _ _ (L .known (r .0) (h .0)) (by-owner s (h .1))
+
+  module _ (C : ℕ) (e : F .Extra) (s : List Rec) (exact : AllExact F s) (quotas : QuotasFit F C e) (within : Within F C e s) where
+    -- there are no more records than slots
+    pub few : length s ≤ C
+    few = omega (arith, by-owner s exact, quotas, within 1, within 2)
+
+    -- and fewer, where an owner has fewer than its quota
+    pub fewer : (o : ℕ) → isOwner o ≡ true → (countBy (F .owner) o s ≡ F .quota e C o → ⊥) → length s < C
+    fewer o w n = go (eqb o 1) refl (eqb o 2) refl w
+      where
+        less : countBy (F .owner) o s < F .quota e C o
+        less = omega (arith, within o, n)
+
+        go : (x : Bool) → eqb o 1 ≡ x → (y : Bool) → eqb o 2 ≡ y → (x || y) ≡ true → length s < C
+        go true p y q z =
+            let k : countBy (F .owner) 1 s < F .quota e C 1 = rw (eqb-true o 1 p) at less in
+            omega (arith, by-owner s exact, quotas, within 2, k)
+        go false p true q z =
+            let k : countBy (F .owner) 2 s < F .quota e C 2 = rw (eqb-true o 2 q) at less in
+            omega (arith, by-owner s exact, quotas, within 1, k)
+        go false p false q z = absurd (let y : _≡_ {A = ℕ} 0 1 = cc in let x : ⊥ = omega arith in x)
+
   -- places rise
   pub place-up : (m n : ℕ) → m ≤ n → place F m ≤ place F n
   place-up m n h = omega (arith, mul-le-mul-left (F .width) h)

@@ -9,6 +9,7 @@ pub mod Version
 pub mod VersionLaws
 pub mod Compare
 pub mod CompareLaws
+pub mod NextLaws
 pub mod WordsLaws
 pub mod BlankLaws
 pub mod Tells

@@ -1,16 +1,15 @@
 -- Laws of moved bytes, and what a move leaves of a buffer that is known in parts.
 -- Assumes nothing.
 use mathlib.Core.Path.{_≡_, refl, sym, ap, _∙_}
-use mathlib.Core.List.{List, [], _∷_, _++_, append-assoc, append-nil}
-use Prim.Native.Nat.{ℕ, zero, suc, _+_, _-_, _<_, _≤_}
+use mathlib.Core.List.{List, [], _∷_, _++_, append-assoc}
+use Prim.Native.Nat.{ℕ, suc, _+_, _-_, _<_, _≤_}
 use native.Mathlib.Nat.{suc-add, add-zero}
 use native.Mathlib.Numerals.{add-one}
 use native.Mathlib.Omega.{arith}
 use lib.ListN.{length, take, drop, getD, set, length-append, length-take, length-drop, List·getD-append, take-append-drop}
 use Rattle.text.specs.Put.{put}
 use Rattle.book_form.specs.Moves.{raised, lowered}
-use Rattle.text.specs.PutLaws.{length-put}
-use lib.Seq.{slice, slice-empty, slice-cons, length-slice, take-suc, set-at, getD-take, append-snoc, length-take-le, take-at, drop-at, take-append-le, drop-append-add, take-append-add, drop-drop, set-split, drop-cons, getD-append-add, getD-drop, drop-append-le}
+use lib.Seq.{slice, slice-empty, slice-cons, length-slice, take-suc, set-at, getD-take, append-snoc, length-take-le, take-at, drop-at, drop-append-add, take-append-add, drop-drop, set-split, drop-cons, getD-append-add, getD-drop, drop-append-le}
 
 pub raised-none : (t w : ℕ) (b : List ℕ) → b ≡ raised t t w b
 unfolding raised

@@ -11,26 +11,49 @@ ghost use Rattle.text.specs.Part.{every, same};
 ghost use Rattle.text.specs.Put.{put};
 ghost use Rattle.text.specs.Stands.{Stands};
 ghost use Rattle.book_form.specs.Moves.{raised, lowered};
+ghost use mathlib.Core.List.{[], _∷_, _++_};
 ghost use Rattle.book_form.specs.Form.{zeros, place, inserted, removed, SlotOk};
 ghost use Rattle.book_form.specs.Counted.{counted, stored, CountedOk};
-ghost use Rattle.book_form.specs.Version.{formOf, fieldOf, FieldOk, numberOf, header, countIn, V2};
+ghost use Rattle.book_form.specs.Version.{formOf, ownersOf, fieldOf, FieldOk, isPlain, numberOf, header, countIn, quotasIn, V3};
 ghost use Rattle.book_form.specs.declared.Version.the-variants.{Two};
 ghost use Rattle.book_form.specs.Compare.{code, Agree, quad, highSum, lowSum, Apart};
 ghost use Rattle.book_form.specs.Tells.{Tells};
 
-// The bytes of the header, of a key with its length, and of a slot: in version 2, which the calls take, and in version 1.
-pub const HEAD: usize = 8;
+// The bytes of the header, of a key with its length, and of a slot: in version 3, which the calls take, and in those before it.
+pub const HEAD: usize = 12;
 
 pub const KEY: usize = 256;
 
-pub const SLOT: usize = 321;
+pub const SLOT: usize = 322;
+
+const HEAD_OLD: usize = 8;
 
 const SLOT_ONE: usize = 288;
 
-// The versions of the book. The calls take and make version 2; a book of version 1 is only converted.
+const SLOT_TWO: usize = 321;
+
+// The versions of the book. The calls take and make version 3; an older book is only converted.
 pub enum Version {
     One,
     Two,
+    Three,
+}
+
+// How many records each owner may have.
+pub struct Quotas {
+    pub one: usize,
+    pub two: usize,
+}
+
+// The bytes of the header.
+pub fn head(version: Version) -> usize
+    ensures { λ r. ⌜ r ≡ formOf version .head ⌝ }
+{
+    match version {
+        Version::One => HEAD_OLD,
+        Version::Two => HEAD_OLD,
+        Version::Three => HEAD,
+    }
 }
 
 // The bytes of a slot.
@@ -39,7 +62,19 @@ pub fn width(version: Version) -> usize
 {
     match version {
         Version::One => SLOT_ONE,
-        Version::Two => SLOT,
+        Version::Two => SLOT_TWO,
+        Version::Three => SLOT,
+    }
+}
+
+// The bytes of a slot ahead of the key's length: in version 3 the owner.
+pub fn lead(version: Version) -> usize
+    ensures { λ r. ⌜ r ≡ ownersOf version .lead ⌝ }
+{
+    match version {
+        Version::One => 0,
+        Version::Two => 0,
+        Version::Three => 1,
     }
 }
 
@@ -49,8 +84,9 @@ pub fn slot_at(version: Version, i: usize) -> usize
     ensures { λ r. ⌜ r ≡ place (formOf version) i ⌝ }
 {
     match version {
-        Version::One => HEAD + SLOT_ONE * i,
-        Version::Two => HEAD + SLOT * i,
+        Version::One => HEAD_OLD + SLOT_ONE * i,
+        Version::Two => HEAD_OLD + SLOT_TWO * i,
+        Version::Three => HEAD + SLOT * i,
     }
 }
 
@@ -102,47 +138,96 @@ fn put_counted(book: &mut [u8], at: usize, most: usize, s: &[u8])
     clear(book, at + 1 + s.len(), most - s.len());
 }
 
-// Writes a record's slot, from `at` on.
-pub fn put_slot(book: &mut [u8], at: usize, key: &[u8], value: &[u8])
+// Writes the fields of a key and its value, from `at` on: a slot of version 2, and one of version 3 behind its owner.
+pub fn put_fields(book: &mut [u8], at: usize, key: &[u8], value: &[u8])
     requires { ⌜ (at + 321 ≤ length (now book)) × (length (now key) ≤ 255) × (length (now value) ≤ 64) ⌝ }
-    ensures { λ _. ⌜ now (book .exit) ≡ put (now (book .entry)) at (V2 .slot (now (key .entry), now (value .entry))) ⌝ }
+    ensures { λ _. ⌜ now (book .exit) ≡ put (now (book .entry)) at (counted 255 (now (key .entry)) ++ counted 64 (now (value .entry))) ⌝ }
 {
     put_counted(book, at, 255, key);
     put_counted(book, at + KEY, 64, value);
 }
 
-// Writes the header of a book with n records.
-pub fn put_header(book: &mut [u8], n: usize)
+// Writes a record's slot, from `at` on.
+pub fn put_slot(book: &mut [u8], at: usize, owner: u8, key: &[u8], value: &[u8])
+    requires { ⌜ (at + 322 ≤ length (now book)) × (length (now key) ≤ 255) × (length (now value) ≤ 64) ⌝ }
+    ensures { λ _. ⌜ now (book .exit) ≡ put (now (book .entry)) at (V3 .slot (owner ∷ now (key .entry), now (value .entry))) ⌝ }
+{
+    write_byte(book, at, owner);
+    put_fields(book, at + 1, key, value);
+}
+
+// Writes what the header of each version begins with, for n records.
+pub fn put_front(book: &mut [u8], version: Version, n: usize)
     requires { ⌜ n < 65536 ⌝ }
     requires { do ⌜ 8 ≤ (← ⟦book.len()⟧) ⌝ }
-    ensures { λ _. ⌜ now (book .exit) ≡ put (now (book .entry)) 0 (header 2 n) ⌝ }
+    ensures { λ _. ⌜ now (book .exit) ≡ put (now (book .entry)) 0 (header (numberOf version) n []) ⌝ }
 {
-    let head: [u8; 8] = [72, 80, 66, 0, 2, (n / 256) as u8, (n % 256) as u8, 0];
-    write_text(book, 0, &head);
+    let front: [u8; 8] = [
+        72,
+        80,
+        66,
+        0,
+        version_number(version),
+        (n / 256) as u8,
+        (n % 256) as u8,
+        0,
+    ];
+    write_text(book, 0, &front);
+}
+
+// Writes the header of a book with n records.
+pub fn put_header(book: &mut [u8], n: usize, quotas: Quotas)
+    requires { ⌜ (n < 65536) × (quotas .one < 65536) × (quotas .two < 65536) ⌝ }
+    requires { do ⌜ 12 ≤ (← ⟦book.len()⟧) ⌝ }
+    ensures { λ _. ⌜ now (book .exit) ≡ put (now (book .entry)) 0 (V3 .header quotas n) ⌝ }
+{
+    let one = quotas.one;
+    let two = quotas.two;
+    let shown: [u8; 4] = [
+        (one / 256) as u8,
+        (one % 256) as u8,
+        (two / 256) as u8,
+        (two % 256) as u8,
+    ];
+    put_front(book, Version::Three, n);
+    write_text(book, 8, &shown);
+}
+
+// The quotas that the header gives.
+pub fn quotas_of(book: &[u8]) -> Quotas
+    requires { do ⌜ 12 ≤ (← ⟦book.len()⟧) ⌝ }
+    ensures { λ r. ⌜ (r ≡ quotasIn (now (book .entry))) × (r .one < 65536) × (r .two < 65536) ⌝ }
+{
+    Quotas {
+        one: text::read_big_endian(book, 8, 2) as usize,
+        two: text::read_big_endian(book, 10, 2) as usize,
+    }
 }
 
 // Puts a record in at slot `place` of a book with `count` records.
-pub fn insert(book: &mut [u8], place: usize, count: usize, key: &[u8], value: &[u8])
+pub fn insert(book: &mut [u8], place: usize, count: usize, owner: u8, key: &[u8], value: &[u8])
     requires { ⌜ place ≤ count ⌝ }
     requires { ⌜ count < 200 ⌝ }
-    requires { do ⌜ 8 + 321 * (count + 1) ≤ (← ⟦book.len()⟧) ⌝ }
+    requires { do ⌜ 12 + 322 * (count + 1) ≤ (← ⟦book.len()⟧) ⌝ }
     requires { ⌜ (length (now key) ≤ 255) × (length (now value) ≤ 64) ⌝ }
-    ensures { λ _. ⌜ now (book .exit) ≡ inserted V2 tt place count (now (book .entry)) (now (key .entry), now (value .entry)) ⌝ }
+    ensures { λ _. ⌜ now (book .exit) ≡ inserted V3 (quotasIn (now (book .entry))) place count (now (book .entry)) (owner ∷ now (key .entry), now (value .entry)) ⌝ }
 {
+    let quotas = quotas_of(book);
     let at = HEAD + SLOT * place;
     let end = HEAD + SLOT * count;
     raise(book, at, end, SLOT);
-    put_slot(book, at, key, value);
-    put_header(book, count + 1);
+    put_slot(book, at, owner, key, value);
+    put_header(book, count + 1, quotas);
 }
 
 // Takes the record out of slot `place` of a book with one record more than `count`.
 pub fn take_out(book: &mut [u8], place: usize, count: usize)
     requires { ⌜ place ≤ count ⌝ }
     requires { ⌜ count < 200 ⌝ }
-    requires { do ⌜ 8 + 321 * (count + 1) ≤ (← ⟦book.len()⟧) ⌝ }
-    ensures { λ _. ⌜ now (book .exit) ≡ removed V2 tt place count (now (book .entry)) ⌝ }
+    requires { do ⌜ 12 + 322 * (count + 1) ≤ (← ⟦book.len()⟧) ⌝ }
+    ensures { λ _. ⌜ now (book .exit) ≡ removed V3 (quotasIn (now (book .entry))) place count (now (book .entry)) ⌝ }
 {
+    let quotas = quotas_of(book);
     lower(
         book,
         HEAD + SLOT * (place + 1),
@@ -150,10 +235,10 @@ pub fn take_out(book: &mut [u8], place: usize, count: usize)
         SLOT,
     );
     clear(book, HEAD + SLOT * count, SLOT);
-    put_header(book, count);
+    put_header(book, count, quotas);
 }
 
-// How `key` stands to the key in the slot at `at`, where the first `start` bytes are the same: 0 before it, 1 the same, 2 after it.
+// How `key` stands to the key behind its length at `at`, where the first `start` bytes are the same: 0 before it, 1 the same, 2 after it.
 fn compare_from(book: &[u8], at: usize, key: &[u8], start: usize) -> u8
     requires { do ⌜ at + 256 ≤ (← ⟦book.len()⟧) ⌝ }
     requires { ⌜ Agree (now key) (now book) at start ⌝ }
@@ -178,12 +263,19 @@ fn compare_from(book: &[u8], at: usize, key: &[u8], start: usize) -> u8
     if i == n { 1 } else { 0 }
 }
 
-// How `key` stands to the key in the slot at `at`.
-pub fn compare_key(book: &[u8], at: usize, key: &[u8]) -> u8
-    requires { do ⌜ at + 256 ≤ (← ⟦book.len()⟧) ⌝ }
-    ensures { λ r. ⌜ r ≡ code (cmp (now (key .entry)) (stored (now (book .entry)) at)) ⌝ }
+// How an owner's key stands to the key in the slot at `at`: the owner decides first.
+pub fn compare_key(book: &[u8], at: usize, owner: u8, key: &[u8]) -> u8
+    requires { do ⌜ at + 257 ≤ (← ⟦book.len()⟧) ⌝ }
+    ensures { λ r. ⌜ r ≡ code (cmp (owner ∷ now (key .entry)) (V3 .recordOf (drop at (now (book .entry))) .0)) ⌝ }
 {
-    compare_from(book, at, key, 0)
+    let other = book[at];
+    if owner < other {
+        return 0;
+    }
+    if other < owner {
+        return 2;
+    }
+    compare_from(book, at + 1, key, 0)
 }
 
 fn long(x: u8) -> u64
@@ -238,15 +330,15 @@ fn least(a: usize, b: usize) -> usize
     if a < b { a } else { b }
 }
 
-// How the key in the slot at `at` stands to that in the next slot, which starts `by` bytes behind it.
-pub fn compare_next(book: &[u8], at: usize, by: usize) -> u8
+// How the key behind its length at `at` stands to that `by` bytes behind it.
+fn compare_stored(book: &[u8], at: usize, by: usize) -> u8
     requires { do ⌜ at + by + 256 ≤ (← ⟦book.len()⟧) ⌝ }
     ensures { λ r. ⌜ r ≡ code (cmp (stored (now (book .entry)) at) (stored (now (book .entry)) (at + by))) ⌝ }
 {
     let key = key_at(book, at);
     let n = least(key.len(), wide(book[at + by]));
     if n < 8 {
-        return compare_key(book, at + by, key);
+        return compare_from(book, at + by, key, 0);
     }
     let i = apart(book, at + 1, at + by + 1, n - 8);
     let x = high_eight(book, at + 1 + i);
@@ -258,6 +350,43 @@ pub fn compare_next(book: &[u8], at: usize, by: usize) -> u8
         return 2;
     }
     compare_from(book, at + by, key, n)
+}
+
+// How one byte stands to another: mostly they are the same.
+fn order(x: u8, y: u8) -> u8
+    ensures { λ r. ⌜ r ≡ code (cmp (x ∷ []) (y ∷ [])) ⌝ }
+{
+    if x == y {
+        return 1;
+    }
+    if x < y {
+        return 0;
+    }
+    2
+}
+
+// How the owner of the slot at `at` stands to that of the next slot: before version 3 there is none.
+fn compare_owners(book: &[u8], at: usize, version: Version) -> u8
+    requires { ⌜ at + formOf version .width + formOf version .width ≤ length (now book) ⌝ }
+    ensures { λ r. ⌜ r ≡ code (cmp (take (ownersOf version .lead) (drop at (now (book .entry)))) (take (ownersOf version .lead) (drop (at + formOf version .width) (now (book .entry))))) ⌝ }
+{
+    match version {
+        Version::One => 1,
+        Version::Two => 1,
+        Version::Three => order(book[at], book[at + SLOT]),
+    }
+}
+
+// How the key in the slot at `at` stands to that in the next slot: the owner decides first.
+pub fn compare_next(book: &[u8], at: usize, version: Version) -> u8
+    requires { ⌜ at + formOf version .width + formOf version .width ≤ length (now book) ⌝ }
+    ensures { λ r. ⌜ r ≡ code (cmp (formOf version .recordOf (drop at (now (book .entry))) .0) (formOf version .recordOf (drop (at + formOf version .width) (now (book .entry))) .0)) ⌝ }
+{
+    let first = compare_owners(book, at, version);
+    if first != 1 {
+        return first;
+    }
+    compare_stored(book, at + lead(version), width(version))
 }
 
 fn wide(x: u8) -> usize
@@ -284,7 +413,7 @@ pub fn text_at(book: &[u8], at: usize) -> &[u8]
     &book[start..end]
 }
 
-// The key in the slot at `at`, as a part of the book.
+// The key behind its length at `at`, as a part of the book.
 pub fn key_at(book: &[u8], at: usize) -> &[u8]
     requires { do ⌜ at + 256 ≤ (← ⟦book.len()⟧) ⌝ }
     ensures { λ r. ⌜ Stands r (book .entry) (at + 1) (stored (now (book .entry)) at) ⌝ }
@@ -333,7 +462,7 @@ fn counted_ok(book: &[u8], at: usize, most: usize) -> bool
     all_zero(&book[start..end])
 }
 
-// Whether the field at `at` is that of a value of version 2: 1 to 64 bytes.
+// Whether the field at `at` is that of a value of 1 to 64 bytes.
 fn value_ok(book: &[u8], at: usize) -> bool
     requires { do ⌜ at + 65 ≤ (← ⟦book.len()⟧) ⌝ }
     ensures { λ r. ⌜ Tells r (FieldOk (fieldOf Two) (drop at (now (book .entry)))) ⌝ }
@@ -344,18 +473,30 @@ fn value_ok(book: &[u8], at: usize) -> bool
     counted_ok(book, at, 64)
 }
 
-// Whether the slot at `at` is a record's: the bytes behind its key, and in version 2 behind its value, are zero.
+// Whether a value stands in its slot without its length: any 32 bytes of version 1.
+fn is_plain(version: Version) -> bool
+    ensures { λ r. ⌜ r ≡ isPlain version ⌝ }
+{
+    match version {
+        Version::One => true,
+        Version::Two => false,
+        Version::Three => false,
+    }
+}
+
+// Whether the slot at `at` is a record's: the bytes behind its key, and from version 2 on behind its value, are zero.
 pub fn slot_ok(book: &[u8], at: usize, version: Version) -> bool
     requires { do ⌜ at + formOf version .width ≤ (← ⟦book.len()⟧) ⌝ }
     ensures { λ r. ⌜ Tells r (SlotOk (formOf version) (drop at (now (book .entry)))) ⌝ }
 {
-    if !counted_ok(book, at, 255) {
+    let start = at + lead(version);
+    if !counted_ok(book, start, 255) {
         return false;
     }
-    match version {
-        Version::One => true,
-        Version::Two => value_ok(book, at + KEY),
+    if is_plain(version) {
+        return true;
     }
+    value_ok(book, start + KEY)
 }
 
 // The number of a version, as the header has it.
@@ -365,13 +506,14 @@ fn version_number(version: Version) -> u8
     match version {
         Version::One => 1,
         Version::Two => 2,
+        Version::Three => 3,
     }
 }
 
-// Whether the header is that of a book with as many records as it says.
+// Whether the header begins as that of a book with as many records as it says.
 pub fn header_ok(book: &[u8], version: Version) -> bool
     requires { do ⌜ 8 ≤ (← ⟦book.len()⟧) ⌝ }
-    ensures { λ r. ⌜ r ≡ same (take 8 (now (book .entry))) (header (numberOf version) (countIn (now (book .entry)))) ⌝ }
+    ensures { λ r. ⌜ r ≡ same (take 8 (now (book .entry))) (header (numberOf version) (countIn (now (book .entry))) []) ⌝ }
 {
     let head: [u8; 8] = [72, 80, 66, 0, version_number(version), book[5], book[6], 0];
     text::part::equal(&book[0..8], &head)

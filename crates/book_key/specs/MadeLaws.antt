@@ -1,13 +1,13 @@
 -- What an owned key tells: the refusal is the call's, and else the key stands in the field.
 -- Assumes nothing.
 use Prim.Native.Nat.{ℕ}
-use mathlib.Core.Path.{_≡_, refl, sym, ap, _∙_}
-use mathlib.Core.List.{List}
-use lib.ListN.{length, replicate, length-replicate}
-use Rattle.text.specs.Put.{left}
+use mathlib.Core.Path.{_≡_, sym, ap, _∙_}
+use mathlib.Core.Bool.{true}
+use mathlib.Core.List.{List, _∷_}
+use lib.ListN.{replicate, length-replicate}
 use Rattle.book_records.specs.declared.Manner.{Manner}
-use Rattle.book_records.specs.Act.{Meaning, refuses}
-use Rattle.book_records.specs.Calls.{Asked, meaning, under, keyFor, keyAnswer}
+use Rattle.book_records.specs.Act.{refuses}
+use Rattle.book_records.specs.Calls.{Asked, isOwner, meaning, under, keyFor, keyAnswer}
 use Rattle.book_records.specs.TextLaws.{Keyed, keyed-by, key-here}
 use Rattle.book_key.specs.declared.MadeKey.{MadeKey}
 use Rattle.book_key.specs.Field.{madeKey}
@@ -17,9 +17,9 @@ module _ (m : Manner) (t : List ℕ) (x : MadeKey) (e : x ≡ madeKey (keyFor m 
   unfolding madeKey
   number = ap (λ (y : MadeKey). y .refusal) e
 
-  pub made-refuses : (x .refusal ≡ 0 → ⊥) → (q : Asked) → meaning (record { manner = m; text = t; asked = q }) ≡ refuses (x .refusal)
+  pub made-refuses : (x .refusal ≡ 0 → ⊥) → (o : ℕ) → isOwner o ≡ true → (q : Asked) → meaning (record { manner = m; owner = o; text = t; asked = q }) ≡ refuses (x .refusal)
   unfolding meaning
-  made-refuses h q = rw number (keyed-by (keyFor m t) (under q) (λ z. h (number ∙ z)))
+  made-refuses h o w q = rw (w, number) (keyed-by (keyFor m t) (λ k. under q (o ∷ k)) (λ z. h (number ∙ z)))
 
   pub made-keyed : x .refusal ≡ 0 → Keyed m t (x .key .bytes) (x .key .len)
   unfolding madeKey

@@ -1,12 +1,13 @@
--- The oldest state of a client: the lowest revision among its records of kind 5.
+-- The oldest state of an owner's client: the lowest revision among that owner's records of kind 5.
 -- Assumes nothing.
 use mathlib.Core.Path.{_≡_}
 use mathlib.Core.Bool.{cond, _&&_}
 use mathlib.Core.List.{List, [], _∷_}
 use Prim.Native.Nat.{ℕ}
 use lib.Dec.{eqb}
+use lib.ListN.{drop}
 use Rattle.text.specs.Part.{same}
-use Rattle.text.specs.Refusal.{badBook}
+use Rattle.text.specs.Refusal.{badBook, badOwner}
 use Rattle.text.specs.Refusal as refusal
 use Rattle.identifiers.specs.Check.{checkOf}
 use Rattle.identifiers.specs.Check as check
@@ -18,7 +19,9 @@ use Rattle.path.specs.Read.{readPath}
 use Rattle.path.specs.Revision.{revision, below}
 use Rattle.path.specs.Text.{shownOf}
 use Rattle.path.specs.View.{kindOf, carriedOf}
+use Rattle.book_records.specs.Records.{Key}
 use Rattle.book_records.specs.Act.{Rec}
+use Rattle.book_records.specs.Calls.{isOwner, ownerOf}
 use Rattle.book_oldest.specs.declared.StateAnswer.{StateAnswer}
 use Rattle.book_oldest.specs.declared.StateAnswer.the-variants.{State, Nothing}
 use Rattle.book_form.specs.Form.{Form}
@@ -38,22 +41,29 @@ older Nothing y = y
 older (State p) Nothing = State p
 older (State p) (State q) = cond (below q p) (State q) (State p)
 
-unfoldable pub oldestState : List ℕ → List Rec → StateAnswer
-oldestState client [] = Nothing
-oldestState client (r ∷ rs) = older (stateOf client (r .0)) (oldestState client rs)
+-- the same of a record's key: nothing where it is another owner's
+unfoldable pub ownState : ℕ → List ℕ → Key → StateAnswer
+ownState owner client k = cond (eqb (ownerOf k) owner) (stateOf client (drop 1 k)) Nothing
+
+unfoldable pub oldestState : ℕ → List ℕ → List Rec → StateAnswer
+oldestState owner client [] = Nothing
+oldestState owner client (r ∷ rs) = older (ownState owner client (r .0)) (oldestState owner client rs)
 
 abbrev pub pairOf : StateAnswer → Pair
 pairOf (State p) = pair 0 (p .number .0) (p .height .0)
 pairOf Nothing = pair refusal.absent 0 0
 
--- the client checks, then 12
-unfoldable pub oldestIn : List ℕ → List Rec → Pair
-oldestIn client s = cond (eqb (checkOf check.client client) 0) (pairOf (oldestState client s)) (pair (checkOf check.client client) 0 0)
+-- 23, the client checks, then 12
+abbrev pub checkedState : ℕ → List ℕ → List Rec → Pair
+checkedState owner client s = cond (eqb (checkOf check.client client) 0) (pairOf (oldestState owner client s)) (pair (checkOf check.client client) 0 0)
 
-pub data Oldest (F : Form) (b client : List ℕ) (r : Pair) : Type 0 where
-  no-book : (Book F b → ⊥) → r ≡ pair badBook 0 0 → Oldest F b client r
-  this-book : (x : Book F b) → r ≡ oldestIn client (x .records) → Oldest F b client r
+unfoldable pub oldestIn : ℕ → List ℕ → List Rec → Pair
+oldestIn owner client s = cond (isOwner owner) (checkedState owner client s) (pair badOwner 0 0)
 
--- an answer is the oldest state of the client in the book b
-abbrev pub OldestIs : Form → List ℕ → List ℕ → StateAnswer → Type 0
-OldestIs F b client r = (x : Book F b) → r ≡ oldestState client (x .records)
+pub data Oldest (F : Form) (b : List ℕ) (owner : ℕ) (client : List ℕ) (r : Pair) : Type 0 where
+  no-book : (Book F b → ⊥) → r ≡ pair badBook 0 0 → Oldest F b owner client r
+  this-book : (x : Book F b) → r ≡ oldestIn owner client (x .records) → Oldest F b owner client r
+
+-- an answer is the oldest state of the owner's client in the book b
+abbrev pub OldestIs : Form → List ℕ → ℕ → List ℕ → StateAnswer → Type 0
+OldestIs F b owner client r = (x : Book F b) → r ≡ oldestState owner client (x .records)

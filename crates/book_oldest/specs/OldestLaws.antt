@@ -5,13 +5,13 @@ use mathlib.Core.Bool.{Bool, true, false, cond, _&&_}
 use mathlib.Core.List.{List, [], _∷_, _++_, append-assoc}
 use mathlib.Core.Option.{some}
 use mathlib.Core.Logic.{_⊎_, inl, inr, ⊎-elim}
-use Prim.Native.Nat.{ℕ, zero, suc, _+_, _<_, _≤_}
+use Prim.Native.Nat.{ℕ, zero, suc, _+_, _*_, _<_, _≤_}
 use native.Mathlib.Nat.{zero-add, suc-add}
 use native.Mathlib.Decide.{decLt}
 use native.Mathlib.Numerals.{add-one}
 use native.Mathlib.Omega.{arith}
 use lib.Dec.{eqb}
-use lib.ListN.{length, drop, getElem?, drop-of-length-le}
+use lib.ListN.{length, drop, getD, getElem?, drop-of-length-le}
 use borrow.Author.Tests.{eqb-true, eq-eqb, ne-eqb}
 use Rattle.text.specs.Part.{same, startsWith}
 use Rattle.text.specs.Put.{text}
@@ -40,19 +40,21 @@ use Rattle.writers.specs.Texts.{parentText, consensusText}
 use Rattle.writers.specs.Texts as texts
 use Rattle.writers.specs.TextLaws.{client-text}
 use Rattle.book_records.specs.Act.{Rec}
-use Rattle.book_records.specs.Calls.{Exact}
+use Rattle.book_records.specs.Calls.{isOwner, Exact, Owned}
 use Rattle.book_records.specs.SplitLaws.{sorted-at}
 use Rattle.book_form.specs.Form.{Form, keyAt}
 use Rattle.book_form.specs.FormLaws.{Lawful}
+use Rattle.book_form.specs.Counted.{stored}
+use Rattle.book_form.specs.VersionLaws.{owned-key}
 use Rattle.book_oldest.specs.declared.StateAnswer.{StateAnswer}
 use Rattle.book_oldest.specs.declared.StateAnswer.the-variants.{State, Nothing}
-use Rattle.book.specs.Book.{Book, Counts}
-use Rattle.book.specs.BookLaws.{one-book, key-is}
+use Rattle.book.specs.Book.{Current, Book, Counts}
+use Rattle.book.specs.BookLaws.{lawful, one-book, sizes, key-is}
 use Rattle.book.specs.CheckLaws.{exact-at}
 use Rattle.book.specs.Find.{Placed}
 use Rattle.book.specs.FindLaws.{above-down}
 use Rattle.book_oldest.specs.PrefixLaws.{starts-own, starts-below, starts-between}
-use Rattle.book_oldest.specs.Oldest.{stateBy, stateOf, older, oldestState, pairOf, oldestIn, Oldest, OldestIs}
+use Rattle.book_oldest.specs.Oldest.{stateBy, stateOf, older, ownState, oldestState, pairOf, oldestIn, Oldest, OldestIs}
 use Rattle.book_oldest.specs.Oldest as o
 
 -- ---- one key
@@ -117,12 +119,12 @@ older-assoc (State p) (State q) Nothing = older-none (older (State p) (State q))
 older-assoc (State p) (State q) (State r) = three p q r (below q p) refl (below r q) refl
 
 -- ---- all keys
--- records that are no states of the client have no influence
-pub skip-none : (client : List ℕ) (s : List Rec) (p : ℕ) → ((j : ℕ) (r : Rec) → j < p → getElem? s j ≡ some r → stateOf client (r .0) ≡ Nothing) → oldestState client s ≡ oldestState client (drop p s)
+-- records that are no states of the owner's client have no influence
+pub skip-none : (owner : ℕ) (client : List ℕ) (s : List Rec) (p : ℕ) → ((j : ℕ) (r : Rec) → j < p → getElem? s j ≡ some r → ownState owner client (r .0) ≡ Nothing) → oldestState owner client s ≡ oldestState owner client (drop p s)
 unfolding oldestState
-skip-none client s zero f = refl
-skip-none client [] (suc p) f = refl
-skip-none client (r ∷ s) (suc p) f = ap (λ (a : StateAnswer). older a (oldestState client s)) (f 0 r (omega arith) refl) ∙ skip-none client s p (λ j q h e. f (suc j) q (omega arith) e)
+skip-none owner client s zero f = refl
+skip-none owner client [] (suc p) f = refl
+skip-none owner client (r ∷ s) (suc p) f = ap (λ (a : StateAnswer). older a (oldestState owner client s)) (f 0 r (omega arith) refl) ∙ skip-none owner client s p (λ j q h e. f (suc j) q (omega arith) e)
 
 -- a consensus state's rendering begins with its client's parent
 begins-parent : (client : List ℕ) (a b : ℕ) → startsWith (parentText client) (consensusText client a b []) ≡ true
@@ -165,72 +167,116 @@ module _ (client k : List ℕ) (e : Exact k) (f : startsWith (parentText client)
       go (Refused w) q = sym (state-refused client k (readPath k) w q refl)
       go (Read p x) q = test p x q (eqb (kindOf p) 5 && same (shownOf k (carriedOf p .first)) client) refl
 
+-- ---- a key with its owner in front
+pub own-there : (owner : ℕ) (client k : List ℕ) → ownState owner client (owner ∷ k) ≡ stateOf client k
+unfolding ownState
+own-there owner client k = rw (eq-eqb owner owner refl)
+
+-- it is no state where it does not begin with the owner and the client's parent
+pub own-nowhere : (owner : ℕ) (client k : List ℕ) → Owned k → startsWith (owner ∷ parentText client) k ≡ false → ownState owner client k ≡ Nothing
+unfolding ownState startsWith
+own-nowhere owner client [] h f = absurd h
+own-nowhere owner client (o ∷ k) h f = go (eqb o owner) f
+  where
+    go : (t : Bool) → (t && startsWith (parentText client) k) ≡ false → cond t (stateOf client k) Nothing ≡ Nothing
+    go true e = state-nowhere client k (h .1) e
+    go false e = refl
+
+-- the first byte of a key that begins with the owner
+pub owner-ahead : (owner : ℕ) (w k : List ℕ) (o : ℕ) → startsWith (owner ∷ w) (o ∷ k) ≡ true → o ≡ owner
+unfolding startsWith
+owner-ahead owner w k o e = eqb-true o owner (and-left (eqb o owner) (startsWith w k) e)
+
+-- ---- whether a slot's key begins with the owner and a text
+module _ (b : List ℕ) (at : ℕ) (hb : at < length b) (owner : ℕ) (w : List ℕ) where
+  pub below-other : (getD b at 0 ≡ owner → ⊥) → false ≡ startsWith (owner ∷ w) (Current .recordOf (drop at b) .0)
+  unfolding startsWith
+  below-other n = rw (owned-key b at hb, ne-eqb (getD b at 0) owner n)
+
+  pub below-same : getD b at 0 ≡ owner → (r : Bool) → r ≡ startsWith w (stored b (at + 1)) → r ≡ startsWith (owner ∷ w) (Current .recordOf (drop at b) .0)
+  unfolding startsWith
+  below-same e r er = er ∙ rw (owned-key b at hb, eq-eqb (getD b at 0) owner e)
+
 -- ---- the walk
 -- what was seen before place i, and what stands from there on
-abbrev pub OldestFrom : Form → List ℕ → List ℕ → StateAnswer → ℕ → Type 0
-OldestFrom F b client best i = (x : Book F b) → oldestState client (x .records) ≡ older best (oldestState client (drop i (x .records)))
+abbrev pub OldestFrom : List ℕ → ℕ → List ℕ → StateAnswer → ℕ → Type 0
+OldestFrom b owner client best i = (x : Book Current b) → oldestState owner client (x .records) ≡ older best (oldestState owner client (drop i (x .records)))
 
 drop-elem : (s : List Rec) (i j : ℕ) → getElem? (drop i s) j ≡ getElem? s (i + j)
 drop-elem s zero j = rw zero-add
 drop-elem [] (suc i) j = refl
 drop-elem (r ∷ s) (suc i) j = drop-elem s i j ∙ rw suc-add
 
-module _ (F : Form) (L : Lawful F) (b : List ℕ) (n : ℕ) (h : Counts F b n) (client parent : List ℕ) (ep : parent ≡ parentText client) where
-  count-any : (x : Book F b) → length (x .records) ≡ n
-  count-any x = ap length (one-book F L b x (h .0) .2) ∙ h .1
+module _ (b : List ℕ) (n : ℕ) (h : Counts Current b n) (owner : ℕ) (client parent : List ℕ) (ep : parent ≡ parentText client) where
+  count-any : (x : Book Current b) → length (x .records) ≡ n
+  count-any x = ap length (one-book Current lawful b x (h .0) .2) ∙ h .1
 
-  -- a key that does not begin with the parent is no state
-  none-at : (x : Book F b) (j : ℕ) (r : Rec) → getElem? (x .records) j ≡ some r → startsWith parent (keyAt F b j) ≡ false → stateOf client (r .0) ≡ Nothing
-  none-at x j r e f = state-nowhere client (r .0) (exact-at (x .records) j r (x .exact) e) (ap (λ (w : List ℕ). startsWith w (r .0)) (sym ep) ∙ ap (startsWith parent) (sym (key-is F L b x j r e)) ∙ f)
+  -- what the owner's states begin with
+  abbrev front : List ℕ
+  front = owner ∷ parent
 
-  module _ (p : ℕ) (pl : Placed F b parent n p) where
-    pub oldest-start : OldestFrom F b client Nothing p
-    oldest-start x = skip-none client (x .records) p (λ j r l e. none-at x j r e (starts-below parent (keyAt F b j) (pl .before j l)))
+  -- a key that does not begin with it is no state
+  none-at : (x : Book Current b) (j : ℕ) (r : Rec) → getElem? (x .records) j ≡ some r → startsWith front (keyAt Current b j) ≡ false → ownState owner client (r .0) ≡ Nothing
+  none-at x j r e f =
+      own-nowhere owner client (r .0) (exact-at Current (x .records) j r (x .exact) e)
+      (ap (λ (w : List ℕ). startsWith (owner ∷ w) (r .0)) (sym ep) ∙ ap (startsWith front) (sym (key-is Current lawful b x j r e)) ∙ f)
 
-    module _ (best : StateAnswer) (i : ℕ) (inv : OldestFrom F b client best i) where
-      pub oldest-end : n ≤ i → OldestIs F b client best
+  module _ (p : ℕ) (pl : Placed Current b front n p) where
+    pub oldest-start : OldestFrom b owner client Nothing p
+    oldest-start x = skip-none owner client (x .records) p (λ j r l e. none-at x j r e (starts-below front (keyAt Current b j) (pl .before j l)))
+
+    module _ (best : StateAnswer) (i : ℕ) (inv : OldestFrom b owner client best i) where
+      pub oldest-end : n ≤ i → OldestIs Current b owner client best
       unfolding oldestState
       oldest-end l x =
           let g : length (x .records) ≤ i = omega (arith, count-any x) in
-          sym (inv x ∙ ap (λ (s : List Rec). older best (oldestState client s)) (drop-of-length-le (x .records) g) ∙ older-none best)
+          sym (inv x ∙ ap (λ (s : List Rec). older best (oldestState owner client s)) (drop-of-length-le (x .records) g) ∙ older-none best)
 
-      module _ (l : i < n) (key : List ℕ) (ek : key ≡ keyAt F b i) where
-        pub oldest-next : (a c : StateAnswer) → a ≡ stateOf client key → c ≡ older best a → OldestFrom F b client c (i + 1)
+      module _ (l : i < n) (t : Bool) (et : t ≡ startsWith front (keyAt Current b i)) where
+        -- the key in slot i, where it is the owner's
+        own-key : t ≡ true → keyAt Current b i ≡ owner ∷ stored b (12 + 322 * i + 1)
+        own-key f =
+            let at : ℕ = 12 + 322 * i in
+            let k = owned-key b at (omega (arith, sizes Current lawful b n h .used)) in
+            k ∙ ap (λ (o : ℕ). o ∷ stored b (at + 1)) (owner-ahead owner parent (stored b (at + 1)) (getD b at 0) (ap (startsWith front) (sym k) ∙ sym et ∙ f))
+
+        pub oldest-next : t ≡ true → (key : List ℕ) → key ≡ stored b (12 + 322 * i + 1) → (a c : StateAnswer) → a ≡ stateOf client key → c ≡ older best a → OldestFrom b owner client c (i + 1)
         unfolding oldestState
-        oldest-next a c ea ec x =
+        oldest-next f key ek a c ea ec x =
             let s = x .records in
             let r = at-some s i (omega (arith, count-any x)) in
-            let k : a ≡ stateOf client (r .0 .0) = ea ∙ ap (stateOf client) (ek ∙ key-is F L b x i (r .0) (r .1)) in
+            let there : owner ∷ key ≡ r .0 .0 = ap (λ (q : List ℕ). owner ∷ q) ek ∙ sym (own-key f) ∙ key-is Current lawful b x i (r .0) (r .1) in
+            let k : a ≡ ownState owner client (r .0 .0) = ea ∙ sym (own-there owner client key) ∙ ap (ownState owner client) there in
             inv x
-            ∙ ap (λ (t : List Rec). older best (oldestState client t)) (drop-place s i (r .0) (r .1))
-            ∙ sym (older-assoc best (stateOf client (r .0 .0)) (oldestState client (drop (suc i) s)))
-            ∙ ap (λ (z : StateAnswer). older z (oldestState client (drop (suc i) s))) (ap (older best) (sym k) ∙ sym ec)
-            ∙ ap (λ (m : ℕ). older c (oldestState client (drop m s))) (sym (add-one i))
+            ∙ ap (λ (q : List Rec). older best (oldestState owner client q)) (drop-place s i (r .0) (r .1))
+            ∙ sym (older-assoc best (ownState owner client (r .0 .0)) (oldestState owner client (drop (suc i) s)))
+            ∙ ap (λ (z : StateAnswer). older z (oldestState owner client (drop (suc i) s))) (ap (older best) (sym k) ∙ sym ec)
+            ∙ ap (λ (m : ℕ). older c (oldestState owner client (drop m s))) (sym (add-one i))
 
-        later : p ≤ i → startsWith parent key ≡ false → (x : Book F b) (j : ℕ) (r : Rec) → i ≤ j → getElem? (x .records) j ≡ some r → startsWith parent (keyAt F b j) ≡ false
-        later g f x j r o e = go (decLt i j) (startsWith parent (keyAt F b j)) refl
+        later : p ≤ i → t ≡ false → (x : Book Current b) (j : ℕ) (r : Rec) → i ≤ j → getElem? (x .records) j ≡ some r → startsWith front (keyAt Current b j) ≡ false
+        later g f x j r o e = go (decLt i j) (startsWith front (keyAt Current b j)) refl
           where
-            here : startsWith parent (keyAt F b i) ≡ false
-            here = ap (startsWith parent) (sym ek) ∙ f
+            here : startsWith front (keyAt Current b i) ≡ false
+            here = sym et ∙ f
 
-            go : Dec (i < j) → (t : Bool) → startsWith parent (keyAt F b j) ≡ t → startsWith parent (keyAt F b j) ≡ false
-            go (no u) t q = let s : j ≡ i = omega arith in rw s here
+            go : Dec (i < j) → (v : Bool) → startsWith front (keyAt Current b j) ≡ v → startsWith front (keyAt Current b j) ≡ false
+            go (no u) v q = let s : j ≡ i = omega arith in rw s here
             go (yes u) false q = q
             go (yes u) true q =
                 let a = at-some (x .records) i (omega (arith, count-any x)) in
-                let ei : keyAt F b i ≡ a .0 .0 = key-is F L b x i (a .0) (a .1) in
-                let ej : keyAt F b j ≡ r .0 = key-is F L b x j r e in
-                let w : startsWith parent (keyAt F b i) ≡ true =
-                starts-between parent (keyAt F b i) (keyAt F b j) (λ v. pl .next (omega arith) (above-down F L b parent n h i p g l v)) (rw (ei, ej) (sorted-at (x .records) i j (a .0) r (x .sorted) u (a .1) e)) q in
+                let ei : keyAt Current b i ≡ a .0 .0 = key-is Current lawful b x i (a .0) (a .1) in
+                let ej : keyAt Current b j ≡ r .0 = key-is Current lawful b x j r e in
+                let w : startsWith front (keyAt Current b i) ≡ true =
+                starts-between front (keyAt Current b i) (keyAt Current b j) (λ v. pl .next (omega arith) (above-down Current lawful b front n h i p g l v)) (rw (ei, ej) (sorted-at (x .records) i j (a .0) r (x .sorted) u (a .1) e)) q in
                 let z : true ≡ false = sym w ∙ here in
                 cc
 
-        pub oldest-stop : p ≤ i → startsWith parent key ≡ false → OldestIs F b client best
+        pub oldest-stop : p ≤ i → t ≡ false → OldestIs Current b owner client best
         unfolding oldestState
         oldest-stop g f x =
             let s = drop i (x .records) in
             let o : length s ≤ length s = omega arith in
-            let none : oldestState client s ≡ Nothing = skip-none client s (length s) (λ j r u e. none-at x (i + j) r (sym (drop-elem (x .records) i j) ∙ e) (later g f x (i + j) r (omega arith) (sym (drop-elem (x .records) i j) ∙ e))) ∙ ap (oldestState client) (drop-of-length-le s o) in
+            let none : oldestState owner client s ≡ Nothing = skip-none owner client s (length s) (λ j r u e. none-at x (i + j) r (sym (drop-elem (x .records) i j) ∙ e) (later g f x (i + j) r (omega arith) (sym (drop-elem (x .records) i j) ∙ e))) ∙ ap (oldestState owner client) (drop-of-length-le s o) in
             sym (inv x ∙ ap (older best) none ∙ older-none best)
 
 -- ---- what is answered is a state, and none is older
@@ -269,56 +315,61 @@ low-second (State p) q r e = go (below q p) refl e
     go true b f = let s : q ≡ r = cc in rw (← s) (below-self q)
     go false b f = let s : p ≡ r = cc in rw (← s) b
 
-module _ (client : List ℕ) where
-  pub oldest-nothing : (s : List Rec) → oldestState client s ≡ Nothing → (j : ℕ) (r : Rec) → getElem? s j ≡ some r → stateOf client (r .0) ≡ Nothing
+module _ (owner : ℕ) (client : List ℕ) where
+  pub oldest-nothing : (s : List Rec) → oldestState owner client s ≡ Nothing → (j : ℕ) (r : Rec) → getElem? s j ≡ some r → ownState owner client (r .0) ≡ Nothing
   unfolding oldestState
   oldest-nothing [] e j r f = absurd (let z : _≡_ {A = ℕ} 0 1 = cc in let w : ⊥ = omega arith in w)
-  oldest-nothing (q ∷ s) e zero r f = let p : q ≡ r = cc in rw (← p) (older-nothing (stateOf client (q .0)) (oldestState client s) e .0)
-  oldest-nothing (q ∷ s) e (suc j) r f = oldest-nothing s (older-nothing (stateOf client (q .0)) (oldestState client s) e .1) j r f
+  oldest-nothing (q ∷ s) e zero r f = let p : q ≡ r = cc in rw (← p) (older-nothing (ownState owner client (q .0)) (oldestState owner client s) e .0)
+  oldest-nothing (q ∷ s) e (suc j) r f = oldest-nothing s (older-nothing (ownState owner client (q .0)) (oldestState owner client s) e .1) j r f
 
   -- the answer is the revision of a record
-  pub oldest-held : (s : List Rec) (p : Revision) → oldestState client s ≡ State p → (j : ℕ) × (r : Rec) × (getElem? s j ≡ some r) × (stateOf client (r .0) ≡ State p)
+  pub oldest-held : (s : List Rec) (p : Revision) → oldestState owner client s ≡ State p → (j : ℕ) × (r : Rec) × (getElem? s j ≡ some r) × (ownState owner client (r .0) ≡ State p)
   unfolding oldestState
   oldest-held [] p e = absurd (let z : _≡_ {A = ℕ} 0 1 = cc in let w : ⊥ = omega arith in w)
-  oldest-held (q ∷ s) p e = ⊎-elim (λ f. (0, q, refl, f)) (λ f. let t = oldest-held s p f in (suc (t .0), t .1, t .2, t .3)) (older-one (stateOf client (q .0)) (oldestState client s) p e)
+  oldest-held (q ∷ s) p e = ⊎-elim (λ f. (0, q, refl, f)) (λ f. let t = oldest-held s p f in (suc (t .0), t .1, t .2, t .3)) (older-one (ownState owner client (q .0)) (oldestState owner client s) p e)
 
   -- and no record has one below it
-  pub oldest-least : (s : List Rec) (p : Revision) → oldestState client s ≡ State p → (j : ℕ) (r : Rec) (q : Revision) → getElem? s j ≡ some r → stateOf client (r .0) ≡ State q → below q p ≡ false
+  pub oldest-least : (s : List Rec) (p : Revision) → oldestState owner client s ≡ State p → (j : ℕ) (r : Rec) (q : Revision) → getElem? s j ≡ some r → ownState owner client (r .0) ≡ State q → below q p ≡ false
   unfolding oldestState
   oldest-least [] p e j r q f g = let z : _≡_ {A = ℕ} 0 1 = cc in absurd (omega arith)
   oldest-least (t ∷ s) p e zero r q f g =
       let same : t ≡ r = cc in
-      let a : stateOf client (t .0) ≡ State q = ap (λ (u : Rec). stateOf client (u .0)) same ∙ g in
-      low-first q (oldestState client s) p (ap (λ (u : StateAnswer). older u (oldestState client s)) (sym a) ∙ e)
-  oldest-least (t ∷ s) p e (suc j) r q f g = go (oldestState client s) refl (oldest-least s)
+      let a : ownState owner client (t .0) ≡ State q = ap (λ (u : Rec). ownState owner client (u .0)) same ∙ g in
+      low-first q (oldestState owner client s) p (ap (λ (u : StateAnswer). older u (oldestState owner client s)) (sym a) ∙ e)
+  oldest-least (t ∷ s) p e (suc j) r q f g = go (oldestState owner client s) refl (oldest-least s)
     where
-      go : (o : StateAnswer) → oldestState client s ≡ o → ((o : Revision) → oldestState client s ≡ State o → (j : ℕ) (r : Rec) (q : Revision) → getElem? s j ≡ some r → stateOf client (r .0) ≡ State q → below q o ≡ false) → below q p ≡ false
-      go Nothing e₁ ih = let c : stateOf client (r .0) ≡ Nothing = oldest-nothing s e₁ j r f in let z : _≡_ {A = ℕ} 0 1 = cc in absurd (omega arith)
+      go : (o : StateAnswer) → oldestState owner client s ≡ o → ((o : Revision) → oldestState owner client s ≡ State o → (j : ℕ) (r : Rec) (q : Revision) → getElem? s j ≡ some r → ownState owner client (r .0) ≡ State q → below q o ≡ false) → below q p ≡ false
+      go Nothing e₁ ih = let c : ownState owner client (r .0) ≡ Nothing = oldest-nothing s e₁ j r f in let z : _≡_ {A = ℕ} 0 1 = cc in absurd (omega arith)
       go (State o) e₁ ih = above (below q p) refl
         where
           above : (c : Bool) → below q p ≡ c → c ≡ false
           above false h = refl
           above true h =
-              let k = below-through q p o h (low-second (stateOf client (t .0)) o p (ap (older (stateOf client (t .0))) (sym e₁) ∙ e)) in
+              let k = below-through q p o h (low-second (ownState owner client (t .0)) o p (ap (older (ownState owner client (t .0))) (sym e₁) ∙ e)) in
               let l = ih o e₁ j r q f g in
               let z : _≡_ {A = ℕ} 0 1 = cc in
               absurd (omega arith)
 
 -- ---- the call
-module _ (F : Form) (b client : List ℕ) (n : ℕ) (h : Counts F b n) (f : ℕ) (ef : f ≡ checkOf check.client client) where
-  pub oldest-refused : (f ≡ 0 → ⊥) → Oldest F b client (pair f 0 0)
+module _ (F : Form) (b : List ℕ) (owner : ℕ) (client : List ℕ) (n : ℕ) (h : Counts F b n) (t : Bool) (et : t ≡ isOwner owner) where
+  pub oldest-nobody : t ≡ false → Oldest F b owner client (pair 23 0 0)
   unfolding oldestIn
-  oldest-refused g = o.Oldest.this-book (h .0) (rw (ne-eqb (checkOf check.client client) 0 (λ q. g (ef ∙ q))) (ap (λ (z : ℕ). pair z 0 0) ef))
+  oldest-nobody g = o.Oldest.this-book (h .0) (rw (sym et ∙ g))
 
-  pub oldest-found : f ≡ 0 → (a : StateAnswer) → OldestIs F b client a → Oldest F b client (pairOf a)
-  unfolding oldestIn
-  oldest-found g a e = o.Oldest.this-book (h .0) (rw (eq-eqb (checkOf check.client client) 0 (sym ef ∙ g)) (ap pairOf (e (h .0))))
+  module _ (g : t ≡ true) (f : ℕ) (ef : f ≡ checkOf check.client client) where
+    pub oldest-refused : (f ≡ 0 → ⊥) → Oldest F b owner client (pair f 0 0)
+    unfolding oldestIn
+    oldest-refused z = o.Oldest.this-book (h .0) (rw (sym et ∙ g, ne-eqb (checkOf check.client client) 0 (λ q. z (ef ∙ q))) (ap (λ (m : ℕ). pair m 0 0) ef))
 
-  pub oldest-by : f ≡ 0 → (a : StateAnswer) → OldestIs F b client a → (q : StateAnswer) → a ≡ q → Oldest F b client (pairOf q)
-  oldest-by g a e q w = rw w at (oldest-found g a e)
+    oldest-found : f ≡ 0 → (a : StateAnswer) → OldestIs F b owner client a → Oldest F b owner client (pairOf a)
+    unfolding oldestIn
+    oldest-found z a e = o.Oldest.this-book (h .0) (rw (sym et ∙ g, eq-eqb (checkOf check.client client) 0 (sym ef ∙ z)) (ap pairOf (e (h .0))))
 
-pub one-oldest : (F : Form) → Lawful F → (b client : List ℕ) (r q : Pair) → Oldest F b client r → Oldest F b client q → r ≡ q
-one-oldest F L b client r q (o.Oldest.no-book n e) (o.Oldest.no-book m f) = e ∙ sym f
-one-oldest F L b client r q (o.Oldest.no-book n e) (o.Oldest.this-book y f) = absurd (n y)
-one-oldest F L b client r q (o.Oldest.this-book x e) (o.Oldest.no-book m f) = absurd (m x)
-one-oldest F L b client r q (o.Oldest.this-book x e) (o.Oldest.this-book y f) = e ∙ ap (oldestIn client) (one-book F L b x y .2) ∙ sym f
+    pub oldest-by : f ≡ 0 → (a : StateAnswer) → OldestIs F b owner client a → (q : StateAnswer) → a ≡ q → Oldest F b owner client (pairOf q)
+    oldest-by z a e q w = rw w at (oldest-found z a e)
+
+pub one-oldest : (F : Form) → Lawful F → (b : List ℕ) (owner : ℕ) (client : List ℕ) (r q : Pair) → Oldest F b owner client r → Oldest F b owner client q → r ≡ q
+one-oldest F L b owner client r q (o.Oldest.no-book n e) (o.Oldest.no-book m f) = e ∙ sym f
+one-oldest F L b owner client r q (o.Oldest.no-book n e) (o.Oldest.this-book y f) = absurd (n y)
+one-oldest F L b owner client r q (o.Oldest.this-book x e) (o.Oldest.no-book m f) = absurd (m x)
+one-oldest F L b owner client r q (o.Oldest.this-book x e) (o.Oldest.this-book y f) = e ∙ ap (oldestIn owner client) (one-book F L b x y .2) ∙ sym f

@@ -2,12 +2,14 @@
 -- The refusals that the call's own text, value and room decide are in its `Meaning`; FULL and ABSENT are decided here.
 -- Assumes nothing.
 use Prim.Native.Nat.{ℕ}
+use mathlib.Core.Path.{_≡_, refl}
 use mathlib.Core.Bool.{Bool, cond}
-use mathlib.Core.List.{List, []}
+use mathlib.Core.List.{List, [], _∷_}
 use Rattle.text.specs.Refusal as refusal
 use lib.Dec.{eqb}
-use lib.ListN.{length}
+use lib.ListN.{getD}
 use mathlib.Core.Option.{Option, none, some}
+use Rattle.runs.specs.Total.{total}
 use Rattle.book_records.specs.Records.{Key, get, put, del}
 
 -- a record: a key and its value
@@ -47,12 +49,18 @@ act full (writes k v) s = addTo (get s k) (full k s) (put s k v) s
 act full (removes k) s = takeFrom (get s k) (del s k) s
 act full (looks k) s = lookIn (get s k) s
 
--- the records of a book with C slots are full at C of them
-abbrev pub fullAt : ℕ → Key → List Rec → Bool
-fullAt C k s = eqb (length s) C
+-- ---- owners: each record is somebody's, by its key, and each owner has a quota of records
+-- how many records an owner has
+unfoldable pub countBy : (Key → ℕ) → ℕ → List Rec → ℕ
+countBy owner o s = total (λ r. cond (eqb (owner (r .0)) o) 1 0) s
 
-abbrev pub actIn : ℕ → Meaning → List Rec → Answer × List Rec
-actIn C m s = act (fullAt C) m s
+two-of-three : countBy (λ k. getD k 0 0) 1 ((1 ∷ 97 ∷ [], 7 ∷ []) ∷ (1 ∷ 98 ∷ [], 8 ∷ []) ∷ (2 ∷ 97 ∷ [], 9 ∷ []) ∷ []) ≡ 2
+unfolding countBy
+two-of-three = refl
+
+-- there is no room for a new key where its owner has as many records as its quota says
+abbrev pub fullBy : (Key → ℕ) → (ℕ → ℕ) → Key → List Rec → Bool
+fullBy owner quota k s = eqb (countBy owner (owner k) s) (quota (owner k))
 
 -- what the caller sees of an answer: its number, 0 for done, and the value that a lookup gives
 pub record Seen : Type 0 where

@@ -1,19 +1,17 @@
 -- Calls on a book's records are independent of each other: an answer and what a key holds go by the calls on that key alone.
 -- Assumes nothing.
 use mathlib.Core.Path.{_≡_, refl, sym, ap, _∙_}
-use mathlib.Core.Bool.{Bool, true, false}
+use mathlib.Core.Bool.{Bool, true, false, cond}
 use mathlib.Core.List.{List, List-discrete}
 use mathlib.Core.Option.{Option, none, some}
 use Prim.Native.Nat.{ℕ, _+_, _-_, _≤_}
 use native.Mathlib.Decide.{ℕ-discrete}
 use native.Mathlib.Omega.{arith}
 use lib.Dec.{eqb}
-use borrow.Author.Tests.{eqb-true, eqb-false}
-use Rattle.runs.specs.Total.{total}
-use Rattle.runs.specs.CellLaws.{pick, pick-yes, pick-no}
+use borrow.Author.Tests.{eqb-true, eqb-false, eq-eqb, ne-eqb}
 use Rattle.book_records.specs.Records.{Key, get, put, del, Sorted}
 use Rattle.book_records.specs.RecordLaws.{get-put-same, get-put-other, get-del-same, get-del-other, sorted-put, sorted-del, total-put-new, total-put-old, total-del}
-use Rattle.book_records.specs.Act.{Rec, Meaning, refuses, writes, removes, looks, Answer, says, done, gives, addTo, takeFrom, lookIn, act}
+use Rattle.book_records.specs.Act.{Rec, Meaning, refuses, writes, removes, looks, Answer, says, done, gives, addTo, takeFrom, lookIn, act, countBy, fullBy}
 
 abbrev pub keyMeant : Meaning → Option Key
 keyMeant (refuses n) = none
@@ -44,45 +42,59 @@ dec-some (some j) k = go (List-discrete ℕ-discrete j k)
     go (yes e) = yes (ap {B = Option Key} some e)
     go (no n) = no (λ e. n (let z : j ≡ k = cc in z))
 
--- Each key's record is paid from a purse. A book with one owner has one purse, with C slots; one with owners has a purse for each.
-module _ {Purse : Type 0} (purse : Key → Purse) (samePurse : (p q : Purse) → Dec (p ≡ q)) where
-  abbrev pub costs : Purse → Rec → ℕ
-  costs p r = pick (samePurse (purse (r .0)) p) 1 0
+-- Each record is its owner's, by its key, and each owner has a quota.
+module _ (owner : Key → ℕ) where
+  abbrev pub cost : ℕ → Rec → ℕ
+  cost o r = cond (eqb (owner (r .0)) o) 1 0
 
-  abbrev pub countOf : List Rec → Purse → ℕ
-  countOf s p = total (costs p) s
+  own-cost : (o : ℕ) (r : Rec) → owner (r .0) ≡ o → cost o r ≡ 1
+  own-cost o r e = rw (eq-eqb (owner (r .0)) o e)
 
-module _
-    {Purse : Type 0} (purse : Key → Purse) (samePurse : (p q : Purse) → Dec (p ≡ q)) (quota : Purse → ℕ)
-    (full : Key → List Rec → Bool) (tells : (k : Key) (s : List Rec) → full k s ≡ eqb (countOf purse samePurse s (purse k)) (quota (purse k))) where
-  abbrev cost : Purse → Rec → ℕ
-  cost p r = costs purse samePurse p r
+  pub other-cost : (o : ℕ) (r : Rec) → (owner (r .0) ≡ o → ⊥) → cost o r ≡ 0
+  other-cost o r n = rw (ne-eqb (owner (r .0)) o n)
 
-  abbrev count : List Rec → Purse → ℕ
-  count = countOf purse samePurse
+  -- what a write of a new key, one of a key that is there, and a removal do to a count
+  pub count-new : (o : ℕ) (s : List Rec) (k : Key) (v : List ℕ) → get s k ≡ none → countBy owner o (put s k v) ≡ countBy owner o s + cost o (k, v)
+  unfolding countBy
+  count-new o s k v e = total-put-new (cost o) (λ j a b. refl) s k v e
 
-  is-full : (k : Key) (s : List Rec) → full k s ≡ true → count s (purse k) ≡ quota (purse k)
-  is-full k s e = eqb-true (count s (purse k)) (quota (purse k)) (sym (tells k s) ∙ e)
+  pub count-old : (o : ℕ) (s : List Rec) (k : Key) (u v : List ℕ) → Sorted s → get s k ≡ some u → countBy owner o (put s k v) ≡ countBy owner o s
+  unfolding countBy
+  count-old o s k u v h e = total-put-old (cost o) (λ j a b. refl) s k u v h e
 
-  not-full : (k : Key) (s : List Rec) → full k s ≡ false → count s (purse k) ≡ quota (purse k) → ⊥
-  not-full k s e = eqb-false (count s (purse k)) (quota (purse k)) (sym (tells k s) ∙ e)
+  pub count-less : (o : ℕ) (s : List Rec) (k : Key) → countBy owner o (del s k) ≤ countBy owner o s
+  unfolding countBy
+  count-less o s k = total-del (cost o) (λ j a b. refl) s k
 
-  -- records in order, and no purse over its quota
+module _ (owner : Key → ℕ) (quota : ℕ → ℕ) where
+  abbrev full : Key → List Rec → Bool
+  full = fullBy owner quota
+
+  abbrev count : List Rec → ℕ → ℕ
+  count s o = countBy owner o s
+
+  is-full : (k : Key) (s : List Rec) → full k s ≡ true → count s (owner k) ≡ quota (owner k)
+  is-full k s e = eqb-true (count s (owner k)) (quota (owner k)) e
+
+  not-full : (k : Key) (s : List Rec) → full k s ≡ false → count s (owner k) ≡ quota (owner k) → ⊥
+  not-full k s e = eqb-false (count s (owner k)) (quota (owner k)) e
+
+  -- records in order, and no owner over its quota
   pub record Proper (s : List Rec) : Type 0 where
     pub sorted : Sorted s
-    pub within : (p : Purse) → count s p ≤ quota p
+    pub within : (o : ℕ) → count s o ≤ quota o
 
-  abbrev pub free : List Rec → Purse → ℕ
-  free s p = quota p - count s p
+  abbrev pub free : List Rec → ℕ → ℕ
+  free s o = quota o - count s o
 
-  abbrev pub chargeOf : Purse → Meaning → ℕ
-  chargeOf p (refuses n) = 0
-  chargeOf p (writes k v) = cost p (k, v)
-  chargeOf p (removes k) = 0
-  chargeOf p (looks k) = 0
+  abbrev pub chargeOf : ℕ → Meaning → ℕ
+  chargeOf o (refuses n) = 0
+  chargeOf o (writes k v) = cost owner o (k, v)
+  chargeOf o (removes k) = 0
+  chargeOf o (looks k) = 0
 
   abbrev Room : List Rec → Meaning → Type 0
-  Room s m = (p : Purse) → chargeOf p m ≤ free s p
+  Room s m = (o : ℕ) → chargeOf o m ≤ free s o
 
   write-room : (s : List Rec) (k : Key) (v : List ℕ) → Room s (writes k v) → act full (writes k v) s ≡ (done, put s k v)
   unfolding act
@@ -93,8 +105,8 @@ module _
       go none false f = refl
       go none true f =
           let p = is-full k s f in
-          let one : cost (purse k) (k, v) ≡ 1 = pick-yes (samePurse (purse k) (purse k)) 1 0 refl in
-          absurd (let z : ⊥ = omega (arith, h (purse k)) in z)
+          let one = own-cost owner (owner k) (k, v) refl in
+          absurd (let z : ⊥ = omega (arith, h (owner k)) in z)
 
   pub good : (s : List Rec) (m : Meaning) → Proper s → Proper (act full m s .1)
   unfolding act
@@ -102,49 +114,49 @@ module _
   good s (writes k v) g = go (get s k) refl (full k s) refl
     where
       go : (x : Option (List ℕ)) → get s k ≡ x → (d : Bool) → full k s ≡ d → Proper (addTo x d (put s k v) s .1)
-      go (some u) e d f = record { sorted = sorted-put s k v (g .sorted); within = λ p. omega (arith, g .within p, total-put-old (cost p) (λ j a b. refl) s k u v (g .sorted) e) }
+      go (some u) e d f = record { sorted = sorted-put s k v (g .sorted); within = λ p. omega (arith, g .within p, count-old owner p s k u v (g .sorted) e) }
       go none e true f = g
       go none e false f = record { sorted = sorted-put s k v (g .sorted); within = room }
         where
-          room : (p : Purse) → count (put s k v) p ≤ quota p
-          room p = fits (samePurse (purse k) p)
+          room : (p : ℕ) → count (put s k v) p ≤ quota p
+          room p = fits (ℕ-discrete (owner k) p)
             where
-              new : count (put s k v) p ≡ count s p + cost p (k, v)
-              new = total-put-new (cost p) (λ j a b. refl) s k v e
+              new : count (put s k v) p ≡ count s p + cost owner p (k, v)
+              new = count-new owner p s k v e
 
-              fits : Dec (purse k ≡ p) → count (put s k v) p ≤ quota p
+              fits : Dec (owner k ≡ p) → count (put s k v) p ≤ quota p
               fits (yes q) =
-                  let one : cost p (k, v) ≡ 1 = pick-yes (samePurse (purse k) p) 1 0 q in
+                  let one = own-cost owner p (k, v) q in
                   let less : count s p ≡ quota p → ⊥ = λ w. not-full k s f (rw q w) in
                   omega (arith, new, g .within p, less)
               fits (no q) =
-                  let nil : cost p (k, v) ≡ 0 = pick-no (samePurse (purse k) p) 1 0 q in
+                  let nil = other-cost owner p (k, v) q in
                   omega (arith, new, g .within p)
   good s (removes k) g = go (get s k)
     where
       go : (x : Option (List ℕ)) → Proper (takeFrom x (del s k) s .1)
       go none = g
-      go (some u) = record { sorted = sorted-del s k (g .sorted); within = λ p. omega (arith, g .within p, total-del (cost p) (λ j a b. refl) s k) }
+      go (some u) = record { sorted = sorted-del s k (g .sorted); within = λ p. omega (arith, g .within p, count-less owner p s k) }
   good s (looks k) g = go (get s k)
     where
       go : (x : Option (List ℕ)) → Proper (lookIn x s .1)
       go none = g
       go (some u) = g
 
-  pub pays : (s : List Rec) (m : Meaning) → Proper s → (p : Purse) → free s p ≤ free (act full m s .1) p + chargeOf p m
+  pub pays : (s : List Rec) (m : Meaning) → Proper s → (p : ℕ) → free s p ≤ free (act full m s .1) p + chargeOf p m
   unfolding act
   pays s (refuses n) g p = omega arith
   pays s (writes k v) g p = go (get s k) refl (full k s) refl
     where
-      go : (x : Option (List ℕ)) → get s k ≡ x → (d : Bool) → full k s ≡ d → free s p ≤ free (addTo x d (put s k v) s .1) p + cost p (k, v)
-      go (some u) e d f = omega (arith, total-put-old (cost p) (λ j a b. refl) s k u v (g .sorted) e)
+      go : (x : Option (List ℕ)) → get s k ≡ x → (d : Bool) → full k s ≡ d → free s p ≤ free (addTo x d (put s k v) s .1) p + cost owner p (k, v)
+      go (some u) e d f = omega (arith, count-old owner p s k u v (g .sorted) e)
       go none e true f = omega arith
-      go none e false f = omega (arith, total-put-new (cost p) (λ j a b. refl) s k v e)
+      go none e false f = omega (arith, count-new owner p s k v e)
   pays s (removes k) g p = go (get s k)
     where
       go : (x : Option (List ℕ)) → free s p ≤ free (takeFrom x (del s k) s .1) p + 0
       go none = omega arith
-      go (some u) = omega (arith, total-del (cost p) (λ j a b. refl) s k)
+      go (some u) = omega (arith, count-less owner p s k)
   pays s (looks k) g p = go (get s k)
     where
       go : (x : Option (List ℕ)) → free s p ≤ free (lookIn x s .1) p + 0

@@ -1,9 +1,9 @@
 -- What a call means, by cases, and that the refusals of its own are those of the table.
 -- Assumes nothing.
-use Prim.Native.Nat.{ℕ}
-use mathlib.Core.Path.{_≡_, refl, _∙_}
+use Prim.Native.Nat.{ℕ, _≤_}
+use mathlib.Core.Path.{_≡_, refl, sym, ap, _∙_}
 use mathlib.Core.Bool.{Bool, true, false, cond, _&&_}
-use mathlib.Core.List.{List}
+use mathlib.Core.List.{List, _∷_}
 use native.Mathlib.Omega.{arith}
 use lib.Dec.{ltb, leb}
 use lib.ListN.{length}
@@ -16,27 +16,32 @@ use Rattle.path.specs.declared.Refusal.{Refusal}
 use Rattle.path.specs.declared.Refusal.the-variants.{TooLong, NotAscii, NotAPath, NoDigits, NotADigit, TooLarge}
 use Rattle.path.specs.declared.Reading.the-variants.{Refused as Unread}
 use Rattle.path.specs.Kinds.{kinds}
+use Rattle.path.specs.BackLaws.{key-exact}
 use Rattle.path.specs.Read.{readFirst, whyNot, refusalOf, readingOf, readPath, keyBy, keyOf}
 use Rattle.book_records.specs.Records.{Key}
 use Rattle.book_records.specs.Act.{Meaning, refuses, writes, removes, looks}
-use Rattle.book_records.specs.Calls.{keyed, Asked, to-write, to-remove, to-look, Call, under, meaning, PathOf, ValueFits}
-use Rattle.book_records.specs.Refusals.{HasKey, GoodWrite, GoodRemoval, GoodLookup, Declined, too-long, not-ascii, not-a-path, loose, key-too-long, bad-length, no-room}
+use Rattle.book_records.specs.Calls.{keyed, keyFor, Asked, to-write, to-remove, to-look, Call, isOwner, ownerOf, Owned, under, meaning, PathOf, ValueFits}
+use Rattle.book_records.specs.Refusals.{HasKey, GoodWrite, GoodRemoval, GoodLookup, Declined, bad-owner, too-long, not-ascii, not-a-path, loose, key-too-long, bad-length, no-room}
 use Rattle.book_records.specs.MannerLaws.{KeyFor, unread, other, own, key-for, for-unread, for-other, for-own}
 
+-- the path of a text that has a rendering
+path-of : (c : Call) (k : List ℕ) → isOwner (c .owner) ≡ true → keyOf (c .text) ≡ text k → PathOf c (c .owner ∷ k)
+path-of c k w e = record { rendering = k; known = w; renders = e; is = refl }
+
 -- a text that has no rendering
-key-refused : (c : Call) (n : ℕ) → keyOf (c .text) ≡ refused n → Declined c n
+key-refused : (c : Call) (n : ℕ) → isOwner (c .owner) ≡ true → keyOf (c .text) ≡ refused n → Declined c n
 unfolding keyOf readPath
-key-refused c n e = go (ltb 4096 (length t)) refl (ascii t) refl (readFirst kinds t) refl e
+key-refused c n w e = go (ltb 4096 (length t)) refl (ascii t) refl (readFirst kinds t) refl e
   where
     t : List ℕ
     t = c .text
 
     go : (l : Bool) → ltb 4096 (length t) ≡ l → (a : Bool) → ascii t ≡ a → (r : PathAnswer) → readFirst kinds t ≡ r
         → keyBy t (cond l (Unread TooLong) (cond a (readingOf t r) (Unread NotAscii))) ≡ refused n → Declined c n
-    go true l a ea r er q = let z : n ≡ 1 = cc in rw z (too-long (ltb-true 4096 (length t) l))
-    go false l false ea r er q = let z : n ≡ 2 = cc in rw z (not-ascii (ltb-false 4096 (length t) l) ea)
+    go true l a ea r er q = let z : n ≡ 1 = cc in rw z (too-long w (ltb-true 4096 (length t) l))
+    go false l false ea r er q = let z : n ≡ 2 = cc in rw z (not-ascii w (ltb-false 4096 (length t) l) ea)
     go false l true ea (Found p) er q = let z : _≡_ {A = ℕ} 0 1 = cc in absurd (omega arith)
-    go false l true ea Nothing er q = let z : n ≡ refusalOf (whyNot t) = cc in rw z (not-a-path (ltb-false 4096 (length t) l) ea er)
+    go false l true ea Nothing er q = let z : n ≡ refusalOf (whyNot t) = cc in rw z (not-a-path w (ltb-false 4096 (length t) l) ea er)
 
 -- ---- the cases
 pub data Means (c : Call) : Meaning → Type 0 where
@@ -61,25 +66,32 @@ under-means c k h (to-look room) p = go (leb 64 room) refl
 
 pub means : (c : Call) → Means c (meaning c)
 unfolding meaning keyed
-means c = go (key-for (c .manner) (c .text))
+means c = whose (isOwner (c .owner)) refl
   where
-    go : {x : Wanted} → KeyFor (c .manner) (c .text) x → Means c (keyed x (under (c .asked)))
-    go (unread {n = n} e) = declines (key-refused c n e)
-    go (other e s) = declines (loose e s)
-    go (own {k = k} e s) = fits (leb (length k) 255) refl
+    go : isOwner (c .owner) ≡ true → {x : Wanted} → KeyFor (c .manner) (c .text) x → Means c (keyed x (λ k. under (c .asked) (c .owner ∷ k)))
+    go w (unread {n = n} e) = declines (key-refused c n w e)
+    go w (other {k = k} e s) = declines (loose (path-of c k w e) s)
+    go w (own {k = k} e s) = fits (leb (length k) 255) refl
       where
-        fits : (b : Bool) → leb (length k) 255 ≡ b → Means c (cond b (under (c .asked) k) (refuses 10))
-        fits true l = under-means c k (record { path = e; spelled = s; fits = leb-true (length k) 255 l }) (c .asked) refl
-        fits false l = declines (key-too-long e s (leb-false (length k) 255 l))
+        fits : (b : Bool) → leb (length k) 255 ≡ b → Means c (cond b (under (c .asked) (c .owner ∷ k)) (refuses 10))
+        fits true l = under-means c (c .owner ∷ k) (record { path = path-of c k w e; spelled = s; fits = omega (arith, leb-true (length k) 255 l) }) (c .asked) refl
+        fits false l = declines (key-too-long (path-of c k w e) s (omega (arith, leb-false (length k) 255 l)))
+
+    whose : (b : Bool) → isOwner (c .owner) ≡ b → Means c (cond b (keyed (keyFor (c .manner) (c .text)) (λ k. under (c .asked) (c .owner ∷ k))) (refuses 23))
+    whose true w = go w (key-for (c .manner) (c .text))
+    whose false w = declines (bad-owner w)
 
 -- ---- and back: what the table says is what the call means
-keyed-refused : (c : Call) (n : ℕ) → keyOf (c .text) ≡ refused n → meaning c ≡ refuses n
+keyed-refused : (c : Call) (n : ℕ) → isOwner (c .owner) ≡ true → keyOf (c .text) ≡ refused n → meaning c ≡ refuses n
 unfolding meaning keyed
-keyed-refused c n e = rw (for-unread (c .manner) (c .text) n e)
+keyed-refused c n w e = rw (w, for-unread (c .manner) (c .text) n e)
 
 keyed-fits : (c : Call) (k : Key) → HasKey c k → meaning c ≡ under (c .asked) k
 unfolding meaning keyed
-keyed-fits c k h = rw (for-own (c .manner) (c .text) (h .spelled), h .path, le-leb (length k) 255 (h .fits))
+keyed-fits c k h =
+    let p = h .path in
+    let l : length (p .rendering) ≤ 255 = omega (arith, h .fits, ap length (p .is)) in
+    rw (p .known, for-own (c .manner) (c .text) (h .spelled), p .renders, le-leb (length (p .rendering)) 255 l, p .is)
 
 not-sized : (k : Key) (v : List ℕ) → (ValueFits v → ⊥) → under (to-write v) k ≡ refuses 6
 not-sized k v n = go (leb 1 (length v)) refl (leb (length v) 64) refl
@@ -91,11 +103,13 @@ not-sized k v n = go (leb 1 (length v)) refl (leb (length v) 64) refl
 
 pub declined-means : (c : Call) {n : ℕ} → Declined c n → meaning c ≡ refuses n
 unfolding keyOf readPath meaning keyed
-declined-means c (too-long h) = keyed-refused c 1 (rw (lt-ltb 4096 (length (c .text)) h))
-declined-means c (not-ascii h a) = keyed-refused c 2 (rw (le-ltb 4096 (length (c .text)) h, a))
-declined-means c (not-a-path h a r) = keyed-refused c _ (rw (le-ltb 4096 (length (c .text)) h, a, r))
-declined-means c (loose {k = k} p s) = rw (for-other (c .manner) (c .text) k p s)
-declined-means c (key-too-long {k = k} p s l) = rw (for-own (c .manner) (c .text) s, p, lt-leb (length k) 255 l)
+declined-means c (bad-owner w) = rw w
+declined-means c (too-long w h) = keyed-refused c 1 w (rw (lt-ltb 4096 (length (c .text)) h))
+declined-means c (not-ascii w h a) = keyed-refused c 2 w (rw (le-ltb 4096 (length (c .text)) h, a))
+declined-means c (not-a-path w h a r) = keyed-refused c _ w (rw (le-ltb 4096 (length (c .text)) h, a, r))
+declined-means c (loose p s) = rw (p .known, for-other (c .manner) (c .text) (p .rendering) (p .renders) s)
+declined-means c (key-too-long p s l) =
+    rw (p .known, for-own (c .manner) (c .text) s, p .renders, lt-leb (length (p .rendering)) 255 (omega (arith, l, ap length (p .is))))
 declined-means c (bad-length {k = k} {v = v} q h n) = keyed-fits c k h ∙ rw q (not-sized k v n)
 declined-means c (no-room {k = k} {room = room} q h l) = keyed-fits c k h ∙ rw (q, lt-leb 64 room l)
 
@@ -118,13 +132,24 @@ unread-not (TooLarge i) = (λ e. omega arith, λ e. omega arith, λ e. omega ari
 
 -- a call's own refusals are none of 0, 9, 11, 12
 pub declined-not : {c : Call} {n : ℕ} → Declined c n → ((n ≡ 0) → ⊥) × ((n ≡ 9) → ⊥) × ((n ≡ 11) → ⊥) × ((n ≡ 12) → ⊥)
-declined-not (too-long h) = (λ e. omega arith, λ e. omega arith, λ e. omega arith, λ e. omega arith)
-declined-not (not-ascii h a) = (λ e. omega arith, λ e. omega arith, λ e. omega arith, λ e. omega arith)
-declined-not {c} (not-a-path h a r) = unread-not (whyNot (c .text))
+declined-not (bad-owner w) = (λ e. omega arith, λ e. omega arith, λ e. omega arith, λ e. omega arith)
+declined-not (too-long w h) = (λ e. omega arith, λ e. omega arith, λ e. omega arith, λ e. omega arith)
+declined-not (not-ascii w h a) = (λ e. omega arith, λ e. omega arith, λ e. omega arith, λ e. omega arith)
+declined-not {c} (not-a-path w h a r) = unread-not (whyNot (c .text))
 declined-not (loose p s) = (λ e. omega arith, λ e. omega arith, λ e. omega arith, λ e. omega arith)
 declined-not (key-too-long p s l) = (λ e. omega arith, λ e. omega arith, λ e. omega arith, λ e. omega arith)
 declined-not (bad-length q h n) = (λ e. omega arith, λ e. omega arith, λ e. omega arith, λ e. omega arith)
 declined-not (no-room q h l) = (λ e. omega arith, λ e. omega arith, λ e. omega arith, λ e. omega arith)
 
 pub one-path : (c : Call) (j k : Key) → PathOf c j → PathOf c k → j ≡ k
-one-path c j k p q = cc
+one-path c j k p q =
+    let e : p .rendering ≡ q .rendering = let a = p .renders in let b = q .renders in cc in
+    p .is ∙ ap (λ (t : List ℕ). c .owner ∷ t) e ∙ sym (q .is)
+
+-- the owner of a path is the call's
+pub path-owner : (c : Call) (k : Key) → PathOf c k → ownerOf k ≡ c .owner
+path-owner c k p = ap ownerOf (p .is)
+
+-- and a path is an owner's, and exact
+pub path-owned : (c : Call) (k : Key) → PathOf c k → Owned k
+path-owned c k p = rw (p .is) (p .known, key-exact (c .text) (p .rendering) (p .renders) .2)

@@ -1,12 +1,13 @@
 -- The calls on a book: writes, removals and lookups on texts, and what each means.
 -- Assumes nothing.
 use Prim.Native.Nat.{ℕ, _≤_}
-use mathlib.Core.Path.{_≡_}
-use mathlib.Core.Bool.{Bool, false, cond, not, _&&_}
-use mathlib.Core.List.{List}
-use lib.Dec.{leb}
-use lib.ListN.{length}
-use Rattle.text.specs.Refusal.{noRoom, badLength, keyTooLong, loose}
+use mathlib.Core.Path.{_≡_, refl}
+use mathlib.Core.Bool.{Bool, true, false, cond, not, _&&_, _||_}
+use mathlib.Core.List.{List, [], _∷_}
+use lib.Dec.{eqb, leb}
+use lib.ListN.{length, getD}
+use Rattle.text.specs.Order.{cmp, Before}
+use Rattle.text.specs.Refusal.{noRoom, badLength, keyTooLong, loose, badOwner}
 use Rattle.text.specs.Put.{Wanted, refused, text}
 use Rattle.text.specs.Put as put
 use Rattle.text.specs.declared.Written.{Written}
@@ -26,30 +27,53 @@ pub data Asked : Type 0 where
 
 pub record Call : Type 0 where
   pub manner : Manner
+  pub owner : ℕ
   pub text : List ℕ
   pub asked : Asked
 
-abbrev pub write : Manner → List ℕ → List ℕ → Call
-write m t v = record { manner = m; text = t; asked = to-write v }
+abbrev pub write : Manner → ℕ → List ℕ → List ℕ → Call
+write m o t v = record { manner = m; owner = o; text = t; asked = to-write v }
 
-abbrev pub remove : Manner → List ℕ → Call
-remove m t = record { manner = m; text = t; asked = to-remove }
+abbrev pub remove : Manner → ℕ → List ℕ → Call
+remove m o t = record { manner = m; owner = o; text = t; asked = to-remove }
 
-abbrev pub look : Manner → List ℕ → ℕ → Call
-look m t room = record { manner = m; text = t; asked = to-look room }
+abbrev pub look : Manner → ℕ → List ℕ → ℕ → Call
+look m o t room = record { manner = m; owner = o; text = t; asked = to-look room }
+
+-- ---- owners
+-- the owners are 1 and 2
+abbrev pub isOwner : ℕ → Bool
+isOwner o = eqb o 1 || eqb o 2
+
+-- a key has its owner in front
+abbrev pub ownerOf : Key → ℕ
+ownerOf k = getD k 0 0
+
+-- so keys are ordered by owner first
+owner-first : Before (1 ∷ 98 ∷ []) (2 ∷ 97 ∷ [])
+unfolding cmp
+owner-first = refl
 
 -- ---- paths
--- the path of a call: the rendering of its text
-abbrev pub PathOf : Call → Key → Type 0
-PathOf c k = keyOf (c .text) ≡ text k
+-- the path of a call: its owner, and then the rendering of its text. A call of nobody's has none
+pub record PathOf (c : Call) (k : Key) : Type 0 where
+  pub rendering : List ℕ
+  pub known : isOwner (c .owner) ≡ true
+  pub renders : keyOf (c .text) ≡ text rendering
+  pub is : k ≡ c .owner ∷ rendering
 
--- texts with the same rendering are the same path
+-- texts of one owner with the same rendering are the same path
 abbrev pub SamePath : Call → Call → Type 0
 SamePath c d = (k : Key) × PathOf c k × PathOf d k
 
--- a key that reads, and is its own rendering
-abbrev pub Exact : Key → Type 0
-Exact k = keyOf k ≡ text k
+-- a text that reads, and is its own rendering
+abbrev pub Exact : List ℕ → Type 0
+Exact t = keyOf t ≡ text t
+
+-- a key of an owner's: the owner, and then an exact text
+abbrev pub Owned : Key → Type 0
+Owned [] = ⊥
+Owned (o ∷ t) = (isOwner o ≡ true) × Exact t
 
 -- a text as a call of that manner takes it: a plain one takes exact texts only
 abbrev pub Spelled : Manner → List ℕ → Type 0
@@ -68,7 +92,7 @@ unfoldable pub keyFor : Manner → List ℕ → Wanted
 keyFor m t = cond (isLoose m (readPath t)) (refused loose) (keyOf t)
 
 -- a call works on the rendering of its text: 1, 2, 3 are the reader's, and 10 is judged on the rendering
-unfoldable pub keyed : Wanted → (Key → Meaning) → Meaning
+unfoldable pub keyed : Wanted → (List ℕ → Meaning) → Meaning
 keyed (refused n) f = refuses n
 keyed (text k) f = cond (leb (length k) 255) (f k) (refuses keyTooLong)
 
@@ -83,8 +107,13 @@ under (to-write v) k = cond (leb 1 (length v) && leb (length v) 64) (writes k v)
 under to-remove k = removes k
 under (to-look room) k = cond (leb 64 room) (looks k) (refuses noRoom)
 
+-- 23 comes before all else that the arguments decide
 unfoldable pub meaning : Call → Meaning
-meaning c = keyed (keyFor (c .manner) (c .text)) (under (c .asked))
+meaning c = cond (isOwner (c .owner)) (keyed (keyFor (c .manner) (c .text)) (λ k. under (c .asked) (c .owner ∷ k))) (refuses badOwner)
+
+nobodys : (m : Manner) (t : List ℕ) (q : Asked) → meaning (record { manner = m; owner = 3; text = t; asked = q }) ≡ refuses badOwner
+unfolding meaning
+nobodys m t q = refl
 
 -- what a key's field of 255 bytes answers: the refusals of its text, then 10
 unfoldable pub keyAnswer : Wanted → Written

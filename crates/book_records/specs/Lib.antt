@@ -4,6 +4,7 @@ pub mod RecordLaws
 pub mod SplitLaws
 pub mod Act
 pub mod ActLaws
+pub mod OwnerLaws
 pub mod Calls
 pub mod Refusals
 pub mod MannerLaws

@@ -3,12 +3,12 @@
 use Prim.Native.Nat.{ℕ}
 use mathlib.Core.Path.{_≡_, refl, sym, ap, _∙_}
 use mathlib.Core.Bool.{Bool, true, false, cond}
-use mathlib.Core.List.{List}
+use mathlib.Core.List.{List, _∷_}
 use mathlib.Core.Logic.{_⊎_, inl, inr}
 use native.Mathlib.Omega.{arith}
 use Rattle.text.specs.Part.{same}
 use Rattle.text.specs.PartLaws.{same-refl}
-use Rattle.text.specs.Refusal.{loose}
+use Rattle.text.specs.Refusal.{loose, badOwner}
 use Rattle.text.specs.Put.{Wanted, refused, text}
 use Rattle.path.specs.declared.Path.{Path}
 use Rattle.path.specs.declared.Refusal.{Refusal}
@@ -19,8 +19,8 @@ use Rattle.path.specs.Read.{keyOf, keyBy, readPath, renderPath, refusalOf}
 use Rattle.book_records.specs.declared.Manner.{Manner}
 use Rattle.book_records.specs.declared.Manner.the-variants.{Plain, Lenient}
 use Rattle.book_records.specs.Records.{Key}
-use Rattle.book_records.specs.Act.{refuses}
-use Rattle.book_records.specs.Calls.{Asked, Exact, Spelled, isLoose, keyFor, keyed, under, meaning}
+use Rattle.book_records.specs.Act.{Meaning, refuses}
+use Rattle.book_records.specs.Calls.{Asked, Call, isOwner, Exact, Spelled, isLoose, keyFor, keyed, under, meaning}
 
 -- ---- exact keys, by the mark of a reading
 pub key-read : (t : List ℕ) (p : Path) (e : Bool) → readPath t ≡ Read p e → keyOf t ≡ text (renderPath t p)
@@ -104,10 +104,22 @@ module _ (m : Manner) (t : List ℕ) where
     read-taken h = rw (← by, h)
 
 -- a plain call means what the lenient call on its text means, or is refused with 20
-pub plain-or-loose : (t : List ℕ) (q : Asked) → (meaning (record { manner = Plain; text = t; asked = q }) ≡ refuses loose) ⊎ (meaning (record { manner = Plain; text = t; asked = q }) ≡ meaning (record { manner = Lenient; text = t; asked = q }))
-unfolding meaning keyed
-plain-or-loose t q = go (isLoose Plain (readPath t)) refl
-  where
-    go : (b : Bool) → isLoose Plain (readPath t) ≡ b → (keyed (keyFor Plain t) (under q) ≡ refuses loose) ⊎ (keyed (keyFor Plain t) (under q) ≡ keyed (keyFor Lenient t) (under q))
-    go true h = inl (rw (read-loose Plain t (readPath t) refl h))
-    go false h = inr (rw (read-taken Plain t (readPath t) refl h, read-taken Lenient t (readPath t) refl refl))
+module _ (o : ℕ) (t : List ℕ) (q : Asked) where
+  abbrev call : Manner → Call
+  call m = record { manner = m; owner = o; text = t; asked = q }
+
+  pub plain-or-loose : (meaning (call Plain) ≡ refuses loose) ⊎ (meaning (call Plain) ≡ meaning (call Lenient))
+  unfolding meaning keyed
+  plain-or-loose = whose (isOwner o)
+    where
+      under-owner : List ℕ → Meaning
+      under-owner k = under q (o ∷ k)
+
+      go : (b : Bool) → isLoose Plain (readPath t) ≡ b → (keyed (keyFor Plain t) under-owner ≡ refuses loose) ⊎ (keyed (keyFor Plain t) under-owner ≡ keyed (keyFor Lenient t) under-owner)
+      go true h = inl (rw (read-loose Plain t (readPath t) refl h))
+      go false h = inr (rw (read-taken Plain t (readPath t) refl h, read-taken Lenient t (readPath t) refl refl))
+
+      whose : (w : Bool)
+          → (cond w (keyed (keyFor Plain t) under-owner) (refuses badOwner) ≡ refuses loose) ⊎ (cond w (keyed (keyFor Plain t) under-owner) (refuses badOwner) ≡ cond w (keyed (keyFor Lenient t) under-owner) (refuses badOwner))
+      whose true = go (isLoose Plain (readPath t)) refl
+      whose false = inr refl

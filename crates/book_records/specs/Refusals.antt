@@ -1,6 +1,6 @@
 -- The numbered refusals of a call on a book that its own arguments decide: each given exactly when. A row below has the refusals before
--- it, in the order of the documents, denied in its premises: 1, 2, 3 (or 17, 18, 19, which stand at its place), 20 for a plain call, 10, and
--- then 6 for a write and 4 for a lookup.
+-- it, in the order of the documents, denied in its premises: 23, 1, 2, 3 (or 17, 18, 19, which stand at its place), 20 for a plain call,
+-- 10, and then 6 for a write and 4 for a lookup.
 -- Assumes nothing.
 use Prim.Native.Nat.{ℕ, _≤_, _<_}
 use mathlib.Core.Path.{_≡_}
@@ -8,20 +8,21 @@ use mathlib.Core.Bool.{true, false}
 use lib.ListN.{length}
 use mathlib.Core.List.{List}
 use Rattle.text.specs.Part.{ascii}
-use Rattle.text.specs.Refusal.{tooLong, notAscii, noRoom, badLength, keyTooLong}
+use Rattle.text.specs.Refusal.{tooLong, notAscii, noRoom, badLength, keyTooLong, badOwner}
 use Rattle.text.specs.Refusal as refusal
 use Rattle.path.specs.declared.PathAnswer.the-variants.{Nothing}
 use Rattle.path.specs.Kinds.{kinds}
 use Rattle.path.specs.Read.{readFirst, whyNot, refusalOf}
 use Rattle.book_records.specs.Records.{Key}
-use Rattle.book_records.specs.Calls.{to-write, to-remove, to-look, Call, PathOf, Spelled, ValueFits}
+use Rattle.book_records.specs.Calls.{to-write, to-remove, to-look, Call, isOwner, PathOf, Spelled, ValueFits}
 
 -- ---- a call that its own arguments do not refuse
--- the key of a call: its path, where the text is spelled as the call's manner has it and the rendering fits
+-- the key of a call: its path, where the text is spelled as the call's manner has it and the rendering, behind the owner, has at most
+-- 255 bytes
 pub record HasKey (c : Call) (k : Key) : Type 0 where
   pub path : PathOf c k
   pub spelled : Spelled (c .manner) (c .text)
-  pub fits : length k ≤ 255
+  pub fits : length k ≤ 256
 
 pub record GoodWrite (c : Call) (k : Key) (v : List ℕ) : Type 0 where
   pub asked : c .asked ≡ to-write v
@@ -38,12 +39,13 @@ pub record GoodLookup (c : Call) (k : Key) (room : ℕ) : Type 0 where
   pub wide : 64 ≤ room
 
 -- ---- refusals
--- by the call alone: its text, the rendering, the value's length, the room
+-- by the call alone: its owner, its text, the rendering, the value's length, the room
 pub data Declined (c : Call) : ℕ → Type 0 where
-  too-long : 4096 < length (c .text) → Declined c tooLong
-  not-ascii : length (c .text) ≤ 4096 → ascii (c .text) ≡ false → Declined c notAscii
-  not-a-path : length (c .text) ≤ 4096 → ascii (c .text) ≡ true → readFirst kinds (c .text) ≡ Nothing → Declined c (refusalOf (whyNot (c .text)))
+  bad-owner : isOwner (c .owner) ≡ false → Declined c badOwner
+  too-long : isOwner (c .owner) ≡ true → 4096 < length (c .text) → Declined c tooLong
+  not-ascii : isOwner (c .owner) ≡ true → length (c .text) ≤ 4096 → ascii (c .text) ≡ false → Declined c notAscii
+  not-a-path : isOwner (c .owner) ≡ true → length (c .text) ≤ 4096 → ascii (c .text) ≡ true → readFirst kinds (c .text) ≡ Nothing → Declined c (refusalOf (whyNot (c .text)))
   loose : {k : Key} → PathOf c k → (Spelled (c .manner) (c .text) → ⊥) → Declined c refusal.loose
-  key-too-long : {k : Key} → PathOf c k → Spelled (c .manner) (c .text) → 255 < length k → Declined c keyTooLong
+  key-too-long : {k : Key} → PathOf c k → Spelled (c .manner) (c .text) → 256 < length k → Declined c keyTooLong
   bad-length : {k : Key} {v : List ℕ} → c .asked ≡ to-write v → HasKey c k → (ValueFits v → ⊥) → Declined c badLength
   no-room : {k : Key} {room : ℕ} → c .asked ≡ to-look room → HasKey c k → room < 64 → Declined c noRoom

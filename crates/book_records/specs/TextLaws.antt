@@ -2,7 +2,7 @@
 -- Assumes nothing.
 use mathlib.Core.Path.{_≡_, refl, sym, ap, _∙_}
 use mathlib.Core.Bool.{Bool, true, false, cond}
-use mathlib.Core.List.{List}
+use mathlib.Core.List.{List, _∷_}
 use Prim.Native.Nat.{ℕ, _≤_, _<_}
 use native.Mathlib.Omega.{arith}
 use lib.Dec.{leb}
@@ -19,9 +19,9 @@ use Rattle.path.specs.declared.Reading.the-variants.{Read, Refused}
 use Rattle.path.specs.Read.{keyOf, readPath, refusalOf}
 use Rattle.book_records.specs.declared.Manner.{Manner}
 use Rattle.book_records.specs.Act.{Meaning, refuses, writes, removes, looks}
-use Rattle.book_records.specs.Refusals.{HasKey, bad-length, no-room}
+use Rattle.book_records.specs.Refusals.{HasKey, bad-owner, bad-length, no-room}
 use Rattle.book_records.specs.CallLaws.{declined-means, writing-means, removing-means, looking-means}
-use Rattle.book_records.specs.Calls.{Asked, to-write, to-remove, to-look, write, remove, look, under, meaning, Spelled, keyFor, ValueFits, keyed, keyAnswer}
+use Rattle.book_records.specs.Calls.{Asked, to-write, to-remove, to-look, write, remove, look, isOwner, meaning, Spelled, keyFor, ValueFits, keyed, keyAnswer}
 use Rattle.book_records.specs.MannerLaws.{key-read, key-refused, KeyFor, unread, other, own as keeps, key-for}
 
 -- ---- a refusal of a text is no success, and not the 4 of a short buffer
@@ -123,22 +123,34 @@ key-here m t field blank n lb h en ef = go (key-for m t) refl h en
             }
         fits false g z l = absurd (let y : ⊥ = omega arith in y)
 
--- what a call with a key means
-module _ (m : Manner) (t field : List ℕ) (n : ℕ) (k : Keyed m t field n) where
-  has : (q : Asked) → HasKey (record { manner = m; text = t; asked = q }) (k .key)
-  has q = record { path = k .reads; spelled = k .spelled; fits = k .short }
+-- what a call of a known owner with a key means
+module _ (m : Manner) (o : ℕ) (w : isOwner o ≡ true) (t field : List ℕ) (n : ℕ) (k : Keyed m t field n) where
+  abbrev key : List ℕ
+  key = o ∷ k .key
 
-  pub look-means : (room : ℕ) → 64 ≤ room → meaning (look m t room) ≡ looks (k .key)
-  look-means room h = looking-means (look m t room) (k .key) room (record { asked = refl; key = has (to-look room); wide = h })
+  has : (q : Asked) → HasKey (record { manner = m; owner = o; text = t; asked = q }) key
+  has q =
+      record {
+        path = record { rendering = k .key; known = w; renders = k .reads; is = refl };
+        spelled = k .spelled;
+        fits = omega (arith, k .short);
+      }
 
-  pub look-short : (room : ℕ) → room < 64 → meaning (look m t room) ≡ refuses 4
-  look-short room h = declined-means (look m t room) (no-room refl (has (to-look room)) h)
+  pub look-means : (room : ℕ) → 64 ≤ room → meaning (look m o t room) ≡ looks key
+  look-means room h = looking-means (look m o t room) key room (record { asked = refl; key = has (to-look room); wide = h })
 
-  pub write-means : (v : List ℕ) → ValueFits v → meaning (write m t v) ≡ writes (k .key) v
-  write-means v h = writing-means (write m t v) (k .key) v (record { asked = refl; key = has (to-write v); size = h })
+  pub look-short : (room : ℕ) → room < 64 → meaning (look m o t room) ≡ refuses 4
+  look-short room h = declined-means (look m o t room) (no-room refl (has (to-look room)) h)
 
-  pub write-bad : (v : List ℕ) → (ValueFits v → ⊥) → meaning (write m t v) ≡ refuses 6
-  write-bad v h = declined-means (write m t v) (bad-length refl (has (to-write v)) h)
+  pub write-means : (v : List ℕ) → ValueFits v → meaning (write m o t v) ≡ writes key v
+  write-means v h = writing-means (write m o t v) key v (record { asked = refl; key = has (to-write v); size = h })
 
-  pub remove-means : meaning (remove m t) ≡ removes (k .key)
-  remove-means = removing-means (remove m t) (k .key) (record { asked = refl; key = has to-remove })
+  pub write-bad : (v : List ℕ) → (ValueFits v → ⊥) → meaning (write m o t v) ≡ refuses 6
+  write-bad v h = declined-means (write m o t v) (bad-length refl (has (to-write v)) h)
+
+  pub remove-means : meaning (remove m o t) ≡ removes key
+  remove-means = removing-means (remove m o t) key (record { asked = refl; key = has to-remove })
+
+-- and one of nobody's
+pub nobody-means : (m : Manner) (o : ℕ) (t : List ℕ) (q : Asked) → isOwner o ≡ false → meaning (record { manner = m; owner = o; text = t; asked = q }) ≡ refuses 23
+nobody-means m o t q w = declined-means (record { manner = m; owner = o; text = t; asked = q }) (bad-owner w)

@@ -11,5 +11,5 @@ use Rattle.book_table.proofs.many.look_many.Reads as look-many
 pub one-fill : OneWith fill.Post (λ κs s. now (s .1 .0))
 one-fill κs a r₁ r₂ s₁ s₂ p q = one-fills Current lawful p q
 
-pub one-look-many : OneWith look-many.Post (λ κs s. now (s .1 .1 .1 .0))
+pub one-look-many : OneWith look-many.Post (λ κs s. now (s .1 .1 .1 .1 .0))
 one-look-many κs a r₁ r₂ s₁ s₂ p q = one-many Current lawful p q

@@ -9,7 +9,7 @@ use native.Mathlib.Omega.{arith}
 use lib.Bits.{bitXor}
 use lib.ListN.{length, drop, getD, drop-of-length-le}
 use lib.Seq.{drop-cons}
-use Rattle.book_table.specs.Hash.{prime, joined, fnvFrom}
+use Rattle.book_table.specs.Hash.{prime, offset, joined, fnvFrom, fnv}
 
 -- a wrapping sum of two sums that wrapped
 pub wrapped : (x y a b r : ℕ) → a ≡ x % 2 ^ 64 → b ≡ y % 2 ^ 64 → r ≡ (a + b) % 2 ^ 64 → r ≡ (x + y) % 2 ^ 64
@@ -37,6 +37,11 @@ product h a b c d e r ea eb ec ed ee er =
 pub joined-is : (h b w r : ℕ) → w ≡ b → r ≡ (bitXor h w * prime) % 2 ^ 64 → r ≡ joined h b
 unfolding joined
 joined-is h b w r e er = er ∙ ap (λ (x : ℕ). (bitXor h x * prime) % 2 ^ 64) e
+
+-- the first byte is joined to the offset
+pub fnv-start : (b h : ℕ) (s : List ℕ) → h ≡ joined offset b → fnv (b ∷ s) ≡ fnvFrom h (drop 0 s)
+unfolding fnvFrom
+fnv-start b h s e = ap (λ (x : ℕ). fnvFrom x s) (sym e)
 
 module _ (v h i : ℕ) (s : List ℕ) (e : v ≡ fnvFrom h (drop i s)) where
   pub fnv-done : length s ≤ i → h ≡ v

@@ -19,7 +19,7 @@ use Rattle.book_records.specs.Records.{Key, get}
 use Rattle.book_records.specs.Records as records
 use Rattle.book_records.specs.Act.{Rec, Meaning, refuses, writes, removes, looks, Answer, says, done, gives, act, addTo, takeFrom, lookIn}
 use Rattle.book_records.specs.declared.Manner.the-variants.{Plain}
-use Rattle.book_records.specs.Calls.{look, meaning}
+use Rattle.book_records.specs.Calls.{isOwner, look, meaning}
 use Rattle.book_form.specs.Form.{AllFit, zeros, keyAt}
 use Rattle.book_form.specs.FormLaws.{length-zeros}
 use Rattle.book.specs.Book.{Book, Current, Counts, Judged, fullIn, acts}
@@ -85,7 +85,7 @@ value-short (r ∷ rs) f k v e = go (cmp k (r .0)) e (value-short rs (f .1) k v)
   where
     go : (o : Ordering) → by o (get rs k) (some (r .1)) (get rs k) ≡ some v → (get rs k ≡ some v → length v ≤ 64) → length v ≤ 64
     go Ordering·lt q more = more q
-    go Ordering·eq q more = let w : r .1 ≡ v = cc in rw (← w) (f .0 .1 .most)
+    go Ordering·eq q more = let w : r .1 ≡ v = cc in rw (← w) (f .0 .2 .most)
     go Ordering·gt q more = more q
 
 abbrev Short : Answer → Type 0
@@ -119,18 +119,18 @@ short-most (says n) s = omega arith
 short-most done s = omega arith
 short-most (gives u) s = omega (arith, s, ap length (put-zero (zeros 64) u), length-append u (drop (length u) (zeros 64)))
 
-module _ (b : List ℕ) (x : Book Current b) where
-  pub value-most : (t : List ℕ) → writtenBy (lookedUp x t) .length ≤ 64
-  value-most t = short-most (lookedUp x t) (act-short (fullIn x) (meaning (look Plain t 64)) (x .records) (x .fit))
+module _ (b : List ℕ) (x : Book Current b) (o : ℕ) where
+  pub value-most : (t : List ℕ) → writtenBy (lookedUp x o t) .length ≤ 64
+  value-most t = short-most (lookedUp x o t) (act-short (fullIn x) (meaning (look Plain o t 64)) (x .records) (x .fit))
 
-  pub entry-size : (t : List ℕ) → length (entryOf (lookedUp x t)) ≡ 66
+  pub entry-size : (t : List ℕ) → length (entryOf (lookedUp x o t)) ≡ 66
   unfolding entryOf
-  entry-size t = omega (arith, act-short (fullIn x) (meaning (look Plain t 64)) (x .records) (x .fit))
+  entry-size t = omega (arith, act-short (fullIn x) (meaning (look Plain o t 64)) (x .records) (x .fit))
 
-  pub entries-size : (ts : List (List ℕ)) → length (entries (lookedUp x) ts) ≡ 66 * length ts
+  pub entries-size : (ts : List (List ℕ)) → length (entries (lookedUp x o) ts) ≡ 66 * length ts
   unfolding entries
   entries-size [] = refl
-  entries-size (t ∷ ts) = omega (arith, length-append (entryOf (lookedUp x t)) (entries (lookedUp x) ts), entry-size t, entries-size ts)
+  entries-size (t ∷ ts) = omega (arith, length-append (entryOf (lookedUp x o t)) (entries (lookedUp x o) ts), entry-size t, entries-size ts)
 
 -- ---- one text
 -- a lookup on this book answers what its records do
@@ -139,32 +139,35 @@ answer-is {out = out} x f =
     let a = one-outcome lawful (f .outcome) (this-book x refl refl) .0 in
     (f .written ∙ ap writtenBy a, f .value ∙ ap (λ (q : Answer). shown q out) a)
 
-module _ (b t out : List ℕ) (at : ℕ) (r : Written) (v : List ℕ) (y : Looked Current Plain b t (zeros 64) r v) (size : length v ≡ 64) where
-  looked-is : (x : Book Current b) → (r ≡ writtenBy (lookedUp x t)) × (v ≡ shown (lookedUp x t) (zeros 64))
-  looked-is x = rw (length-zeros 64) at (answer-is x y)
+module _ (b : List ℕ) (o : ℕ) (t out : List ℕ) (at : ℕ) (r : Written) (v : List ℕ) (y : Looked Current Plain b o t (zeros 64) r v) (size : length v ≡ 64) where
+  looked-is : (x : Book Current b) → (r ≡ writtenBy (lookedUp x o t)) × (v ≡ shown (lookedUp x o t) (zeros 64))
+  looked-is x =
+      let a = answer-is x y in
+      let e = ap (λ (n : ℕ). acts x (meaning (look Plain o t n)) .0) (length-zeros 64) in
+      (a .0 ∙ ap writtenBy e, a .1 ∙ ap (λ (q : Answer). shown q (zeros 64)) e)
 
   pub entry-length : (x : Book Current b) → r .length ≤ 64
-  entry-length x = rw (looked-is x .0) (value-most b x t)
+  entry-length x = rw (looked-is x .0) (value-most b x o t)
 
-  pub entered : at + 66 ≤ length out → (o o₁ o₂ : List ℕ) → o ≡ put out at (r .refusal ∷ []) → o₁ ≡ put o (at + 1) (r .length ∷ []) → o₂ ≡ put o₁ (at + 2) v → Entered Current b t out at o₂
+  pub entered : at + 66 ≤ length out → (a a₁ a₂ : List ℕ) → a ≡ put out at (r .refusal ∷ []) → a₁ ≡ put a (at + 1) (r .length ∷ []) → a₂ ≡ put a₁ (at + 2) v → Entered Current b o t out at a₂
   unfolding entryOf
-  entered h o o₁ o₂ e e₁ e₂ =
-      let a : List ℕ = r .refusal ∷ [] in
+  entered h a a₁ a₂ e e₁ e₂ =
+      let p : List ℕ = r .refusal ∷ [] in
       let c : List ℕ = r .length ∷ [] in
-      let x₁ : o₁ ≡ put out at (a ++ c) = put-then out at a c o o₁ (at + 1) e (omega arith) (omega arith) e₁ in
+      let x₁ : a₁ ≡ put out at (p ++ c) = put-then out at p c a a₁ (at + 1) e (omega arith) (omega arith) e₁ in
       record {
         entry = r .refusal ∷ r .length ∷ v;
         is = λ x. ap₂ (λ (w : Written) (u : List ℕ). w .refusal ∷ w .length ∷ u) (looked-is x .0) (looked-is x .1);
         size = omega arith;
-        written = put-then out at (a ++ c) v o₁ o₂ (at + 2) x₁ (omega arith) (omega arith) e₂;
+        written = put-then out at (p ++ c) v a₁ a₂ (at + 2) x₁ (omega arith) (omega arith) e₂;
       }
 
 -- ---- many texts
-module _ (b texts out₀ : List ℕ) where
+module _ (b : List ℕ) (o : ℕ) (texts out₀ : List ℕ) where
   -- the texts before i have their bytes in `out`, up to `at`
   pub record Doing (i at : ℕ) (out : List ℕ) : Type 0 where
     pub done : List ℕ
-    pub rest : (x : Book Current b) → entries (lookedUp x) (lines texts) ≡ done ++ entries (lookedUp x) (lines (drop i texts))
+    pub rest : (x : Book Current b) → entries (lookedUp x o) (lines texts) ≡ done ++ entries (lookedUp x o) (lines (drop i texts))
     pub size : length done ≡ at
     pub bytes : out ≡ put out₀ 0 done
     pub room : at + 66 * length (lines (drop i texts)) ≤ length out₀
@@ -183,11 +186,11 @@ module _ (b texts out₀ : List ℕ) where
     room-there : at + 66 ≤ length out
     room-there = omega (arith, d .room, d .same, ap length cut)
 
-    more : (x : Book Current b) (w : List ℕ) → w ≡ entryOf (lookedUp x t) → entries (lookedUp x) (lines texts) ≡ (d .done ++ w) ++ entries (lookedUp x) (lines (drop k texts))
+    more : (x : Book Current b) (w : List ℕ) → w ≡ entryOf (lookedUp x o t) → entries (lookedUp x o) (lines texts) ≡ (d .done ++ w) ++ entries (lookedUp x o) (lines (drop k texts))
     unfolding entries
-    more x w q = d .rest x ∙ ap (λ (ts : List (List ℕ)). d .done ++ entries (lookedUp x) ts) cut ∙ ap (λ (u : List ℕ). d .done ++ (u ++ entries (lookedUp x) (lines (drop k texts)))) (sym q) ∙ sym (append-assoc (d .done) w (entries (lookedUp x) (lines (drop k texts))))
+    more x w q = d .rest x ∙ ap (λ (ts : List (List ℕ)). d .done ++ entries (lookedUp x o) ts) cut ∙ ap (λ (u : List ℕ). d .done ++ (u ++ entries (lookedUp x o) (lines (drop k texts)))) (sym q) ∙ sym (append-assoc (d .done) w (entries (lookedUp x o) (lines (drop k texts))))
 
-    pub doing-more : (out₁ : List ℕ) → Entered Current b t out at out₁ → Doing k (at + 66) out₁
+    pub doing-more : (out₁ : List ℕ) → Entered Current b o t out at out₁ → Doing k (at + 66) out₁
     doing-more out₁ y =
         let w : out₁ ≡ put out₀ 0 (d .done ++ y .entry) = put-then out₀ 0 (d .done) (y .entry) out out₁ at (d .bytes) (omega (arith, d .size)) (omega (arith, d .size, d .room)) (y .written) in
         let s : length (d .done ++ y .entry) ≡ at + 66 = omega (arith, length-append (d .done) (y .entry), d .size, y .size) in
@@ -204,32 +207,36 @@ module _ (b texts out₀ : List ℕ) where
   doing-room i j at out d l e = let k = next-there texts j in room-there i j (k .0) at out d l e (k .1)
 
   -- all have
-  pub doing-done : (i at : ℕ) (out : List ℕ) → Doing i at out → length texts ≤ i → (x : Book Current b) → Wrote out₀ 0 (entries (lookedUp x) (lines texts)) at out
+  pub doing-done : (i at : ℕ) (out : List ℕ) → Doing i at out → length texts ≤ i → (x : Book Current b) → Wrote out₀ 0 (entries (lookedUp x o) (lines texts)) at out
   unfolding entries
   doing-done i at out d l x =
-      let all : entries (lookedUp x) (lines texts) ≡ d .done = d .rest x ∙ ap (λ (ts : List (List ℕ)). d .done ++ entries (lookedUp x) ts) (lines-none texts i l) ∙ append-nil (d .done) in
+      let all : entries (lookedUp x o) (lines texts) ≡ d .done = d .rest x ∙ ap (λ (ts : List (List ℕ)). d .done ++ entries (lookedUp x o) ts) (lines-none texts i l) ∙ append-nil (d .done) in
       rw all (record { next = omega (arith, d .size); after = d .bytes; room = omega (arith, d .size, d .room) })
 
 pub table-good : (b table : List ℕ) (n : ℕ) (r : Bool) → r ≡ same table (filled (keyAt Current b) n) → r ≡ true → table ≡ filled (keyAt Current b) n
 table-good b table n r e f = same-is table (filled (keyAt Current b) n) (sym e ∙ f)
 
-module _ (b table texts out : List ℕ) where
-  pub many-no-book : (a : BookAnswer) → Judged Current b a → a ≡ Nothing → LooksMany Current b table texts out (refusal 9) out
+module _ (b : List ℕ) (o : ℕ) (table texts out : List ℕ) where
+  pub many-no-book : (a : BookAnswer) → Judged Current b a → a ≡ Nothing → LooksMany Current b o table texts out (refusal 9) out
   many-no-book a j e = many.LooksMany.no-book (judged-none b a j e) refl refl
 
-  module _ (n : ℕ) (h : Counts Current b n) (r : Bool) (e : r ≡ same table (filled (keyAt Current b) n)) where
-    pub many-bad-table : r ≡ false → LooksMany Current b table texts out (refusal 22) out
-    many-bad-table f = many.LooksMany.bad-table (h .0) (λ q. let z : _≡_ {A = ℕ} 0 1 = cc (e, ap (λ (x : List ℕ). same table x) (q ∙ sym (table-is b n h)), same-refl table) in omega arith) refl refl
+  module _ (n : ℕ) (h : Counts Current b n) (q : Bool) (eq : q ≡ isOwner o) where
+    pub many-no-owner : q ≡ false → LooksMany Current b o table texts out (refusal 23) out
+    many-no-owner f = many.LooksMany.no-owner (h .0) (sym eq ∙ f) refl refl
+
+  module _ (n : ℕ) (h : Counts Current b n) (known : isOwner o ≡ true) (r : Bool) (e : r ≡ same table (filled (keyAt Current b) n)) where
+    pub many-bad-table : r ≡ false → LooksMany Current b o table texts out (refusal 22) out
+    many-bad-table f = many.LooksMany.bad-table (h .0) known (λ q. let z : _≡_ {A = ℕ} 0 1 = cc (e, ap (λ (x : List ℕ). same table x) (q ∙ sym (table-is b n h)), same-refl table) in omega arith) refl refl
 
     module _ (f : r ≡ true) where
       good : table ≡ tableOf (h .0)
       good = table-good b table n r e f ∙ table-is b n h
 
-      pub many-no-room : (c : ℕ) → c ≡ length (lines texts) → length out / 66 < c → LooksMany Current b table texts out (refusal 4) out
+      pub many-no-room : (c : ℕ) → c ≡ length (lines texts) → length out / 66 < c → LooksMany Current b o table texts out (refusal 4) out
       many-no-room c ec l =
           let x = h .0 in
-          let g = gives-short (entries (lookedUp x) (lines texts)) out (omega (arith, entries-size b x (lines texts))) in
-          many.LooksMany.this-table x good (g .0) (g .1)
+          let g = gives-short (entries (lookedUp x o) (lines texts)) out (omega (arith, entries-size b x o (lines texts))) in
+          many.LooksMany.this-table x known good (g .0) (g .1)
 
-      pub many-done : (at : ℕ) (out₁ : List ℕ) → Wrote out 0 (entries (lookedUp (h .0)) (lines texts)) at out₁ → LooksMany Current b table texts out (buffer.done at) out₁
-      many-done at out₁ w = let g = gives-text (entries (lookedUp (h .0)) (lines texts)) out w in many.LooksMany.this-table (h .0) good (g .0) (g .1)
+      pub many-done : (at : ℕ) (out₁ : List ℕ) → Wrote out 0 (entries (lookedUp (h .0) o) (lines texts)) at out₁ → LooksMany Current b o table texts out (buffer.done at) out₁
+      many-done at out₁ w = let g = gives-text (entries (lookedUp (h .0) o) (lines texts)) out w in many.LooksMany.this-table (h .0) known good (g .0) (g .1)

@@ -1,15 +1,17 @@
 -- Each call on a table has one outcome.
 -- Assumes nothing.
 use mathlib.Core.Path.{_≡_, refl, sym, ap, ap₂, _∙_}
+use mathlib.Core.Bool.{true, false}
 use mathlib.Core.List.{List, [], _∷_, _++_, map}
 use Prim.Native.Nat.{ℕ}
+use native.Mathlib.Omega.{arith}
 use lib.ListN.{length}
 use Rattle.text.specs.declared.Written.{Written}
 use Rattle.text.specs.Put.{text, answer, left}
 use Rattle.book_records.specs.Act.{Rec, Answer}
 use Rattle.book_records.specs.Records.{Key}
 use Rattle.book_records.specs.declared.Manner.the-variants.{Plain}
-use Rattle.book_records.specs.Calls.{look, meaning}
+use Rattle.book_records.specs.Calls.{isOwner, look, meaning}
 use Rattle.book_form.specs.Form.{Form}
 use Rattle.book_form.specs.FormLaws.{Lawful}
 use Rattle.book.specs.Book.{Book}
@@ -43,20 +45,30 @@ module _ (F : Form) (L : Lawful F) where
       let w = one-table b x y in
       (e ∙ ap (λ (t : List ℕ). (answer (text t) (length out)) .refusal) w ∙ sym g, f ∙ ap (λ (t : List ℕ). left (text t) out) w ∙ sym h)
 
-  one-entries : {b : List ℕ} (x y : Book F b) (ts : List (List ℕ)) → entries (lookedUp x) ts ≡ entries (lookedUp y) ts
+  one-entries : {b : List ℕ} (x y : Book F b) (o : ℕ) (ts : List (List ℕ)) → entries (lookedUp x o) ts ≡ entries (lookedUp y o) ts
   unfolding entries
-  one-entries x y [] = refl
-  one-entries x y (t ∷ ts) = ap₂ (λ (a : Answer) (o : List ℕ). entryOf a ++ o) (one-outcome L {m = meaning (look Plain t 64)} (this-book x refl refl) (this-book y refl refl) .0) (one-entries x y ts)
+  one-entries x y o [] = refl
+  one-entries x y o (t ∷ ts) = ap₂ (λ (a : Answer) (u : List ℕ). entryOf a ++ u) (one-outcome L {m = meaning (look Plain o t 64)} (this-book x refl refl) (this-book y refl refl) .0) (one-entries x y o ts)
 
-  pub one-many : {b table texts out : List ℕ} {r q : Written} {o o′ : List ℕ} → LooksMany F b table texts out r o → LooksMany F b table texts out q o′ → (r ≡ q) × (o ≡ o′)
+  one-owner : (o : ℕ) → isOwner o ≡ false → isOwner o ≡ true → ⊥
+  one-owner o e f = let z : _≡_ {A = ℕ} 0 1 = cc in omega arith
+
+  pub one-many : {b : List ℕ} {o : ℕ} {table texts out : List ℕ} {r q : Written} {b₁ b₂ : List ℕ} → LooksMany F b o table texts out r b₁ → LooksMany F b o table texts out q b₂ → (r ≡ q) × (b₁ ≡ b₂)
   one-many (many.LooksMany.no-book n e f) (many.LooksMany.no-book k g h) = (e ∙ sym g, f ∙ sym h)
-  one-many (many.LooksMany.no-book n e f) (many.LooksMany.bad-table y t g h) = absurd (n y)
-  one-many (many.LooksMany.no-book n e f) (many.LooksMany.this-table y t g h) = absurd (n y)
-  one-many (many.LooksMany.bad-table x s e f) (many.LooksMany.no-book k g h) = absurd (k x)
-  one-many (many.LooksMany.bad-table x s e f) (many.LooksMany.bad-table y t g h) = (e ∙ sym g, f ∙ sym h)
-  one-many {b = b} (many.LooksMany.bad-table x s e f) (many.LooksMany.this-table y t g h) = absurd (s (t ∙ one-table b y x))
-  one-many (many.LooksMany.this-table x s e f) (many.LooksMany.no-book k g h) = absurd (k x)
-  one-many {b = b} (many.LooksMany.this-table x s e f) (many.LooksMany.bad-table y t g h) = absurd (t (s ∙ one-table b x y))
-  one-many {texts = texts} {out = out} (many.LooksMany.this-table x s e f) (many.LooksMany.this-table y t g h) =
-      let w = one-entries x y (lines texts) in
-      (e ∙ ap (λ (o : List ℕ). answer (text o) (length out)) w ∙ sym g, f ∙ ap (λ (o : List ℕ). left (text o) out) w ∙ sym h)
+  one-many (many.LooksMany.no-book n e f) (many.LooksMany.no-owner y v g h) = absurd (n y)
+  one-many (many.LooksMany.no-book n e f) (many.LooksMany.bad-table y v t g h) = absurd (n y)
+  one-many (many.LooksMany.no-book n e f) (many.LooksMany.this-table y v t g h) = absurd (n y)
+  one-many (many.LooksMany.no-owner x w e f) (many.LooksMany.no-book k g h) = absurd (k x)
+  one-many (many.LooksMany.no-owner x w e f) (many.LooksMany.no-owner y v g h) = (e ∙ sym g, f ∙ sym h)
+  one-many {o = o} (many.LooksMany.no-owner x w e f) (many.LooksMany.bad-table y v t g h) = absurd (one-owner o w v)
+  one-many {o = o} (many.LooksMany.no-owner x w e f) (many.LooksMany.this-table y v t g h) = absurd (one-owner o w v)
+  one-many (many.LooksMany.bad-table x w s e f) (many.LooksMany.no-book k g h) = absurd (k x)
+  one-many {o = o} (many.LooksMany.bad-table x w s e f) (many.LooksMany.no-owner y v g h) = absurd (one-owner o v w)
+  one-many (many.LooksMany.bad-table x w s e f) (many.LooksMany.bad-table y v t g h) = (e ∙ sym g, f ∙ sym h)
+  one-many {b = b} (many.LooksMany.bad-table x w s e f) (many.LooksMany.this-table y v t g h) = absurd (s (t ∙ one-table b y x))
+  one-many (many.LooksMany.this-table x w s e f) (many.LooksMany.no-book k g h) = absurd (k x)
+  one-many {o = o} (many.LooksMany.this-table x w s e f) (many.LooksMany.no-owner y v g h) = absurd (one-owner o v w)
+  one-many {b = b} (many.LooksMany.this-table x w s e f) (many.LooksMany.bad-table y v t g h) = absurd (t (s ∙ one-table b x y))
+  one-many {o = o} {texts = texts} {out = out} (many.LooksMany.this-table x w s e f) (many.LooksMany.this-table y v t g h) =
+      let z = one-entries x y o (lines texts) in
+      (e ∙ ap (λ (u : List ℕ). answer (text u) (length out)) z ∙ sym g, f ∙ ap (λ (u : List ℕ). left (text u) out) z ∙ sym h)

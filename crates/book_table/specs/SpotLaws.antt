@@ -2,7 +2,7 @@
 -- Assumes nothing.
 use mathlib.Core.Path.{_≡_, refl, sym, ap, _∙_}
 use mathlib.Core.Bool.{Bool, true, false}
-use mathlib.Core.List.{List}
+use mathlib.Core.List.{List, _∷_}
 use Prim.Native.Nat.{ℕ, _<_, _≤_, Ordering, Ordering·lt, Ordering·eq, Ordering·gt}
 use native.Mathlib.Omega.{arith}
 use lib.ListN.{length, getElem?}
@@ -89,5 +89,6 @@ module _ (b k : List ℕ) (n : ℕ) (hold : Counts Current b n) where
   pub told-taken : (s : Slot) (p : ℕ) → Told f n k s → s ≡ At p → Spotted Current b k n (Taken p)
   told-taken s p t e = at-taken p (rw e at t)
 
-  pub told-nowhere : (s : Slot) → Told f n k s → s ≡ Nowhere → (out : List ℕ) → Found Current b (looks k) out (buffer.refusal 12) out
-  told-nowhere s t e out = let q = nowhere-free (rw e at t) in look-free b k n (q .0) hold (q .1) out
+pub told-nowhere : (b : List ℕ) (owner : ℕ) (key : List ℕ) (n : ℕ) (hold : Counts Current b n) (s : Slot) → Told (keyAt Current b) n (owner ∷ key) s → s ≡ Nowhere
+    → (out : List ℕ) → Found Current b (looks (owner ∷ key)) out (buffer.refusal 12) out
+told-nowhere b owner key n hold s t e out = let q = nowhere-free b (owner ∷ key) n hold (rw e at t) in look-free b owner key n (q .0) hold (q .1) out

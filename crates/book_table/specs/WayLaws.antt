@@ -17,6 +17,8 @@ use Rattle.book_records.specs.Records.{Key}
 use Rattle.book_form.specs.Form.{zeros, keyAt}
 use Rattle.book_form.specs.FormLaws.{length-zeros}
 use Rattle.book_form.specs.Compare.{code}
+use Rattle.book_form.specs.Counted.{stored}
+use Rattle.book_form.specs.VersionLaws.{owned-key}
 use Rattle.book.specs.Book.{Current, Counts}
 use Rattle.book.specs.BookLaws.{lawful, sizes}
 use Rattle.book.specs.FindLaws.{code-eq, code-not}
@@ -82,6 +84,11 @@ module _ (f : ℕ → Key) where
       ∙ ap (λ (q : ℕ). set (filled f i) q (i + 1)) pp
       ∙ rw (add-one i))
 
+-- the key in a slot, as it is read
+pub key-there : (b : List ℕ) (n : ℕ) → Counts Current b n → (i : ℕ) → i < n → (key : List ℕ) → key ≡ stored b (12 + 322 * i + 1) → getD b (12 + 322 * i) 0 ∷ key ≡ keyAt Current b i
+key-there b n h i l key e =
+    ap (λ (k : List ℕ). getD b (12 + 322 * i) 0 ∷ k) e ∙ sym (owned-key b (12 + 322 * i) (omega (arith, sizes Current lawful b n h .used)))
+
 -- ---- probing
 module _ (b t k : List ℕ) (n : ℕ) (hold : Counts Current b n × (t ≡ filled (keyAt Current b) n)) where
   abbrev f : ℕ → Key
@@ -100,7 +107,7 @@ module _ (b t k : List ℕ) (n : ℕ) (hold : Counts Current b n × (t ≡ fille
     pub ended-free : Passed t f k d → v ≡ 0 → Lacks f n k
     ended-free p z = walk-missing f n t table-sound k d p (λ l. sym ew ∙ z)
 
-    pub slot-there : (v ≡ 0 → ⊥) → 8 + 321 * (v - 1) + 256 ≤ length b
+    pub slot-there : (v ≡ 0 → ⊥) → 12 + 322 * (v - 1) + 257 ≤ length b
     slot-there z =
         let l : v - 1 < n = omega (arith, ew, walk-slot f n t table-sound k d (λ e. z (ew ∙ e))) in
         omega (arith, sizes Current lawful b n (hold .0) .used)

@@ -1,6 +1,7 @@
 // The 64-bit FNV-1a value of a text.
 use std::num::wrapping_add_u64;
 ghost use mathlib.Core.Path.{_≡_};
+ghost use mathlib.Core.List.{_∷_};
 ghost use Prim.Native.Nat.{_*_, _%_, _^_, _<_};
 ghost use Rattle.book_table.specs.Hash.{joined, fnv};
 ghost use Rattle.book_table.specs.Table.{home};
@@ -29,10 +30,11 @@ fn join(h: u64, b: u8) -> u64
     wrapping_mul_prime(h ^ long(b))
 }
 
-fn fnv1a(s: &[u8]) -> u64
-    ensures { λ r. ⌜ r ≡ fnv (now (s .entry)) ⌝ }
+// Of a text with a byte ahead of it.
+fn fnv1a(first: u8, s: &[u8]) -> u64
+    ensures { λ r. ⌜ r ≡ fnv (first ∷ now (s .entry)) ⌝ }
 {
-    let mut h: u64 = 14695981039346656037;
+    let mut h = join(14695981039346656037, first);
     let mut i = 0;
     while i < s.len() {
         h = join(h, s[i]);
@@ -41,9 +43,9 @@ fn fnv1a(s: &[u8]) -> u64
     h
 }
 
-// The bucket at which the walk for a key starts.
-pub(crate) fn home(key: &[u8]) -> usize
-    ensures { λ r. ⌜ (r ≡ home (now (key .entry))) × (r < 512) ⌝ }
+// The bucket at which the walk for an owner's key starts.
+pub(crate) fn home(owner: u8, key: &[u8]) -> usize
+    ensures { λ r. ⌜ (r ≡ home (owner ∷ now (key .entry))) × (r < 512) ⌝ }
 {
-    (fnv1a(key) % 512) as usize
+    (fnv1a(owner, key) % 512) as usize
 }

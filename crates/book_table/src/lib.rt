@@ -11,6 +11,7 @@ use book_form::key_at;
 use hash::home;
 use text::put::write_byte;
 ghost use mathlib.Core.Path.{_≡_};
+ghost use mathlib.Core.List.{_∷_};
 ghost use Prim.Native.Nat.{_<_};
 ghost use lib.ListN.{length};
 ghost use Rattle.book_form.specs.Form.{keyAt};
@@ -54,25 +55,26 @@ pub(crate) fn fill_table(book: &[u8], n: usize, table: &mut [u8])
     clear(table, 0, 512);
     let mut i = 0;
     while i < n {
-        let p = free_spot(table, home(key_at(book, HEAD + SLOT * i)));
+        let at = HEAD + SLOT * i;
+        let p = free_spot(table, home(book[at], key_at(book, at + 1)));
         i += 1;
         write_byte(table, p, i as u8);
     }
 }
 
-// The slot of `key`, in a book with n records, by the table that filling gives.
-pub(crate) fn probe(book: &[u8], n: usize, table: &[u8], key: &[u8]) -> Slot
+// The slot of an owner's `key`, in a book with n records, by the table that filling gives.
+pub(crate) fn probe(book: &[u8], n: usize, table: &[u8], owner: u8, key: &[u8]) -> Slot
     requires { ⌜ Counts Current (now book) n × (now table ≡ filled (keyAt Current (now book)) n) ⌝ }
-    ensures { λ r. ⌜ Told (keyAt Current (now (book .entry))) n (now (key .entry)) r ⌝ }
+    ensures { λ r. ⌜ Told (keyAt Current (now (book .entry))) n (owner ∷ now (key .entry)) r ⌝ }
 {
-    let h = home(key);
+    let h = home(owner, key);
     let mut d = 0;
     while d < 512 {
         let v = wide(table[(h + d) % 512]);
         if v == 0 {
             return Slot::Nowhere;
         }
-        if compare_key(book, HEAD + SLOT * (v - 1), key) == 1 {
+        if compare_key(book, HEAD + SLOT * (v - 1), owner, key) == 1 {
             return Slot::At(v - 1);
         }
         d += 1;

@@ -3,18 +3,22 @@ use crate::fill_table;
 use crate::look::look_text;
 use book::check::BookAnswer;
 use book::check::check_book;
+use book::check::is_owner;
 use book_form::Version;
 use text::Written;
 use text::part::equal;
 use text::put::write_byte;
 use text::put::write_text;
 use text::refusal::BAD_BOOK;
+use text::refusal::BAD_OWNER;
 use text::refusal::BAD_TABLE;
 use text::refusal::NO_ROOM;
 ghost use mathlib.Core.Path.{_≡_};
+ghost use mathlib.Core.Bool.{true};
 ghost use Prim.Native.Nat.{_+_, _≤_};
 ghost use lib.ListN.{length};
 ghost use Rattle.text.specs.Part.{same};
+ghost use Rattle.book_records.specs.Calls.{isOwner};
 ghost use Rattle.book_form.specs.Form.{keyAt};
 ghost use Rattle.book.specs.Book.{Current, Counts};
 ghost use Rattle.book_table.specs.Table.{filled};
@@ -25,7 +29,7 @@ ghost use Rattle.book_table.specs.Many.{Fills, Entered, LooksMany};
 pub fn fill(book: &[u8], out: &mut [u8]) -> u8
     ensures { λ r. ⌜ Fills Current (now (book .entry)) (now (out .entry)) r (now (out .exit)) ⌝ }
 {
-    let BookAnswer::Count(n) = check_book(book, Version::Two) else {
+    let BookAnswer::Count(n) = check_book(book, Version::Three) else {
         return BAD_BOOK;
     };
     if out.len() < 512 {
@@ -85,14 +89,14 @@ fn count_lines(s: &[u8]) -> usize
     count
 }
 
-// Writes the 66 bytes of a text, from `at` on.
-fn put_entry(book: &[u8], n: usize, table: &[u8], text: &[u8], out: &mut [u8], at: usize)
+// Writes the 66 bytes of an owner's text, from `at` on.
+fn put_entry(book: &[u8], n: usize, table: &[u8], owner: u8, text: &[u8], out: &mut [u8], at: usize)
     requires { ⌜ Counts Current (now book) n × (now table ≡ filled (keyAt Current (now book)) n) ⌝ }
-    requires { ⌜ at + 66 ≤ length (now out) ⌝ }
-    ensures { λ _. ⌜ Entered Current (now (book .entry)) (now (text .entry)) (now (out .entry)) at (now (out .exit)) ⌝ }
+    requires { ⌜ (isOwner owner ≡ true) × (at + 66 ≤ length (now out)) ⌝ }
+    ensures { λ _. ⌜ Entered Current (now (book .entry)) owner (now (text .entry)) (now (out .entry)) at (now (out .exit)) ⌝ }
 {
     let mut value = [0u8; 64];
-    let w = look_text(book, n, table, text, &mut value);
+    let w = look_text(book, n, table, owner, text, &mut value);
     let refusal = w.refusal;
     let len = w.length as u8;
     write_byte(out, at, refusal);
@@ -100,16 +104,22 @@ fn put_entry(book: &[u8], n: usize, table: &[u8], text: &[u8], out: &mut [u8], a
     write_text(out, at + 2, &value);
 }
 
-// Writes 66 bytes for each text of `texts`, each of which byte 10 ends: 9, 22, 4.
-pub fn look_many(book: &[u8], table: &[u8], texts: &[u8], out: &mut [u8]) -> Written
-    ensures { λ r. ⌜ LooksMany Current (now (book .entry)) (now (table .entry)) (now (texts .entry)) (now (out .entry)) r (now (out .exit)) ⌝ }
+// Writes 66 bytes for each text of `texts`, each of which byte 10 ends: 9, 23, 22, 4.
+pub fn look_many(book: &[u8], owner: u8, table: &[u8], texts: &[u8], out: &mut [u8]) -> Written
+    ensures { λ r. ⌜ LooksMany Current (now (book .entry)) owner (now (table .entry)) (now (texts .entry)) (now (out .entry)) r (now (out .exit)) ⌝ }
 {
-    let BookAnswer::Count(n) = check_book(book, Version::Two) else {
+    let BookAnswer::Count(n) = check_book(book, Version::Three) else {
         return Written {
             refusal: BAD_BOOK,
             length: 0,
         };
     };
+    if !is_owner(owner) {
+        return Written {
+            refusal: BAD_OWNER,
+            length: 0,
+        };
+    }
     if !table_ok(book, n, table) {
         return Written {
             refusal: BAD_TABLE,
@@ -126,7 +136,7 @@ pub fn look_many(book: &[u8], table: &[u8], texts: &[u8], out: &mut [u8]) -> Wri
     let mut i = 0;
     while i < texts.len() {
         let end = line_end(texts, i);
-        put_entry(book, n, table, &texts[i..end], out, at);
+        put_entry(book, n, table, owner, &texts[i..end], out, at);
         at += 66;
         i = line_next(texts, end);
     }

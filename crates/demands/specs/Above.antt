@@ -5,7 +5,7 @@ use Prim.Native.Nat.{ℕ, _+_, _≤_, _<_}
 use mathlib.Core.Path.{_≡_}
 use mathlib.Core.Logic.{_⊎_}
 use mathlib.Core.Bool.{true}
-use mathlib.Core.List.{List, _++_}
+use mathlib.Core.List.{List, _∷_, _++_}
 use mathlib.Core.Option.{some}
 use lib.ListN.{getElem?}
 use Rattle.text.specs.Bytes.{bytes}
@@ -50,15 +50,15 @@ abbrev pub SomeAbove : List ℕ → ℕ → Type 0
 SomeAbove U n = ((j : ℕ) × CounterWord j U) ⊎ ((U ≡ bytes "ports") × (10 ≤ n))
 
 -- ---- in a book
--- the record at place j of these has the key k
-abbrev pub Stands : List Rec → ℕ → List ℕ → Type 0
-Stands s j k = (r : Rec) × (getElem? s j ≡ some r) × (r .0 ≡ k)
+-- the record at place j of these is the owner o's, and stands under the text t
+abbrev pub Stands : List Rec → ℕ → ℕ → List ℕ → Type 0
+Stands s o j t = (r : Rec) × (getElem? s j ≡ some r) × (r .0 ≡ o ∷ t)
 
--- behind the record of a consensus state, at place i, stand those below it
-pub record Neighbours (s : List Rec) (i : ℕ) (v : Carried (List ℕ)) : Type 0 where
+-- behind an owner's record of a consensus state, at place i, stand those of that owner below it
+pub record Neighbours (s : List Rec) (o : ℕ) (i : ℕ) (v : Carried (List ℕ)) : Type 0 where
   -- that of its processed height is the next
-  pub height-next : (j : ℕ) → Stands s j (renders 7 v) → j ≡ i + 1
+  pub height-next : (j : ℕ) → Stands s o j (renders 7 v) → j ≡ i + 1
   -- that of its processed time is the next, or the one behind that of its processed height
-  pub time-next : (j : ℕ) → Stands s j (renders 6 v) → (j ≡ i + 1) ⊎ ((j ≡ i + 2) × Stands s (i + 1) (renders 7 v))
-  -- and no record at another place has a key below it
-  pub no-other : (j : ℕ) (k : List ℕ) → Stands s j k → Above (renders 5 v) k → (i < j) × (j ≤ i + 2)
+  pub time-next : (j : ℕ) → Stands s o j (renders 6 v) → (j ≡ i + 1) ⊎ ((j ≡ i + 2) × Stands s o (i + 1) (renders 7 v))
+  -- and no record of that owner at another place has a text below it
+  pub no-other : (j : ℕ) (k : List ℕ) → Stands s o j k → Above (renders 5 v) k → (i < j) × (j ≤ i + 2)

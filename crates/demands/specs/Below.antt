@@ -2,18 +2,19 @@
 -- proper book. The words are in `Above`.
 -- Assumes nothing.
 use Prim.Native.Nat.{ℕ, _≤_, _<_}
-use mathlib.Core.Path.{_≡_, refl, sym, ap, subst, _∙_}
+use mathlib.Core.Path.{_≡_, refl, sym, ap, _∙_}
 use mathlib.Core.Logic.{_⊎_, _↔_}
 use mathlib.Core.List.{List, _++_}
 use mathlib.Core.Bool.{false}
-use lib.ListN.{length, take}
+use mathlib.Core.Option.{some}
+use lib.ListN.{length, take, getElem?}
 use Rattle.text.specs.Bytes.{bytes}
 use Rattle.text.specs.declared.Written.{Written}
 use Rattle.text.specs.Order.{cmp, Before}
 use Rattle.text.specs.Part.{startsWith}
 use Rattle.path.specs.Kinds.{Carried}
 use Rattle.path.specs.Valid.{Valid}
-use Rattle.book_records.specs.SplitLaws.{sorted-at}
+use Rattle.book_records.specs.Act.{Rec}
 use Rattle.book.specs.Book.{Current, Book}
 use Rattle.demands.specs.PathCalls.{RenderCall}
 use Rattle.demands.specs.Demand2 as demand2
@@ -57,16 +58,18 @@ some-above k w q is u other = rw (rendered q other .1) (laws.some-above k w q is
 
 -- ---- in a proper book
 module _ (b : List ℕ) (x : Book Current b) where
-  -- records whose keys begin with one text stand together: so do those below a path
-  pub together : (t : List ℕ) (i m j : ℕ) (h k l : List ℕ) → Stands (x .records) i h → Stands (x .records) m k → Stands (x .records) j l → i < m → m < j → Above t h → Above t l → Above t k
-  together t i m j h k l r s q lo hi a c =
-      let f = subst (λ (y : List ℕ). Before y (s .0 .0)) (r .2) (sorted-at (x .records) i m (r .0) (s .0) (x .sorted) lo (r .1) (s .1)) in
-      let g = subst (Before (s .0 .0)) (q .2) (sorted-at (x .records) m j (s .0) (q .0) (x .sorted) hi (s .1) (q .1)) in
-      subst (Above t) (s .2) (near.starts-together (t ++ bytes "/") h (s .0 .0) l f g a c)
+  -- an owner's records stand together, and of these those whose texts begin alike: so do those below a path
+  pub together : (o : ℕ) (t : List ℕ) (i m j : ℕ) (h l : List ℕ) (s : Rec) → Stands (x .records) o i h → getElem? (x .records) m ≡ some s → Stands (x .records) o j l → i < m → m < j → Above t h → Above t l
+      → (k : List ℕ) × Stands (x .records) o m k × Above t k
+  together o t i m j h l s r e q lo hi a c =
+      let k = near.own-between b x o i m j h l s r q e lo hi in
+      let f = near.in-order b x o i m h (k .0) r (k .1) lo in
+      let g = near.in-order b x o m j (k .0) l (k .1) q hi in
+      (k .0, k .1, near.starts-together (t ++ bytes "/") h (k .0) l f g a c)
 
-  -- behind the record of a consensus state stand those of its processed height and of its processed time, with none between
-  pub neighbours : (v : Carried (List ℕ)) → Valid 5 v → (i : ℕ) → Stands (x .records) i (renders 5 v) → Neighbours (x .records) i v
-  neighbours v ok i st = near.neighbours Current b x v ok i (st .0) (st .1) (st .2)
+  -- behind an owner's record of a consensus state stand those of its processed height and of its processed time, with none between
+  pub neighbours : (o : ℕ) (v : Carried (List ℕ)) → Valid 5 v → (i : ℕ) → Stands (x .records) o i (renders 5 v) → Neighbours (x .records) o i v
+  neighbours o v ok i st = near.neighbours b x o v ok i st
 
 -- ---- not so above an upgrade path: a third path's key can come between, as it can go on with a byte before `/`
 abbrev pub Parted : List ℕ → List ℕ → List ℕ → Type 0

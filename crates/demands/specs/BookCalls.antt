@@ -49,96 +49,102 @@ LookPost Plain κs a r s = lr.Post κs a r s
 LookPost Lenient κs a r s = lro.Post κs a r s
 
 -- one call of each function: its buffers before and after, its result, and what its contract ensures
-pub record Writes (m : Manner) (b t v : List ℕ) (r : ℕ) (b₁ : List ℕ) : Type 0 where
+pub record Writes (m : Manner) (b : List ℕ) (o : ℕ) (t v : List ℕ) (r : ℕ) (b₁ : List ℕ) : Type 0 where
   pub lifetimes : Lfts 3
   pub args : ArgsD w.signature lifetimes
   pub result : ResD w.signature lifetimes
   pub exits : AtExit (endedOf 3 wk.ps wk.r) lifetimes
   pub book-in : now (args .0) ≡ b
-  pub text-in : now (args .1 .0) ≡ t
-  pub value-in : now (args .1 .1 .0) ≡ v
+  pub owner-in : args .1 .0 ≡ o
+  pub text-in : now (args .1 .1 .0) ≡ t
+  pub value-in : now (args .1 .1 .1 .0) ≡ v
   pub number-out : result ≡ r
   pub book-out : now (exits .0) ≡ b₁
   pub ensures : WritePost m lifetimes args result exits
 
-pub record Removes (m : Manner) (b t : List ℕ) (r : ℕ) (b₁ : List ℕ) : Type 0 where
+pub record Removes (m : Manner) (b : List ℕ) (o : ℕ) (t : List ℕ) (r : ℕ) (b₁ : List ℕ) : Type 0 where
   pub lifetimes : Lfts 2
   pub args : ArgsD d.signature lifetimes
   pub result : ResD d.signature lifetimes
   pub exits : AtExit (endedOf 2 dk.ps dk.r) lifetimes
   pub book-in : now (args .0) ≡ b
-  pub text-in : now (args .1 .0) ≡ t
+  pub owner-in : args .1 .0 ≡ o
+  pub text-in : now (args .1 .1 .0) ≡ t
   pub number-out : result ≡ r
   pub book-out : now (exits .0) ≡ b₁
   pub ensures : RemovePost m lifetimes args result exits
 
-pub record Looks (m : Manner) (b t out : List ℕ) (r : Written) (out₁ : List ℕ) : Type 0 where
+pub record Looks (m : Manner) (b : List ℕ) (o : ℕ) (t out : List ℕ) (r : Written) (out₁ : List ℕ) : Type 0 where
   pub lifetimes : Lfts 3
   pub args : ArgsD l.signature lifetimes
   pub result : ResD l.signature lifetimes
   pub exits : AtExit (endedOf 3 lk.ps lk.r) lifetimes
   pub book-in : now (args .0) ≡ b
-  pub text-in : now (args .1 .0) ≡ t
-  pub out-in : now (args .1 .1 .0) ≡ out
+  pub owner-in : args .1 .0 ≡ o
+  pub text-in : now (args .1 .1 .0) ≡ t
+  pub out-in : now (args .1 .1 .1 .0) ≡ out
   pub answer-out : result ≡ r
-  pub out-out : now (exits .1 .1 .0) ≡ out₁
+  pub out-out : now (exits .1 .1 .1 .0) ≡ out₁
   pub ensures : LookPost m lifetimes args result exits
 
-pub wrote : (m : Manner) (b t v : List ℕ) (r : ℕ) (b₁ : List ℕ) → Writes m b t v r b₁ → Recorded Current m b t v r b₁
-wrote m b t v r b₁ x = rw (x .book-in, x .text-in, x .value-in, x .number-out, x .book-out) at (go m (x .ensures))
+pub wrote : (m : Manner) (b : List ℕ) (o : ℕ) (t v : List ℕ) (r : ℕ) (b₁ : List ℕ) → Writes m b o t v r b₁ → Recorded Current m b o t v r b₁
+wrote m b o t v r b₁ x = rw (x .book-in, x .owner-in, x .text-in, x .value-in, x .number-out, x .book-out) at (go m (x .ensures))
   where
     go : (n : Manner) → WritePost n (x .lifetimes) (x .args) (x .result) (x .exits)
-        → Recorded Current n (now (x .args .0)) (now (x .args .1 .0)) (now (x .args .1 .1 .0)) (x .result) (now (x .exits .0))
+        → Recorded Current n (now (x .args .0)) (x .args .1 .0) (now (x .args .1 .1 .0)) (now (x .args .1 .1 .1 .0)) (x .result) (now (x .exits .0))
     go Plain p = p
     go Lenient p = p
 
-pub removed : (m : Manner) (b t : List ℕ) (r : ℕ) (b₁ : List ℕ) → Removes m b t r b₁ → Removed Current m b t r b₁
-removed m b t r b₁ x = rw (x .book-in, x .text-in, x .number-out, x .book-out) at (go m (x .ensures))
+pub removed : (m : Manner) (b : List ℕ) (o : ℕ) (t : List ℕ) (r : ℕ) (b₁ : List ℕ) → Removes m b o t r b₁ → Removed Current m b o t r b₁
+removed m b o t r b₁ x = rw (x .book-in, x .owner-in, x .text-in, x .number-out, x .book-out) at (go m (x .ensures))
   where
     go : (n : Manner) → RemovePost n (x .lifetimes) (x .args) (x .result) (x .exits)
-        → Removed Current n (now (x .args .0)) (now (x .args .1 .0)) (x .result) (now (x .exits .0))
+        → Removed Current n (now (x .args .0)) (x .args .1 .0) (now (x .args .1 .1 .0)) (x .result) (now (x .exits .0))
     go Plain p = p
     go Lenient p = p
 
-pub looked : (m : Manner) (b t out : List ℕ) (r : Written) (out₁ : List ℕ) → Looks m b t out r out₁ → Looked Current m b t out r out₁
-looked m b t out r out₁ x = rw (x .book-in, x .text-in, x .out-in, x .answer-out, x .out-out) at (go m (x .ensures))
+pub looked : (m : Manner) (b : List ℕ) (o : ℕ) (t out : List ℕ) (r : Written) (out₁ : List ℕ) → Looks m b o t out r out₁ → Looked Current m b o t out r out₁
+looked m b o t out r out₁ x = rw (x .book-in, x .owner-in, x .text-in, x .out-in, x .answer-out, x .out-out) at (go m (x .ensures))
   where
     go : (n : Manner) → LookPost n (x .lifetimes) (x .args) (x .result) (x .exits)
-        → Looked Current n (now (x .args .0)) (now (x .args .1 .0)) (now (x .args .1 .1 .0)) (x .result) (now (x .exits .1 .1 .0))
+        → Looked Current n (now (x .args .0)) (x .args .1 .0) (now (x .args .1 .1 .0)) (now (x .args .1 .1 .1 .0)) (x .result) (now (x .exits .1 .1 .1 .0))
     go Plain p = p
     go Lenient p = p
 
 -- ---- demand 3
 -- a lookup with that much room, in some buffer, and what it gives
-pub record LooksIn (m : Manner) (b t : List ℕ) (room : ℕ) (a : Seen) : Type 0 where
+pub record LooksIn (m : Manner) (b : List ℕ) (o : ℕ) (t : List ℕ) (room : ℕ) (a : Seen) : Type 0 where
   pub out : List ℕ
   pub out₁ : List ℕ
   pub size : length out ≡ room
   pub written : Written
-  pub looks : Looks m b t out written out₁
+  pub looks : Looks m b o t out written out₁
   pub number : a .number ≡ written .refusal
   pub gives : a .value ≡ take (written .length) out₁
 
-abbrev pub DoesTo : Manner → Asked → List ℕ → List ℕ → Seen → List ℕ → Type 0
-DoesTo m (to-write v) b t a b₁ = Writes m b t v (a .number) b₁ × (a .value ≡ [])
-DoesTo m to-remove b t a b₁ = Removes m b t (a .number) b₁ × (a .value ≡ [])
-DoesTo m (to-look room) b t a b₁ = LooksIn m b t room a × (b₁ ≡ b)
+abbrev pub DoesTo : Manner → Asked → List ℕ → ℕ → List ℕ → Seen → List ℕ → Type 0
+DoesTo m (to-write v) b o t a b₁ = Writes m b o t v (a .number) b₁ × (a .value ≡ [])
+DoesTo m to-remove b o t a b₁ = Removes m b o t (a .number) b₁ × (a .value ≡ [])
+DoesTo m (to-look room) b o t a b₁ = LooksIn m b o t room a × (b₁ ≡ b)
 
 abbrev pub Does : List ℕ → Call → Seen → List ℕ → Type 0
-Does b c a b₁ = DoesTo (c .manner) (c .asked) b (c .text) a b₁
+Does b c a b₁ = DoesTo (c .manner) (c .asked) b (c .owner) (c .text) a b₁
 
-pub permits-to : (m : Manner) (q : Asked) (b t : List ℕ) (a : Seen) (b₁ : List ℕ) → DoesTo m q b t a b₁ → Permitted b (record { manner = m; text = t; asked = q }) a b₁
-permits-to m (to-write v) b t a b₁ x = (wrote m b t v (a .number) b₁ (x .0), x .1)
-permits-to m to-remove b t a b₁ x = (removed m b t (a .number) b₁ (x .0), x .1)
-permits-to m (to-look room) b t a b₁ x =
+pub permits-to : (m : Manner) (q : Asked) (b : List ℕ) (o : ℕ) (t : List ℕ) (a : Seen) (b₁ : List ℕ) → DoesTo m q b o t a b₁ → Permitted b (record { manner = m; owner = o; text = t; asked = q }) a b₁
+permits-to m (to-write v) b o t a b₁ x = (wrote m b o t v (a .number) b₁ (x .0), x .1)
+permits-to m to-remove b o t a b₁ x = (removed m b o t (a .number) b₁ (x .0), x .1)
+permits-to m (to-look room) b o t a b₁ x =
     let y = x .0 in
-    let f : Looked Current m b t (y .out) (y .written) (y .out₁) = looked m b t (y .out) (y .written) (y .out₁) (y .looks) in
-    (record { out = y .out; out₁ = y .out₁; size = y .size; written = y .written; found = subst (λ (n : ℕ). Found Current b (meaning (look m t n)) (y .out) (y .written) (y .out₁)) (y .size) f; number = y .number; gives = y .gives }, x .1)
+    let f : Looked Current m b o t (y .out) (y .written) (y .out₁) = looked m b o t (y .out) (y .written) (y .out₁) (y .looks) in
+    (record { out = y .out; out₁ = y .out₁; size = y .size; written = y .written; found = subst (λ (n : ℕ). Found Current b (meaning (look m o t n)) (y .out) (y .written) (y .out₁)) (y .size) f; number = y .number; gives = y .gives }, x .1)
+
+pub permits : (b : List ℕ) (c : Call) (a : Seen) (b₁ : List ℕ) → Does b c a b₁ → Permitted b c a b₁
+permits b c a b₁ y = permits-to (c .manner) (c .asked) b (c .owner) (c .text) a b₁ y
 
 -- what each of the six functions does on all bytes
 pub each-call : EachCall Does
-each-call = each.each-call Does (λ b c a b₁ y. permits-to (c .manner) (c .asked) b (c .text) a b₁ y)
+each-call = each.each-call Does permits
 
 -- THE THEOREM: demand 3 of the six functions, in one list
 pub demand3 : (x : Taken Does) → Demand3 Does x
-demand3 x = laws.demand3 Does (λ b c a b₁ y. permits-to (c .manner) (c .asked) b (c .text) a b₁ y) x
+demand3 x = laws.demand3 Does permits x

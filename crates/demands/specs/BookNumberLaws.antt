@@ -20,23 +20,25 @@ use Rattle.book_records.specs.Records.{Key, get, put, del}
 use Rattle.book_records.specs.Act.{Rec, Meaning, Answer, act, addTo, takeFrom, lookIn, seen}
 use Rattle.book_records.specs.declared.Manner.{Manner}
 use Rattle.book_records.specs.declared.Manner.the-variants.{Plain, Lenient}
-use Rattle.book_records.specs.Calls.{Call, write, remove, look, Spelled, meaning}
-use Rattle.book_records.specs.Refusals.{GoodWrite, GoodRemoval, GoodLookup, Declined, too-long, not-ascii, not-a-path, loose, key-too-long, bad-length, no-room}
+use Rattle.book_records.specs.Calls.{Call, write, remove, look, isOwner, Spelled, meaning}
+use Rattle.book_records.specs.Refusals.{GoodWrite, GoodRemoval, GoodLookup, Declined, bad-owner, too-long, not-ascii, not-a-path, loose, key-too-long, bad-length, no-room}
 use Rattle.book_records.specs.CallLaws.{Means, declines, writing, removing, looking, means}
 use Rattle.book.specs.Book.{Current, fullIn}
-use Rattle.book.specs.Outcome.{Outcome, no-book, this-book, Changed, Found, Looked, Made, no-size, new-book}
-use Rattle.book_convert.specs.Convert.{Converted, no-old, other-size, converted}
+use Rattle.book.specs.Outcome.{Outcome, no-book, this-book, Changed, Looked, Made, no-size, no-slots, new-book, quotas}
+use Rattle.book_convert.specs.Convert.{Converted, ConvertedOwners}
+use Rattle.book_convert.specs.Convert as convert
+use Rattle.book_form.specs.declared.Quotas.{Quotas}
 use Rattle.book_oldest.specs.declared.StateAnswer.{StateAnswer}
 use Rattle.book_oldest.specs.declared.StateAnswer.the-variants.{State, Nothing}
 use Rattle.path.specs.declared.Pair.{Pair}
 use Rattle.path.specs.Pair.{pair}
-use Rattle.book_oldest.specs.Oldest.{oldestState, pairOf, oldestIn, Oldest}
+use Rattle.book_oldest.specs.Oldest.{oldestState, pairOf, checkedState, oldestIn, Oldest}
 use Rattle.book_oldest.specs.Oldest as oldest
-use Rattle.demands.specs.KeepsLaws.{made-keeps, changed-keeps, found-keeps, converted-keeps}
+use Rattle.demands.specs.KeepsLaws.{made-keeps, changed-keeps, found-keeps, converted-keeps, owned-keeps}
 use Rattle.demands.specs.AnswerLaws.{written-number, written-zero}
 use Rattle.demands.specs.Shape.{oneOf, Listed, AllZero, Demand1}
 use Rattle.demands.specs.ShapeLaws.{plain-of}
-use Rattle.demands.specs.Numbers.{inManner, writeNumbers, removeNumbers, lookNumbers}
+use Rattle.demands.specs.Numbers.{inManner, writeNumbers, removeNumbers, lookNumbers, newNumbers, convertNumbers, convertOwnersNumbers, oldestNumbers}
 
 -- ---- the number of an answer, for any property that 0 and the call's refusals have
 module _ (P : ℕ → Type 0) (zero : P 0) (c : Call) (own : (n : ℕ) → Declined c n → P n)
@@ -91,67 +93,74 @@ loose-too : (m : Manner) (t : List ℕ) (ns : List ℕ) → (Spelled m t → ⊥
 loose-too Plain t ns s = refl
 loose-too Lenient t ns s = absurd (s tt)
 
-pub write-listed : (m : Manner) (t v : List ℕ) {b : List ℕ} {a : Answer} {b₁ : List ℕ} → Outcome Current (meaning (write m t v)) b a b₁ → Listed (writeNumbers m) (seen a .number)
-write-listed m t v = outcome-of (Listed (writeNumbers m)) (ok 0 refl) (write m t v) own (λ k u good. ok 11 refl) (λ k good. absurd (let e = good .asked in let z : _≡_ {A = ℕ} 0 1 = cc in let y : ⊥ = omega arith in y)) (λ k room good. absurd (let e = good .asked in let z : _≡_ {A = ℕ} 0 1 = cc in let y : ⊥ = omega arith in y)) (ok 9 refl)
+pub write-listed : (m : Manner) (o : ℕ) (t v : List ℕ) {b : List ℕ} {a : Answer} {b₁ : List ℕ} → Outcome Current (meaning (write m o t v)) b a b₁ → Listed (writeNumbers m) (seen a .number)
+write-listed m o t v = outcome-of (Listed (writeNumbers m)) (ok 0 refl) (write m o t v) own (λ k u good. ok 11 refl) (λ k good. absurd (let e = good .asked in let z : _≡_ {A = ℕ} 0 1 = cc in let y : ⊥ = omega arith in y)) (λ k room good. absurd (let e = good .asked in let z : _≡_ {A = ℕ} 0 1 = cc in let y : ⊥ = omega arith in y)) (ok 9 refl)
   where
-    ok : (n : ℕ) → Listed (9 ∷ 1 ∷ 2 ∷ 3 ∷ 17 ∷ 18 ∷ 19 ∷ 10 ∷ 6 ∷ 11 ∷ []) n → Listed (writeNumbers m) n
-    ok = also m (9 ∷ 1 ∷ 2 ∷ 3 ∷ 17 ∷ 18 ∷ 19 ∷ 10 ∷ 6 ∷ 11 ∷ [])
+    ok : (n : ℕ) → Listed (9 ∷ 23 ∷ 1 ∷ 2 ∷ 3 ∷ 17 ∷ 18 ∷ 19 ∷ 10 ∷ 6 ∷ 11 ∷ []) n → Listed (writeNumbers m) n
+    ok = also m (9 ∷ 23 ∷ 1 ∷ 2 ∷ 3 ∷ 17 ∷ 18 ∷ 19 ∷ 10 ∷ 6 ∷ 11 ∷ [])
 
-    own : (n : ℕ) → Declined (write m t v) n → Listed (writeNumbers m) n
-    own n (too-long h) = ok 1 refl
-    own n (not-ascii h e) = ok 2 refl
-    own n (not-a-path h e f) = unread-of (Listed (writeNumbers m)) (ok 1 refl) (ok 2 refl) (ok 3 refl) (ok 17 refl) (ok 18 refl) (ok 19 refl) (whyNot t)
-    own n (loose p s) = loose-too m t (9 ∷ 1 ∷ 2 ∷ 3 ∷ 17 ∷ 18 ∷ 19 ∷ 10 ∷ 6 ∷ 11 ∷ []) s
+    own : (n : ℕ) → Declined (write m o t v) n → Listed (writeNumbers m) n
+    own n (bad-owner w) = ok 23 refl
+    own n (too-long w h) = ok 1 refl
+    own n (not-ascii w h e) = ok 2 refl
+    own n (not-a-path w h e f) = unread-of (Listed (writeNumbers m)) (ok 1 refl) (ok 2 refl) (ok 3 refl) (ok 17 refl) (ok 18 refl) (ok 19 refl) (whyNot t)
+    own n (loose p s) = loose-too m t (9 ∷ 23 ∷ 1 ∷ 2 ∷ 3 ∷ 17 ∷ 18 ∷ 19 ∷ 10 ∷ 6 ∷ 11 ∷ []) s
     own n (key-too-long p s l) = ok 10 refl
     own n (bad-length q h f) = ok 6 refl
     own n (no-room q h l) = absurd (let z : _≡_ {A = ℕ} 0 1 = cc in let y : ⊥ = omega arith in y)
 
-pub remove-listed : (m : Manner) (t : List ℕ) {b : List ℕ} {a : Answer} {b₁ : List ℕ} → Outcome Current (meaning (remove m t)) b a b₁ → Listed (removeNumbers m) (seen a .number)
-remove-listed m t = outcome-of (Listed (removeNumbers m)) (ok 0 refl) (remove m t) own (λ k u good. absurd (let e = good .asked in let z : _≡_ {A = ℕ} 0 1 = cc in let y : ⊥ = omega arith in y)) (λ k good. ok 12 refl) (λ k room good. ok 12 refl) (ok 9 refl)
+pub remove-listed : (m : Manner) (o : ℕ) (t : List ℕ) {b : List ℕ} {a : Answer} {b₁ : List ℕ} → Outcome Current (meaning (remove m o t)) b a b₁ → Listed (removeNumbers m) (seen a .number)
+remove-listed m o t = outcome-of (Listed (removeNumbers m)) (ok 0 refl) (remove m o t) own (λ k u good. absurd (let e = good .asked in let z : _≡_ {A = ℕ} 0 1 = cc in let y : ⊥ = omega arith in y)) (λ k good. ok 12 refl) (λ k room good. ok 12 refl) (ok 9 refl)
   where
-    ok : (n : ℕ) → Listed (9 ∷ 1 ∷ 2 ∷ 3 ∷ 17 ∷ 18 ∷ 19 ∷ 10 ∷ 12 ∷ []) n → Listed (removeNumbers m) n
-    ok = also m (9 ∷ 1 ∷ 2 ∷ 3 ∷ 17 ∷ 18 ∷ 19 ∷ 10 ∷ 12 ∷ [])
+    ok : (n : ℕ) → Listed (9 ∷ 23 ∷ 1 ∷ 2 ∷ 3 ∷ 17 ∷ 18 ∷ 19 ∷ 10 ∷ 12 ∷ []) n → Listed (removeNumbers m) n
+    ok = also m (9 ∷ 23 ∷ 1 ∷ 2 ∷ 3 ∷ 17 ∷ 18 ∷ 19 ∷ 10 ∷ 12 ∷ [])
 
-    own : (n : ℕ) → Declined (remove m t) n → Listed (removeNumbers m) n
-    own n (too-long h) = ok 1 refl
-    own n (not-ascii h e) = ok 2 refl
-    own n (not-a-path h e f) = unread-of (Listed (removeNumbers m)) (ok 1 refl) (ok 2 refl) (ok 3 refl) (ok 17 refl) (ok 18 refl) (ok 19 refl) (whyNot t)
-    own n (loose p s) = loose-too m t (9 ∷ 1 ∷ 2 ∷ 3 ∷ 17 ∷ 18 ∷ 19 ∷ 10 ∷ 12 ∷ []) s
+    own : (n : ℕ) → Declined (remove m o t) n → Listed (removeNumbers m) n
+    own n (bad-owner w) = ok 23 refl
+    own n (too-long w h) = ok 1 refl
+    own n (not-ascii w h e) = ok 2 refl
+    own n (not-a-path w h e f) = unread-of (Listed (removeNumbers m)) (ok 1 refl) (ok 2 refl) (ok 3 refl) (ok 17 refl) (ok 18 refl) (ok 19 refl) (whyNot t)
+    own n (loose p s) = loose-too m t (9 ∷ 23 ∷ 1 ∷ 2 ∷ 3 ∷ 17 ∷ 18 ∷ 19 ∷ 10 ∷ 12 ∷ []) s
     own n (key-too-long p s l) = ok 10 refl
     own n (bad-length q h f) = absurd (let z : _≡_ {A = ℕ} 0 1 = cc in let y : ⊥ = omega arith in y)
     own n (no-room q h l) = absurd (let z : _≡_ {A = ℕ} 0 1 = cc in let y : ⊥ = omega arith in y)
 
-pub look-listed : (m : Manner) (t : List ℕ) (room : ℕ) {b : List ℕ} {a : Answer} {b₁ : List ℕ} → Outcome Current (meaning (look m t room)) b a b₁ → Listed (lookNumbers m) (seen a .number)
-look-listed m t room = outcome-of (Listed (lookNumbers m)) (ok 0 refl) (look m t room) own (λ k u good. absurd (let e = good .asked in let z : _≡_ {A = ℕ} 0 1 = cc in let y : ⊥ = omega arith in y)) (λ k good. ok 12 refl) (λ k r good. ok 12 refl) (ok 9 refl)
+pub look-listed : (m : Manner) (o : ℕ) (t : List ℕ) (room : ℕ) {b : List ℕ} {a : Answer} {b₁ : List ℕ} → Outcome Current (meaning (look m o t room)) b a b₁ → Listed (lookNumbers m) (seen a .number)
+look-listed m o t room = outcome-of (Listed (lookNumbers m)) (ok 0 refl) (look m o t room) own (λ k u good. absurd (let e = good .asked in let z : _≡_ {A = ℕ} 0 1 = cc in let y : ⊥ = omega arith in y)) (λ k good. ok 12 refl) (λ k r good. ok 12 refl) (ok 9 refl)
   where
-    ok : (n : ℕ) → Listed (9 ∷ 1 ∷ 2 ∷ 3 ∷ 17 ∷ 18 ∷ 19 ∷ 10 ∷ 4 ∷ 12 ∷ []) n → Listed (lookNumbers m) n
-    ok = also m (9 ∷ 1 ∷ 2 ∷ 3 ∷ 17 ∷ 18 ∷ 19 ∷ 10 ∷ 4 ∷ 12 ∷ [])
+    ok : (n : ℕ) → Listed (9 ∷ 23 ∷ 1 ∷ 2 ∷ 3 ∷ 17 ∷ 18 ∷ 19 ∷ 10 ∷ 4 ∷ 12 ∷ []) n → Listed (lookNumbers m) n
+    ok = also m (9 ∷ 23 ∷ 1 ∷ 2 ∷ 3 ∷ 17 ∷ 18 ∷ 19 ∷ 10 ∷ 4 ∷ 12 ∷ [])
 
-    own : (n : ℕ) → Declined (look m t room) n → Listed (lookNumbers m) n
-    own n (too-long h) = ok 1 refl
-    own n (not-ascii h e) = ok 2 refl
-    own n (not-a-path h e f) = unread-of (Listed (lookNumbers m)) (ok 1 refl) (ok 2 refl) (ok 3 refl) (ok 17 refl) (ok 18 refl) (ok 19 refl) (whyNot t)
-    own n (loose p s) = loose-too m t (9 ∷ 1 ∷ 2 ∷ 3 ∷ 17 ∷ 18 ∷ 19 ∷ 10 ∷ 4 ∷ 12 ∷ []) s
+    own : (n : ℕ) → Declined (look m o t room) n → Listed (lookNumbers m) n
+    own n (bad-owner w) = ok 23 refl
+    own n (too-long w h) = ok 1 refl
+    own n (not-ascii w h e) = ok 2 refl
+    own n (not-a-path w h e f) = unread-of (Listed (lookNumbers m)) (ok 1 refl) (ok 2 refl) (ok 3 refl) (ok 17 refl) (ok 18 refl) (ok 19 refl) (whyNot t)
+    own n (loose p s) = loose-too m t (9 ∷ 23 ∷ 1 ∷ 2 ∷ 3 ∷ 17 ∷ 18 ∷ 19 ∷ 10 ∷ 4 ∷ 12 ∷ []) s
     own n (key-too-long p s l) = ok 10 refl
     own n (bad-length q h f) = absurd (let z : _≡_ {A = ℕ} 0 1 = cc in let y : ⊥ = omega arith in y)
     own n (no-room q h l) = ok 4 refl
 
 -- what is said of a pair
 record Told (p : Pair) : Type 0 where
-  listed : Listed (9 ∷ 2 ∷ 5 ∷ 6 ∷ 12 ∷ []) (p .refusal)
+  listed : Listed oldestNumbers (p .refusal)
   zeros : (p .refusal ≡ 0 → ⊥) → AllZero (p .number ∷ p .height ∷ [])
 
-in-records : (c : List ℕ) (s : List Rec) → Told (oldestIn c s)
+in-records : (o : ℕ) (c : List ℕ) (s : List Rec) → Told (oldestIn o c s)
 unfolding oldestIn
-in-records c s = pick (eqb (checkOf check.client c) 0)
+in-records o c s = whose (isOwner o)
   where
     state : (x : StateAnswer) → Told (pairOf x)
     state (State p) = record { listed = refl; zeros = λ n. absurd (n refl) }
     state Nothing = record { listed = refl; zeros = λ n. (refl, (refl, tt)) }
 
-    pick : (v : Bool) → Told (cond v (pairOf (oldestState c s)) (pair (checkOf check.client c) 0 0))
-    pick true = state (oldestState c s)
-    pick false = record { listed = plain-of (Listed (9 ∷ 2 ∷ 5 ∷ 6 ∷ 12 ∷ [])) refl refl refl refl 9 64 c; zeros = λ n. (refl, (refl, tt)) }
+    pick : (v : Bool) → Told (cond v (pairOf (oldestState o c s)) (pair (checkOf check.client c) 0 0))
+    pick true = state (oldestState o c s)
+    pick false = record { listed = plain-of (Listed oldestNumbers) refl refl refl refl 9 64 c; zeros = λ n. (refl, (refl, tt)) }
+
+    whose : (v : Bool) → Told (cond v (checkedState o c s) (pair 23 0 0))
+    whose true = pick (eqb (checkOf check.client c) 0)
+    whose false = record { listed = refl; zeros = λ n. (refl, (refl, tt)) }
 
 flag-told : (k : ℕ) → Listed (14 ∷ []) (provableFlag k .refusal) × ((provableFlag k .refusal ≡ 0 → ⊥) → AllZero (provableFlag k .value ∷ []))
 unfolding provableFlag
@@ -167,14 +176,15 @@ flag-told k = go (leb 1 k && leb k 19)
 -- ---- the shapes
 module _ {L : Type 0} {A R S : L → Type 0} {Pre : (κs : L) → A κs → Type 0} {Post : (κs : L) → A κs → R κs → S κs → Type 0} (accepts : (κs : L) (a : A κs) → Pre κs a) where
   module _ (number : (κs : L) → R κs → ℕ) (before : (κs : L) → A κs → List ℕ) (after : (κs : L) → S κs → List ℕ) where
-    pub made-demand : ((κs : L) (a : A κs) (r : R κs) (s : S κs) → Post κs a r s → Made Current tt (before κs a) (number κs r) (after κs s))
-        → Demand1 Pre Post (9 ∷ []) number (λ κs r. []) before after
-    made-demand says =
+    pub made-demand : (one two : (κs : L) → A κs → ℕ) → ((κs : L) (a : A κs) (r : R κs) (s : S κs) → Post κs a r s → Made Current (quotas (one κs a) (two κs a)) (before κs a) (number κs r) (after κs s))
+        → Demand1 Pre Post newNumbers number (λ κs r. []) before after
+    made-demand one two says =
         record { accepts = accepts; numbered = λ κs a r s p. go (says κs a r s p); nothing-else = λ κs a r s p h. tt; keeps = λ κs a r s p. made-keeps (says κs a r s p) }
       where
-        go : {b : List ℕ} {r : ℕ} {b₁ : List ℕ} → Made Current tt b r b₁ → Listed (9 ∷ []) r
+        go : {q : Quotas} {b : List ℕ} {r : ℕ} {b₁ : List ℕ} → Made Current q b r b₁ → Listed newNumbers r
         go (no-size n e f) = rw e
-        go (new-book C s e f) = rw e
+        go (no-slots C s n e f) = rw e
+        go (new-book C s n e f) = rw e
 
     pub changed-demand : (listed : List ℕ) (call : (κs : L) → A κs → Call)
         → ((κs : L) (a : A κs) (b : List ℕ) (x : Answer) (b₁ : List ℕ) → Outcome Current (meaning (call κs a)) b x b₁ → Listed listed (seen x .number))
@@ -188,40 +198,52 @@ module _ {L : Type 0} {A R S : L → Type 0} {Pre : (κs : L) → A κs → Type
           keeps = λ κs a r s p. changed-keeps (says κs a r s p);
         }
 
-    -- the conversion; `before` and `after` are of its second buffer
+    -- the conversions; `before` and `after` are of the second buffer
     pub converted-demand : (old : (κs : L) → A κs → List ℕ)
         → ((κs : L) (a : A κs) (r : R κs) (s : S κs) → Post κs a r s → Converted (old κs a) (before κs a) (number κs r) (after κs s))
-        → Demand1 Pre Post (9 ∷ 4 ∷ []) number (λ κs r. []) before after
+        → Demand1 Pre Post convertNumbers number (λ κs r. []) before after
     converted-demand old says =
         record { accepts = accepts; numbered = λ κs a r s p. go (says κs a r s p); nothing-else = λ κs a r s p h. tt; keeps = λ κs a r s p. converted-keeps (says κs a r s p) }
       where
-        go : {o n : List ℕ} {r : ℕ} {n₁ : List ℕ} → Converted o n r n₁ → Listed (9 ∷ 4 ∷ []) r
-        go (no-old n e f) = rw e
-        go (other-size x n e f) = rw e
-        go (converted x n e f) = rw e
+        go : {o n : List ℕ} {r : ℕ} {n₁ : List ℕ} → Converted o n r n₁ → Listed convertNumbers r
+        go (convert.Converted.no-old n e f) = rw e
+        go (convert.Converted.other-size x n e f) = rw e
+        go (convert.Converted.converted x n e f) = rw e
+
+    pub owned-demand : (old : (κs : L) → A κs → List ℕ) (one two : (κs : L) → A κs → ℕ)
+        → ((κs : L) (a : A κs) (r : R κs) (s : S κs) → Post κs a r s → ConvertedOwners (old κs a) (before κs a) (quotas (one κs a) (two κs a)) (number κs r) (after κs s))
+        → Demand1 Pre Post convertOwnersNumbers number (λ κs r. []) before after
+    owned-demand old one two says =
+        record { accepts = accepts; numbered = λ κs a r s p. go (says κs a r s p); nothing-else = λ κs a r s p h. tt; keeps = λ κs a r s p. owned-keeps (says κs a r s p) }
+      where
+        go : {o n : List ℕ} {q : Quotas} {r : ℕ} {n₁ : List ℕ} → ConvertedOwners o n q r n₁ → Listed convertOwnersNumbers r
+        go (convert.ConvertedOwners.no-old n e f) = rw e
+        go (convert.ConvertedOwners.other-size x n e f) = rw e
+        go (convert.ConvertedOwners.too-many x n m e f) = rw e
+        go (convert.ConvertedOwners.converted x n m e f) = rw e
 
   pub found-demand : (listed : List ℕ) (manner : (κs : L) → A κs → Manner)
       → ((κs : L) (a : A κs) (n : ℕ) → Listed (lookNumbers (manner κs a)) n → Listed listed n)
-      → (written : (κs : L) → R κs → Written) (book text before : (κs : L) → A κs → List ℕ) (after : (κs : L) → S κs → List ℕ)
-      → ((κs : L) (a : A κs) (r : R κs) (s : S κs) → Post κs a r s → Looked Current (manner κs a) (book κs a) (text κs a) (before κs a) (written κs r) (after κs s))
+      → (written : (κs : L) → R κs → Written) (book : (κs : L) → A κs → List ℕ) (owner : (κs : L) → A κs → ℕ) (text before : (κs : L) → A κs → List ℕ) (after : (κs : L) → S κs → List ℕ)
+      → ((κs : L) (a : A κs) (r : R κs) (s : S κs) → Post κs a r s → Looked Current (manner κs a) (book κs a) (owner κs a) (text κs a) (before κs a) (written κs r) (after κs s))
       → Demand1 Pre Post listed (λ κs r. written κs r .refusal) (λ κs r. written κs r .length ∷ []) before after
-  found-demand listed manner in-list written book text before after says =
+  found-demand listed manner in-list written book owner text before after says =
       record {
         accepts = accepts;
-        numbered = λ κs a r s p. let c = says κs a r s p in subst (Listed listed) (sym (ap (λ (w : Written). w .refusal) (c .written) ∙ written-number (c .answer))) (in-list κs a _ (look-listed (manner κs a) (text κs a) (length (before κs a)) (c .outcome)));
+        numbered = λ κs a r s p. let c = says κs a r s p in subst (Listed listed) (sym (ap (λ (w : Written). w .refusal) (c .written) ∙ written-number (c .answer))) (in-list κs a _ (look-listed (manner κs a) (owner κs a) (text κs a) (length (before κs a)) (c .outcome)));
         nothing-else = λ κs a r s p h. let c = says κs a r s p in (ap (λ (w : Written). w .length) (c .written) ∙ written-zero (c .answer) (λ e. h (ap (λ (w : Written). w .refusal) (c .written) ∙ e)), tt);
         keeps = λ κs a r s p. found-keeps (says κs a r s p);
       }
 
-  pub oldest-demand : (pairs : (κs : L) → R κs → Pair) (book client : (κs : L) → A κs → List ℕ)
-      → ((κs : L) (a : A κs) (r : R κs) (s : S κs) → Post κs a r s → Oldest Current (book κs a) (client κs a) (pairs κs r))
-      → Demand1 Pre Post (9 ∷ 2 ∷ 5 ∷ 6 ∷ 12 ∷ []) (λ κs r. pairs κs r .refusal) (λ κs r. pairs κs r .number ∷ pairs κs r .height ∷ []) (λ κs a. []) (λ κs s. [])
-  oldest-demand pairs book client says =
+  pub oldest-demand : (pairs : (κs : L) → R κs → Pair) (book : (κs : L) → A κs → List ℕ) (owner : (κs : L) → A κs → ℕ) (client : (κs : L) → A κs → List ℕ)
+      → ((κs : L) (a : A κs) (r : R κs) (s : S κs) → Post κs a r s → Oldest Current (book κs a) (owner κs a) (client κs a) (pairs κs r))
+      → Demand1 Pre Post oldestNumbers (λ κs r. pairs κs r .refusal) (λ κs r. pairs κs r .number ∷ pairs κs r .height ∷ []) (λ κs a. []) (λ κs s. [])
+  oldest-demand pairs book owner client says =
       record { accepts = accepts; numbered = λ κs a r s p. go (says κs a r s p) .listed; nothing-else = λ κs a r s p. go (says κs a r s p) .zeros; keeps = λ κs a r s p h. refl }
     where
-      go : {b c : List ℕ} {p : Pair} → Oldest Current b c p → Told p
+      go : {b : List ℕ} {o : ℕ} {c : List ℕ} {p : Pair} → Oldest Current b o c p → Told p
       go (oldest.Oldest.no-book n e) = rw e (record { listed = refl; zeros = λ m. (refl, (refl, tt)) })
-      go {c = c} (oldest.Oldest.this-book x e) = rw e (in-records c (x .records))
+      go {o = o} {c = c} (oldest.Oldest.this-book x e) = rw e (in-records o c (x .records))
 
   pub provable-demand : (kind : (κs : L) → A κs → ℕ) (flag : (κs : L) → R κs → Flag)
       → ((κs : L) (a : A κs) (r : R κs) (s : S κs) → Post κs a r s → flag κs r ≡ provableFlag (kind κs a))

@@ -24,18 +24,18 @@ use Rattle.path.specs.Text.{cutAt, joinBy, placesFrom, shownOf}
 use Rattle.path.specs.Kinds.{Carried, carried, kinds}
 use Rattle.path.specs.declared.Pair.{Pair}
 use Rattle.path.specs.Pair.{pair}
-use Rattle.book_oldest.specs.Oldest.{stateOf, oldestState, oldestIn}
+use Rattle.book_oldest.specs.Oldest.{stateOf, ownState, oldestState, oldestIn}
 use Rattle.path.specs.Read.{nameFault, fits, fitsKind, suits, suitsKind, partFaults, kindFaults, faultsAs, whyNot, readKind, readFirst, readPath, show, render, partsOf, renderPath, namesFault, renderOf, keyOf}
 use Rattle.book_records.specs.declared.Manner.{Manner}
 use Rattle.book_records.specs.declared.Manner.the-variants.{Plain, Lenient}
 use Rattle.book_records.specs.Calls.{keyFor, keyAnswer}
 
--- what is asked: to read a text, to check an identifier, for the oldest state of a client in a book with these keys, for the key of a text
+-- what is asked: to read a text, to check an identifier, for the oldest state of an owner's client in a book with these keys, for the key of a text
 -- in a call on a book, whether one text stands above another, or to render by kind, identifiers and numbers into that much room
 pub data Question : Type 0 where
   reading : List ℕ → Question
   checking : Rule → List ℕ → Question
-  seeking : List ℕ → List (List ℕ) → Question
+  seeking : ℕ → List ℕ → List (List ℕ) → Question
   keying : Manner → List ℕ → Question
   standing : List ℕ → List ℕ → Question
   rendering : ℕ → Carried (List ℕ) → ℕ → Question
@@ -51,7 +51,7 @@ pub data Outcome : Type 0 where
 abbrev pub answerOf : Question → Outcome
 answerOf (reading t) = gives (readPath t)
 answerOf (checking r s) = says (faultOf r s)
-answerOf (seeking c ks) = finds (oldestIn c (map (λ k. (k, [])) ks))
+answerOf (seeking o c ks) = finds (oldestIn o c (map (λ k. (k, [])) ks))
 answerOf (keying m t) = says (record { refusal = keyAnswer (keyFor m t) .refusal; place = 0 })
 answerOf (standing t u) = stands (startsWith (t ++ bytes "/") u) (readPath t) (readPath u)
 answerOf (rendering k v room) = writes (answer (renderOf k v) room)
@@ -70,8 +70,8 @@ check r s n = record { question = checking r s; outcome = says (record { refusal
 abbrev wrong : Rule → List ℕ → ℕ → ℕ → Case
 wrong r s n p = record { question = checking r s; outcome = says (record { refusal = n; place = p }) }
 
-abbrev seek : List ℕ → List (List ℕ) → Pair → Case
-seek c ks p = record { question = seeking c ks; outcome = finds p }
+abbrev seek : ℕ → List ℕ → List (List ℕ) → Pair → Case
+seek o c ks p = record { question = seeking o c ks; outcome = finds p }
 
 abbrev key : Manner → List ℕ → ℕ → Case
 key m t n = record { question = keying m t; outcome = says (record { refusal = n; place = 0 }) }
@@ -153,8 +153,13 @@ cases =
     ∷ read (bytes "x/18446744073709551615/upgradedClient") (Read (UpgradeClientState (record { upgrade = at 0 1; height = record { 0 = 18446744073709551615 } })) true)
     ∷ read (bytes "x/18446744073709551616/upgradedClient") (Refused (TooLarge 21))
     -- as text `10-2` comes before `7-2`, and `07-tendermint-4` begins `07-tendermint-40`
-    ∷ seek (bytes "07-tendermint-4") (bytes "clients/07-tendermint-4/consensusStates/10-2" ∷ bytes "clients/07-tendermint-4/consensusStates/7-2" ∷ []) (pair 0 7 2)
-    ∷ seek (bytes "07-tendermint-4") (bytes "clients/07-tendermint-40/consensusStates/7-2" ∷ []) (pair 12 0 0)
+    ∷ seek 1 (bytes "07-tendermint-4") ((1 ∷ bytes "clients/07-tendermint-4/consensusStates/10-2") ∷ (1 ∷ bytes "clients/07-tendermint-4/consensusStates/7-2") ∷ []) (pair 0 7 2)
+    ∷ seek 1 (bytes "07-tendermint-4") ((1 ∷ bytes "clients/07-tendermint-40/consensusStates/7-2") ∷ []) (pair 12 0 0)
+    -- of that owner's records alone; 23 stands before the client's check
+    ∷ seek 2 (bytes "07-tendermint-4") ((1 ∷ bytes "clients/07-tendermint-4/consensusStates/7-2") ∷ (2 ∷ bytes "clients/07-tendermint-4/consensusStates/10-2") ∷ []) (pair 0 10 2)
+    ∷ seek 2 (bytes "07-tendermint-4") ((1 ∷ bytes "clients/07-tendermint-4/consensusStates/7-2") ∷ []) (pair 12 0 0)
+    ∷ seek 3 (bytes "a b") [] (pair 23 0 0)
+    ∷ seek 2 (bytes "a b") [] (pair 5 0 0)
     -- 20 stands after 3 and before 10, in plain calls only
     ∷ key Plain (bytes "clients/07-tendermint-4/consensusStates/007-2") 20
     ∷ key Lenient (bytes "clients/07-tendermint-4/consensusStates/007-2") 0
@@ -198,5 +203,5 @@ cases =
     ∷ []
 
 pub cases-hold : map (λ c. answerOf (c .question)) cases ≡ map (λ c. c .outcome) cases
-unfolding numeralOf digitsAt digitsFrom decimal digits width widthBy every ascii startsWith same among identifierByte charsOf within indexOf namedOf checkOf faultOf cutAt joinBy placesFrom kinds nameFault fits fitsKind suits suitsKind partFaults kindFaults faultsAs whyNot readKind readFirst readPath show render partsOf renderPath shownOf stateOf oldestState oldestIn keyOf keyFor keyAnswer namesFault renderOf answer
+unfolding numeralOf digitsAt digitsFrom decimal digits width widthBy every ascii startsWith same among identifierByte charsOf within indexOf namedOf checkOf faultOf cutAt joinBy placesFrom kinds nameFault fits fitsKind suits suitsKind partFaults kindFaults faultsAs whyNot readKind readFirst readPath show render partsOf renderPath shownOf stateOf ownState oldestState oldestIn keyOf keyFor keyAnswer namesFault renderOf answer
 cases-hold = refl

@@ -39,14 +39,14 @@ use Rattle.book_key.specs.Field.{madeKey}
 use Rattle.iteration.specs.Block.{blockOf, firstAbove, lastBelow, scanned}
 use Rattle.iteration.specs.Key.{iterationKey, keyRevision, answered, pairOf}
 use Rattle.packet.specs.Key.{packetWanted, packetOf}
-use Rattle.demands.specs.Numbers.{readings, renderings, clients, ends, wideReadings, wideRenderings, wideClients, wideEnds, packetReads, packetWrites, writeNumbers, removeNumbers, lookNumbers, named, indexes, wideNamed, wideIndexes, names, wideNames, unread, room, keyNumbers}
+use Rattle.demands.specs.Numbers.{readings, renderings, clients, ends, wideReadings, wideRenderings, wideClients, wideEnds, packetReads, packetWrites, writeNumbers, removeNumbers, lookNumbers, newNumbers, convertNumbers, convertOwnersNumbers, oldestNumbers, fillNumbers, manyNumbers, named, indexes, wideNamed, wideIndexes, names, wideNames, unread, room, keyNumbers}
 use Rattle.demands.specs.Shape.{Listed, AllZero, Demand1}
 use Rattle.demands.specs.ShapeLaws.{writes, writes-number, checks, key-wants, reading-wants, render-wants, client-wants, channel-wants, leaf-wants, update-wants, parent-wants, packets-wants, plain-of, indexed-of, name-of, named-number, chars-number, length-number, prefix-number, named-index-number, bytes-wants, answer-listed}
 use Rattle.demands.specs.FunctionShapeLaws.{within-number, wide-chars-number, reading-number, shown-wants, written-listed, owned, key-listed, key-empty}
 use Rattle.demands.specs.WideShapeLaws as wides
 use Rattle.demands.specs.IterationLaws.{pairs, key-refuses, scan-refuses}
 use Rattle.demands.specs.PacketLaws.{packet-wants, packets}
-use Rattle.demands.specs.BookNumberLaws.{unread-of, in-plain, write-listed, remove-listed, provable-demand, made-demand, changed-demand, found-demand, converted-demand, oldest-demand}
+use Rattle.demands.specs.BookNumberLaws.{unread-of, in-plain, write-listed, remove-listed, provable-demand, made-demand, changed-demand, found-demand, converted-demand, owned-demand, oldest-demand}
 use Rattle.demands.specs.TableNumberLaws.{filled-demand, looked-many-demand}
 use Rattle.hostpath.proofs.hp_client_id_new.Reads as hp-client-id-new
 use Rattle.hostpath.proofs.hp_channel_id_new.Reads as hp-channel-id-new
@@ -110,6 +110,7 @@ use Rattle.hostpath.proofs.hp_book_lookup.Reads as hp-book-lookup
 use Rattle.hostpath.proofs.hp_book_lookup_lenient.Reads as hp-book-lookup-lenient
 use Rattle.hostpath.proofs.hp_book_oldest.Reads as hp-book-oldest
 use Rattle.hostpath.proofs.hp_book_convert.Reads as hp-book-convert
+use Rattle.hostpath.proofs.hp_book_convert_owners.Reads as hp-book-convert-owners
 use Rattle.hostpath.proofs.hp_book_fill.Reads as hp-book-fill
 use Rattle.hostpath.proofs.hp_book_lookup_many.Reads as hp-book-lookup-many
 use Rattle.hostpath.proofs.hp_refusal_text.Reads as hp-refusal-text
@@ -192,6 +193,7 @@ use Rattle.book.proofs.remove.Reads as book-remove
 use Rattle.book.proofs.lookup.Reads as book-lookup
 use Rattle.book_oldest.proofs.oldest.Reads as oldest
 use Rattle.book_convert.proofs.convert.Reads as convert
+use Rattle.book_convert.proofs.convert_owners.Reads as convert-owners
 use Rattle.book_table.proofs.many.fill.Reads as fill
 use Rattle.book_table.proofs.many.look_many.Reads as look-many
 
@@ -299,38 +301,41 @@ pub hp-is-provable-holds : Demand1 hp-is-provable.Pre hp-is-provable.Post (14 �
 hp-is-provable-holds = provable-demand (λ κs a. tt) (λ κs a. a .0) (λ κs r. r) (λ κs a r s p. p)
 
 -- ---- the book's calls; a lookup and `oldest` are lent the book only to be read, and so is the first of a conversion
-pub hp-book-new-holds : Demand1 hp-book-new.Pre hp-book-new.Post (9 ∷ []) (λ κs r. r) (λ κs r. []) (λ κs a. now (a .0)) (λ κs s. now (s .0))
-hp-book-new-holds = made-demand (λ κs a. tt) (λ κs r. r) (λ κs a. now (a .0)) (λ κs s. now (s .0)) (λ κs a r s p. p)
+pub hp-book-new-holds : Demand1 hp-book-new.Pre hp-book-new.Post newNumbers (λ κs r. r) (λ κs r. []) (λ κs a. now (a .0)) (λ κs s. now (s .0))
+hp-book-new-holds = made-demand (λ κs a. tt) (λ κs r. r) (λ κs a. now (a .0)) (λ κs s. now (s .0)) (λ κs a. a .1 .0) (λ κs a. a .1 .1 .0) (λ κs a r s p. p)
 
 pub hp-book-write-holds : Demand1 hp-book-write.Pre hp-book-write.Post (writeNumbers Plain) (λ κs r. r) (λ κs r. []) (λ κs a. now (a .0)) (λ κs s. now (s .0))
-hp-book-write-holds = changed-demand (λ κs a. tt) (λ κs r. r) (λ κs a. now (a .0)) (λ κs s. now (s .0)) (writeNumbers Plain) (λ κs a. write Plain (now (a .1 .0)) (now (a .1 .1 .0))) (λ κs a b x b₁ o. write-listed Plain _ _ o) (λ κs a r s p. p)
+hp-book-write-holds = changed-demand (λ κs a. tt) (λ κs r. r) (λ κs a. now (a .0)) (λ κs s. now (s .0)) (writeNumbers Plain) (λ κs a. write Plain (a .1 .0) (now (a .1 .1 .0)) (now (a .1 .1 .1 .0))) (λ κs a b x b₁ o. write-listed Plain _ _ _ o) (λ κs a r s p. p)
 
 pub hp-book-remove-holds : Demand1 hp-book-remove.Pre hp-book-remove.Post (removeNumbers Plain) (λ κs r. r) (λ κs r. []) (λ κs a. now (a .0)) (λ κs s. now (s .0))
-hp-book-remove-holds = changed-demand (λ κs a. tt) (λ κs r. r) (λ κs a. now (a .0)) (λ κs s. now (s .0)) (removeNumbers Plain) (λ κs a. remove Plain (now (a .1 .0))) (λ κs a b x b₁ o. remove-listed Plain _ o) (λ κs a r s p. p)
+hp-book-remove-holds = changed-demand (λ κs a. tt) (λ κs r. r) (λ κs a. now (a .0)) (λ κs s. now (s .0)) (removeNumbers Plain) (λ κs a. remove Plain (a .1 .0) (now (a .1 .1 .0))) (λ κs a b x b₁ o. remove-listed Plain _ _ o) (λ κs a r s p. p)
 
-pub hp-book-lookup-holds : Demand1 hp-book-lookup.Pre hp-book-lookup.Post (lookNumbers Plain) (λ κs r. r .refusal) (λ κs r. r .length ∷ []) (λ κs a. now (a .1 .1 .0)) (λ κs s. now (s .1 .1 .0))
-hp-book-lookup-holds = found-demand (λ κs a. tt) (lookNumbers Plain) (λ κs a. Plain) (λ κs a n h. h) (λ κs r. r) (λ κs a. now (a .0)) (λ κs a. now (a .1 .0)) (λ κs a. now (a .1 .1 .0)) (λ κs s. now (s .1 .1 .0)) (λ κs a r s p. p)
+pub hp-book-lookup-holds : Demand1 hp-book-lookup.Pre hp-book-lookup.Post (lookNumbers Plain) (λ κs r. r .refusal) (λ κs r. r .length ∷ []) (λ κs a. now (a .1 .1 .1 .0)) (λ κs s. now (s .1 .1 .1 .0))
+hp-book-lookup-holds = found-demand (λ κs a. tt) (lookNumbers Plain) (λ κs a. Plain) (λ κs a n h. h) (λ κs r. r) (λ κs a. now (a .0)) (λ κs a. a .1 .0) (λ κs a. now (a .1 .1 .0)) (λ κs a. now (a .1 .1 .1 .0)) (λ κs s. now (s .1 .1 .1 .0)) (λ κs a r s p. p)
 
 pub hp-book-write-lenient-holds : Demand1 hp-book-write-lenient.Pre hp-book-write-lenient.Post (writeNumbers Lenient) (λ κs r. r) (λ κs r. []) (λ κs a. now (a .0)) (λ κs s. now (s .0))
-hp-book-write-lenient-holds = changed-demand (λ κs a. tt) (λ κs r. r) (λ κs a. now (a .0)) (λ κs s. now (s .0)) (writeNumbers Lenient) (λ κs a. write Lenient (now (a .1 .0)) (now (a .1 .1 .0))) (λ κs a b x b₁ o. write-listed Lenient _ _ o) (λ κs a r s p. p)
+hp-book-write-lenient-holds = changed-demand (λ κs a. tt) (λ κs r. r) (λ κs a. now (a .0)) (λ κs s. now (s .0)) (writeNumbers Lenient) (λ κs a. write Lenient (a .1 .0) (now (a .1 .1 .0)) (now (a .1 .1 .1 .0))) (λ κs a b x b₁ o. write-listed Lenient _ _ _ o) (λ κs a r s p. p)
 
 pub hp-book-remove-lenient-holds : Demand1 hp-book-remove-lenient.Pre hp-book-remove-lenient.Post (removeNumbers Lenient) (λ κs r. r) (λ κs r. []) (λ κs a. now (a .0)) (λ κs s. now (s .0))
-hp-book-remove-lenient-holds = changed-demand (λ κs a. tt) (λ κs r. r) (λ κs a. now (a .0)) (λ κs s. now (s .0)) (removeNumbers Lenient) (λ κs a. remove Lenient (now (a .1 .0))) (λ κs a b x b₁ o. remove-listed Lenient _ o) (λ κs a r s p. p)
+hp-book-remove-lenient-holds = changed-demand (λ κs a. tt) (λ κs r. r) (λ κs a. now (a .0)) (λ κs s. now (s .0)) (removeNumbers Lenient) (λ κs a. remove Lenient (a .1 .0) (now (a .1 .1 .0))) (λ κs a b x b₁ o. remove-listed Lenient _ _ o) (λ κs a r s p. p)
 
-pub hp-book-lookup-lenient-holds : Demand1 hp-book-lookup-lenient.Pre hp-book-lookup-lenient.Post (lookNumbers Lenient) (λ κs r. r .refusal) (λ κs r. r .length ∷ []) (λ κs a. now (a .1 .1 .0)) (λ κs s. now (s .1 .1 .0))
-hp-book-lookup-lenient-holds = found-demand (λ κs a. tt) (lookNumbers Lenient) (λ κs a. Lenient) (λ κs a n h. h) (λ κs r. r) (λ κs a. now (a .0)) (λ κs a. now (a .1 .0)) (λ κs a. now (a .1 .1 .0)) (λ κs s. now (s .1 .1 .0)) (λ κs a r s p. p)
+pub hp-book-lookup-lenient-holds : Demand1 hp-book-lookup-lenient.Pre hp-book-lookup-lenient.Post (lookNumbers Lenient) (λ κs r. r .refusal) (λ κs r. r .length ∷ []) (λ κs a. now (a .1 .1 .1 .0)) (λ κs s. now (s .1 .1 .1 .0))
+hp-book-lookup-lenient-holds = found-demand (λ κs a. tt) (lookNumbers Lenient) (λ κs a. Lenient) (λ κs a n h. h) (λ κs r. r) (λ κs a. now (a .0)) (λ κs a. a .1 .0) (λ κs a. now (a .1 .1 .0)) (λ κs a. now (a .1 .1 .1 .0)) (λ κs s. now (s .1 .1 .1 .0)) (λ κs a r s p. p)
 
-pub hp-book-convert-holds : Demand1 hp-book-convert.Pre hp-book-convert.Post (9 ∷ 4 ∷ []) (λ κs r. r) (λ κs r. []) (λ κs a. now (a .1 .0)) (λ κs s. now (s .1 .0))
+pub hp-book-convert-holds : Demand1 hp-book-convert.Pre hp-book-convert.Post convertNumbers (λ κs r. r) (λ κs r. []) (λ κs a. now (a .1 .0)) (λ κs s. now (s .1 .0))
 hp-book-convert-holds = converted-demand (λ κs a. tt) (λ κs r. r) (λ κs a. now (a .1 .0)) (λ κs s. now (s .1 .0)) (λ κs a. now (a .0)) (λ κs a r s p. p)
 
-pub hp-book-oldest-holds : Demand1 hp-book-oldest.Pre hp-book-oldest.Post (9 ∷ 2 ∷ 5 ∷ 6 ∷ 12 ∷ []) (λ κs r. r .refusal) (λ κs r. r .number ∷ r .height ∷ []) (λ κs a. []) (λ κs s. [])
-hp-book-oldest-holds = oldest-demand (λ κs a. tt) (λ κs r. r) (λ κs a. now (a .0)) (λ κs a. now (a .1 .0)) (λ κs a r s p. p)
+pub hp-book-convert-owners-holds : Demand1 hp-book-convert-owners.Pre hp-book-convert-owners.Post convertOwnersNumbers (λ κs r. r) (λ κs r. []) (λ κs a. now (a .1 .0)) (λ κs s. now (s .1 .0))
+hp-book-convert-owners-holds = owned-demand (λ κs a. tt) (λ κs r. r) (λ κs a. now (a .1 .0)) (λ κs s. now (s .1 .0)) (λ κs a. now (a .0)) (λ κs a. a .1 .1 .0) (λ κs a. a .1 .1 .1 .0) (λ κs a r s p. p)
 
-pub hp-book-fill-holds : Demand1 hp-book-fill.Pre hp-book-fill.Post (9 ∷ 4 ∷ []) (λ κs r. r) (λ κs r. []) (λ κs a. now (a .1 .0)) (λ κs s. now (s .1 .0))
+pub hp-book-oldest-holds : Demand1 hp-book-oldest.Pre hp-book-oldest.Post oldestNumbers (λ κs r. r .refusal) (λ κs r. r .number ∷ r .height ∷ []) (λ κs a. []) (λ κs s. [])
+hp-book-oldest-holds = oldest-demand (λ κs a. tt) (λ κs r. r) (λ κs a. now (a .0)) (λ κs a. a .1 .0) (λ κs a. now (a .1 .1 .0)) (λ κs a r s p. p)
+
+pub hp-book-fill-holds : Demand1 hp-book-fill.Pre hp-book-fill.Post fillNumbers (λ κs r. r) (λ κs r. []) (λ κs a. now (a .1 .0)) (λ κs s. now (s .1 .0))
 hp-book-fill-holds = filled-demand (λ κs a. tt) (λ κs r. r) (λ κs a. now (a .0)) (λ κs a. now (a .1 .0)) (λ κs s. now (s .1 .0)) (λ κs a r s p. p)
 
-pub hp-book-lookup-many-holds : Demand1 hp-book-lookup-many.Pre hp-book-lookup-many.Post (9 ∷ 22 ∷ 4 ∷ []) (λ κs r. r .refusal) (λ κs r. r .length ∷ []) (λ κs a. now (a .1 .1 .1 .0)) (λ κs s. now (s .1 .1 .1 .0))
-hp-book-lookup-many-holds = looked-many-demand (λ κs a. tt) (λ κs r. r) (λ κs a. now (a .0)) (λ κs a. now (a .1 .0)) (λ κs a. now (a .1 .1 .0)) (λ κs a. now (a .1 .1 .1 .0)) (λ κs s. now (s .1 .1 .1 .0)) (λ κs a r s p. p)
+pub hp-book-lookup-many-holds : Demand1 hp-book-lookup-many.Pre hp-book-lookup-many.Post manyNumbers (λ κs r. r .refusal) (λ κs r. r .length ∷ []) (λ κs a. now (a .1 .1 .1 .1 .0)) (λ κs s. now (s .1 .1 .1 .1 .0))
+hp-book-lookup-many-holds = looked-many-demand (λ κs a. tt) (λ κs r. r) (λ κs a. now (a .0)) (λ κs a. a .1 .0) (λ κs a. now (a .1 .1 .0)) (λ κs a. now (a .1 .1 .1 .0)) (λ κs a. now (a .1 .1 .1 .1 .0)) (λ κs s. now (s .1 .1 .1 .1 .0)) (λ κs a r s p. p)
 
 pub hp-refusal-text-holds : Demand1 hp-refusal-text.Pre hp-refusal-text.Post room (λ κs r. r .refusal) (λ κs r. r .length ∷ []) (λ κs a. now (a .1 .0)) (λ κs s. now (s .1 .0))
 hp-refusal-text-holds = writes room _ _ (λ κs a. tt) (λ κs r. r) (λ κs a. text (sentence (a .0))) refl refl (λ κs a. tt) (λ κs a r s p. p)
@@ -652,26 +657,29 @@ unfolding answerBy
 write-answer-holds = writes-number readings _ _ (λ κs a. tt) (λ κs r. r .refusal) (λ κs a. bytesBy (a .0)) refl refl (λ κs a. bytes-wants (a .0)) (λ κs a r s p. (ap (λ (f : Fault). f .refusal) (p .0), p .1))
 
 -- ---- the book's functions; the manner of a write, a removal and a lookup is an argument
-pub new-book-holds : Demand1 new-book.Pre new-book.Post (9 ∷ []) (λ κs r. r) (λ κs r. []) (λ κs a. now (a .0)) (λ κs s. now (s .0))
-new-book-holds = made-demand (λ κs a. tt) (λ κs r. r) (λ κs a. now (a .0)) (λ κs s. now (s .0)) (λ κs a r s p. p)
+pub new-book-holds : Demand1 new-book.Pre new-book.Post newNumbers (λ κs r. r) (λ κs r. []) (λ κs a. now (a .0)) (λ κs s. now (s .0))
+new-book-holds = made-demand (λ κs a. tt) (λ κs r. r) (λ κs a. now (a .0)) (λ κs s. now (s .0)) (λ κs a. a .1 .0) (λ κs a. a .1 .1 .0) (λ κs a r s p. p)
 
 pub book-write-holds : Demand1 book-write.Pre book-write.Post (writeNumbers Plain) (λ κs r. r) (λ κs r. []) (λ κs a. now (a .1 .0)) (λ κs s. now (s .1 .0))
-book-write-holds = changed-demand (λ κs a. tt) (λ κs r. r) (λ κs a. now (a .1 .0)) (λ κs s. now (s .1 .0)) (writeNumbers Plain) (λ κs a. write (a .0) (now (a .1 .1 .0)) (now (a .1 .1 .1 .0))) (λ κs a b x b₁ o. in-plain (a .0) _ _ (write-listed (a .0) _ _ o)) (λ κs a r s p. p)
+book-write-holds = changed-demand (λ κs a. tt) (λ κs r. r) (λ κs a. now (a .1 .0)) (λ κs s. now (s .1 .0)) (writeNumbers Plain) (λ κs a. write (a .0) (a .1 .1 .0) (now (a .1 .1 .1 .0)) (now (a .1 .1 .1 .1 .0))) (λ κs a b x b₁ o. in-plain (a .0) _ _ (write-listed (a .0) _ _ _ o)) (λ κs a r s p. p)
 
 pub book-remove-holds : Demand1 book-remove.Pre book-remove.Post (removeNumbers Plain) (λ κs r. r) (λ κs r. []) (λ κs a. now (a .1 .0)) (λ κs s. now (s .1 .0))
-book-remove-holds = changed-demand (λ κs a. tt) (λ κs r. r) (λ κs a. now (a .1 .0)) (λ κs s. now (s .1 .0)) (removeNumbers Plain) (λ κs a. remove (a .0) (now (a .1 .1 .0))) (λ κs a b x b₁ o. in-plain (a .0) _ _ (remove-listed (a .0) _ o)) (λ κs a r s p. p)
+book-remove-holds = changed-demand (λ κs a. tt) (λ κs r. r) (λ κs a. now (a .1 .0)) (λ κs s. now (s .1 .0)) (removeNumbers Plain) (λ κs a. remove (a .0) (a .1 .1 .0) (now (a .1 .1 .1 .0))) (λ κs a b x b₁ o. in-plain (a .0) _ _ (remove-listed (a .0) _ _ o)) (λ κs a r s p. p)
 
-pub book-lookup-holds : Demand1 book-lookup.Pre book-lookup.Post (lookNumbers Plain) (λ κs r. r .refusal) (λ κs r. r .length ∷ []) (λ κs a. now (a .1 .1 .1 .0)) (λ κs s. now (s .1 .1 .1 .0))
-book-lookup-holds = found-demand (λ κs a. tt) (lookNumbers Plain) (λ κs a. a .0) (λ κs a n h. in-plain (a .0) _ _ h) (λ κs r. r) (λ κs a. now (a .1 .0)) (λ κs a. now (a .1 .1 .0)) (λ κs a. now (a .1 .1 .1 .0)) (λ κs s. now (s .1 .1 .1 .0)) (λ κs a r s p. p)
+pub book-lookup-holds : Demand1 book-lookup.Pre book-lookup.Post (lookNumbers Plain) (λ κs r. r .refusal) (λ κs r. r .length ∷ []) (λ κs a. now (a .1 .1 .1 .1 .0)) (λ κs s. now (s .1 .1 .1 .1 .0))
+book-lookup-holds = found-demand (λ κs a. tt) (lookNumbers Plain) (λ κs a. a .0) (λ κs a n h. in-plain (a .0) _ _ h) (λ κs r. r) (λ κs a. now (a .1 .0)) (λ κs a. a .1 .1 .0) (λ κs a. now (a .1 .1 .1 .0)) (λ κs a. now (a .1 .1 .1 .1 .0)) (λ κs s. now (s .1 .1 .1 .1 .0)) (λ κs a r s p. p)
 
-pub oldest-holds : Demand1 oldest.Pre oldest.Post (9 ∷ 2 ∷ 5 ∷ 6 ∷ 12 ∷ []) (λ κs r. r .refusal) (λ κs r. r .number ∷ r .height ∷ []) (λ κs a. []) (λ κs s. [])
-oldest-holds = oldest-demand (λ κs a. tt) (λ κs r. r) (λ κs a. now (a .0)) (λ κs a. now (a .1 .0)) (λ κs a r s p. p)
+pub oldest-holds : Demand1 oldest.Pre oldest.Post oldestNumbers (λ κs r. r .refusal) (λ κs r. r .number ∷ r .height ∷ []) (λ κs a. []) (λ κs s. [])
+oldest-holds = oldest-demand (λ κs a. tt) (λ κs r. r) (λ κs a. now (a .0)) (λ κs a. a .1 .0) (λ κs a. now (a .1 .1 .0)) (λ κs a r s p. p)
 
-pub convert-holds : Demand1 convert.Pre convert.Post (9 ∷ 4 ∷ []) (λ κs r. r) (λ κs r. []) (λ κs a. now (a .1 .0)) (λ κs s. now (s .1 .0))
+pub convert-holds : Demand1 convert.Pre convert.Post convertNumbers (λ κs r. r) (λ κs r. []) (λ κs a. now (a .1 .0)) (λ κs s. now (s .1 .0))
 convert-holds = converted-demand (λ κs a. tt) (λ κs r. r) (λ κs a. now (a .1 .0)) (λ κs s. now (s .1 .0)) (λ κs a. now (a .0)) (λ κs a r s p. p)
 
-pub fill-holds : Demand1 fill.Pre fill.Post (9 ∷ 4 ∷ []) (λ κs r. r) (λ κs r. []) (λ κs a. now (a .1 .0)) (λ κs s. now (s .1 .0))
+pub convert-owners-holds : Demand1 convert-owners.Pre convert-owners.Post convertOwnersNumbers (λ κs r. r) (λ κs r. []) (λ κs a. now (a .1 .0)) (λ κs s. now (s .1 .0))
+convert-owners-holds = owned-demand (λ κs a. tt) (λ κs r. r) (λ κs a. now (a .1 .0)) (λ κs s. now (s .1 .0)) (λ κs a. now (a .0)) (λ κs a. a .1 .1 .0) (λ κs a. a .1 .1 .1 .0) (λ κs a r s p. p)
+
+pub fill-holds : Demand1 fill.Pre fill.Post fillNumbers (λ κs r. r) (λ κs r. []) (λ κs a. now (a .1 .0)) (λ κs s. now (s .1 .0))
 fill-holds = filled-demand (λ κs a. tt) (λ κs r. r) (λ κs a. now (a .0)) (λ κs a. now (a .1 .0)) (λ κs s. now (s .1 .0)) (λ κs a r s p. p)
 
-pub look-many-holds : Demand1 look-many.Pre look-many.Post (9 ∷ 22 ∷ 4 ∷ []) (λ κs r. r .refusal) (λ κs r. r .length ∷ []) (λ κs a. now (a .1 .1 .1 .0)) (λ κs s. now (s .1 .1 .1 .0))
-look-many-holds = looked-many-demand (λ κs a. tt) (λ κs r. r) (λ κs a. now (a .0)) (λ κs a. now (a .1 .0)) (λ κs a. now (a .1 .1 .0)) (λ κs a. now (a .1 .1 .1 .0)) (λ κs s. now (s .1 .1 .1 .0)) (λ κs a r s p. p)
+pub look-many-holds : Demand1 look-many.Pre look-many.Post manyNumbers (λ κs r. r .refusal) (λ κs r. r .length ∷ []) (λ κs a. now (a .1 .1 .1 .1 .0)) (λ κs s. now (s .1 .1 .1 .1 .0))
+look-many-holds = looked-many-demand (λ κs a. tt) (λ κs r. r) (λ κs a. now (a .0)) (λ κs a. a .1 .0) (λ κs a. now (a .1 .1 .0)) (λ κs a. now (a .1 .1 .1 .0)) (λ κs a. now (a .1 .1 .1 .1 .0)) (λ κs s. now (s .1 .1 .1 .1 .0)) (λ κs a r s p. p)

@@ -14,7 +14,6 @@ use Rattle.book_records.specs.Records.{Key}
 use Rattle.book_records.specs.Act.{Seen}
 use Rattle.book_records.specs.Refusals.{GoodLookup}
 use Rattle.book_records.specs.Calls.{Call, PathOf, SamePath}
-use Rattle.book.specs.Book.{Book}
 use Rattle.demands.specs.Held.{Room, Holds, Looks, Accepted, leaves, ProperBook}
 use Rattle.demands.specs.Refusals.{Refused}
 

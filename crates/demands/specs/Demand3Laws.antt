@@ -17,7 +17,7 @@ use Rattle.book_records.specs.Records.{Key, get, put, del}
 use Rattle.book_records.specs.Act.{Rec, Meaning, addTo, takeFrom, lookIn, act, Seen, seen}
 use Rattle.book_records.specs.ActLaws.{keyMeant, ansOf}
 use Rattle.book_records.specs.Calls.{Call, meaning, PathOf, SamePath}
-use Rattle.book.specs.Book.{Book, bytesWith, fullIn, acts}
+use Rattle.book.specs.Book.{bytesWith, fullIn, acts}
 use Rattle.demands.specs.Held.{Holds, Looks, leaves, ProperBook}
 use Rattle.demands.specs.Permitted.{Permitted}
 use Rattle.book_records.specs.CallLaws.{Means, declines, writing, removing, looking, means, declined-not}

@@ -11,6 +11,7 @@ use Rattle.book_records.specs.Records.{Key}
 use Rattle.book_records.specs.Act.{Seen}
 use Rattle.book_records.specs.Calls.{Call, PathOf}
 use Rattle.book_records.specs.Refusals.{GoodWrite, GoodRemoval, GoodLookup}
+use Rattle.book.specs.Book.{quotaIn}
 use Rattle.demands.specs.Held.{Updates, Accepted, leaves, Looks, ProperBook, Full, Holds}
 use Rattle.demands.specs.Refusals.{Refused}
 
@@ -23,7 +24,7 @@ pub data Served (b : List ℕ) (c : Call) : Type 0 where
 
 -- of one call: its answer, and the bytes that it leaves
 pub record Says (b : List ℕ) (c : Call) (a : Seen) (b₁ : List ℕ) : Type 0 where
-  -- each refusal exactly when: 9 on what is no book, and the others by their rows
+  -- each refusal exactly when: 9 on what is no book, 23 where the owner is neither 1 nor 2, and the others by their rows
   pub refused-exactly : (n : ℕ) → (n ≡ 0 → ⊥) → (a .number ≡ n) ↔ Refused b c n
   -- 0 exactly when nothing refuses it
   pub served-exactly : (a .number ≡ 0) ↔ Served b c
@@ -32,6 +33,8 @@ pub record Says (b : List ℕ) (c : Call) (a : Seen) (b₁ : List ℕ) : Type 0 
   -- a book stays a book, and the bytes as many as they were
   pub stays-a-book : ProperBook b → ProperBook b₁
   pub same-size : length b₁ ≡ length b
+  -- with the quotas that it had
+  pub same-quotas : (x : ProperBook b) (y : ProperBook b₁) (o : ℕ) → quotaIn y o ≡ quotaIn x o
   -- after an accepted write its path holds the value, after an accepted removal nothing
   pub left : Accepted c a → (k : Key) → PathOf c k → Holds b₁ k (leaves c)
   -- every other path holds what it held

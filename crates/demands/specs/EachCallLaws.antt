@@ -13,7 +13,8 @@ use Rattle.book_records.specs.RecordLaws.{get-put-same, get-put-other, get-del-
 use Rattle.book_records.specs.Act.{Meaning, Answer, addTo, takeFrom, lookIn, act, Seen, seen}
 use Rattle.book_records.specs.Calls.{Asked, to-write, to-remove, to-look, Call, meaning, PathOf}
 use Rattle.book_records.specs.CallLaws.{Means, declines, writing, removing, looking, means, writing-means, removing-means, looking-means, declined-not, one-path}
-use Rattle.book.specs.Book.{Current, fullIn, acts}
+use Rattle.book.specs.Book.{Current, quotaIn, fullIn, acts}
+use Rattle.book.specs.BookLaws.{lawful, one-book}
 use Rattle.book.specs.Outcome.{Outcome, no-book, this-book}
 use Rattle.demands.specs.Held.{Updates, leftBy, leaves, IsLook, ProperBook, Holds}
 use Rattle.demands.specs.HeldLaws.{is-full, full-is}
@@ -153,6 +154,12 @@ module _ (b : List ℕ) (c : Call) (a : Seen) (b₁ : List ℕ) (p : Permitted b
       go (no-book n f g) = ap length g
       go (this-book x f g) = ap length g ∙ size-of x (acts x (meaning c) .1) (good-after x)
 
+  same-quotas : (x : ProperBook b) (y : ProperBook b₁) (o : ℕ) → quotaIn y o ≡ quotaIn x o
+  unfolding book-of
+  same-quotas x y o =
+      let z : ProperBook b₁ = book-of x b₁ (acts x (meaning c) .1) (good-after x) (permitted-book b c a b₁ x p .1) in
+      ap (λ (e : Current .Extra). Current .quota e 0 o) (one-book Current lawful b₁ y z .1)
+
   pub says : Says b c a b₁
   says =
       record {
@@ -161,6 +168,7 @@ module _ (b : List ℕ) (c : Call) (a : Seen) (b₁ : List ℕ) (p : Permitted b
         refusal-keeps = keeps-to b c a b₁ (c .asked) p;
         stays-a-book = keeps-book b c a b₁ p;
         same-size = size;
+        same-quotas = same-quotas;
         left = λ u k h. let x = on-a-book (u .1) in holds-after x k (leaves c) (left-of x (means c) (u .0) (sym (number-is x) ∙ u .1) k h);
         others-keep = λ k n o h. holds-after (h .book) k o (kept-of (h .book) (means c) k n ∙ h .is);
         lookup-gives = λ l e. let x = on-a-book e in look-gives x (means c) l a (permitted-book b c a b₁ x p .0) e;

@@ -2,14 +2,15 @@
 -- Assumes nothing.
 use Prim.Native.Nat.{ℕ, _-_, _≤_}
 use mathlib.Core.Path.{_≡_}
+use mathlib.Core.Bool.{cond, _&&_}
 use mathlib.Core.List.{List}
 use mathlib.Core.Option.{Option, none, some}
-use lib.ListN.{length}
+use lib.Dec.{eqb}
 use Rattle.book_records.specs.Records.{Key, get}
-use Rattle.book_records.specs.Act.{Seen}
-use Rattle.book_records.specs.Calls.{Asked, to-write, to-remove, to-look, Call}
+use Rattle.book_records.specs.Act.{Seen, countBy}
+use Rattle.book_records.specs.Calls.{Asked, to-write, to-remove, to-look, Call, isOwner, ownerOf}
 use Rattle.runs.specs.Total.{total}
-use Rattle.book.specs.Book.{Current, Book}
+use Rattle.book.specs.Book.{Current, Book, quotaIn}
 
 -- ---- what demand 3 counts
 -- 1 for a write, refused or not
@@ -21,8 +22,12 @@ asWrite (to-look room) = 0
 abbrev pub isWrite : Call → ℕ
 isWrite c = asWrite (c .asked)
 
-abbrev pub writesIn : List Call → ℕ
-writesIn cs = total isWrite cs
+-- a write of the owner o's; one that is refused with 23 is nobody's
+abbrev pub ownWrite : ℕ → Call → ℕ
+ownWrite o c = cond (isOwner o && eqb (c .owner) o) (isWrite c) 0
+
+abbrev pub writesIn : ℕ → List Call → ℕ
+writesIn o cs = total (ownWrite o) cs
 
 -- an accepted write or removal
 abbrev pub Updates : Asked → Type 0
@@ -56,17 +61,20 @@ Looks c = IsLook (c .asked)
 abbrev pub ProperBook : List ℕ → Type 0
 ProperBook b = Book Current b
 
--- no new key k: the count equals the number of slots
+-- the records of an owner, and those that its quota leaves free
+abbrev pub count : {b : List ℕ} → ProperBook b → ℕ → ℕ
+count x o = countBy ownerOf o (x .records)
+
+abbrev pub free : {b : List ℕ} → ProperBook b → ℕ → ℕ
+free x o = quotaIn x o - count x o
+
+-- no new key k: its owner's count equals its owner's quota
 abbrev pub Full : {b : List ℕ} → ProperBook b → Key → Type 0
-Full x k = length (x .records) ≡ x .slots
+Full x k = count x (ownerOf k) ≡ quotaIn x (ownerOf k)
 
--- the slots of a book that are free
-abbrev pub free : {b : List ℕ} → ProperBook b → ℕ
-free x = x .slots - length (x .records)
-
--- the book has at least as many free slots as the list has writes
+-- each owner has at least as many slots free in its quota as the list has writes of its own
 abbrev pub Room : {b : List ℕ} → ProperBook b → List Call → Type 0
-Room x cs = writesIn cs ≤ free x
+Room x cs = (o : ℕ) → writesIn o cs ≤ free x o
 
 -- the bytes are a book in which the path k holds this, or nothing
 pub record Holds (b : List ℕ) (k : Key) (held : Option (List ℕ)) : Type 0 where

@@ -1,6 +1,6 @@
 -- Laws of `Book`: the bytes tell the book, a call has one outcome, and a book stays a book.
 -- Assumes nothing.
-use Prim.Native.Nat.{ℕ, _≤_}
+use Prim.Native.Nat.{ℕ}
 use mathlib.Core.Path.{_≡_, refl, sym, ap, _∙_}
 use mathlib.Core.Bool.{Bool, true, false}
 use mathlib.Core.List.{List, [], _∷_}
@@ -9,19 +9,16 @@ use native.Mathlib.Omega.{arith}
 use lib.ListN.{length}
 use borrow.Author.Tests.{eqb-true, eq-eqb}
 use Rattle.text.specs.Order.{by, cmp}
-use Rattle.text.specs.Put.{text}
-use Rattle.path.specs.Read.{keyOf}
-use Rattle.path.specs.BackLaws.{key-exact}
-use Rattle.book_form.specs.Form.{AllFit}
-use Rattle.book_form.specs.FormLaws.{length-layout}
+use Rattle.book_form.specs.Form.{AllFit, AllExact, Within}
+use Rattle.book_form.specs.FormLaws.{few, length-layout}
 use Rattle.book_records.specs.Records.{Key, get, put, del}
 use Rattle.text.specs.OrderLaws.{Keys, key-lt, key-eq, key-gt, keys}
 use Rattle.book_records.specs.Act.{Rec, Meaning, refuses, writes, removes, looks, addTo, takeFrom, lookIn, act}
-use Rattle.book_records.specs.Calls.{Call, meaning}
-use Rattle.book.specs.Book.{Current, AllExact, bytesWith, fullIn}
+use Rattle.book_records.specs.Calls.{Call, ownerOf, Owned, meaning}
+use Rattle.book.specs.Book.{Current, quotaIn, bytesWith, fullIn}
 use Rattle.book.specs.BookLaws.{lawful, size-is, one-book}
-use Rattle.demands.specs.Held.{Full, Holds, ProperBook}
-use Rattle.book_records.specs.CallLaws.{Means, declines, writing, removing, looking, means}
+use Rattle.demands.specs.Held.{count, Full, Holds, ProperBook}
+use Rattle.book_records.specs.CallLaws.{Means, declines, writing, removing, looking, means, path-owned}
 
 -- ---- facts of every record, kept by each call
 module _ (All : List Rec → Type 0) (P : Rec → Type 0) (nil : All []) (cons : (r : Rec) (s : List Rec) → P r → All s → All (r ∷ s))
@@ -66,32 +63,32 @@ module _ (All : List Rec → Type 0) (P : Rec → Type 0) (nil : All []) (cons :
       go none = h
       go (some u) = h
 
--- what a call writes fits, and its key is exact
-wrote-by : {c : Call} {m : Meaning} → Means c m → (k : Key) (v : List ℕ) → m ≡ writes k v → Current .Fit (k, v) × (keyOf k ≡ text k)
+-- what a call writes fits, and its key is an owner's
+wrote-by : {c : Call} {m : Meaning} → Means c m → (k : Key) (v : List ℕ) → m ≡ writes k v → Current .Fit (k, v) × Owned k
 wrote-by (declines d) k v e = let z : _≡_ {A = ℕ} 0 1 = cc in absurd (omega arith)
 wrote-by {c} (writing {k = j} {v = w} ok) k v e =
     let p : j ≡ k = cc in
     let q : w ≡ v = cc in
-    rw (← p, ← q) (((ok .key .fits, ok .size), key-exact (c .text) j (ok .key .path) .2))
+    rw (← p, ← q) (((omega (arith, ap length (ok .key .path .is)), ok .key .fits, ok .size), path-owned c j (ok .key .path)))
 wrote-by (removing ok) k v e = let z : _≡_ {A = ℕ} 0 1 = cc in absurd (omega arith)
 wrote-by (looking ok) k v e = let z : _≡_ {A = ℕ} 0 1 = cc in absurd (omega arith)
 
 pub fit-act : (full : Key → List Rec → Bool) (s : List Rec) (c : Call) → AllFit Current s → AllFit Current (act full (meaning c) s .1)
 fit-act full s c h = all-act (AllFit Current) (Current .Fit) tt (λ r s p q. (p, q)) (λ r s q. q .0) (λ r s q. q .1) full s (meaning c) (λ k v e. wrote-by (means c) k v e .0) h
 
-pub exact-act : (full : Key → List Rec → Bool) (s : List Rec) (c : Call) → AllExact s → AllExact (act full (meaning c) s .1)
-exact-act full s c h = all-act AllExact (λ r. keyOf (r .0) ≡ text (r .0)) tt (λ r s p q. (p, q)) (λ r s q. q .0) (λ r s q. q .1) full s (meaning c) (λ k v e. wrote-by (means c) k v e .1) h
+pub exact-act : (full : Key → List Rec → Bool) (s : List Rec) (c : Call) → AllExact Current s → AllExact Current (act full (meaning c) s .1)
+exact-act full s c h = all-act (AllExact Current) (λ r. Owned (r .0)) tt (λ r s p q. (p, q)) (λ r s q. q .0) (λ r s q. q .1) full s (meaning c) (λ k v e. wrote-by (means c) k v e .1) h
 
 -- the test of FULL
 pub is-full : {b : List ℕ} (x : ProperBook b) (k : Key) → fullIn x k (x .records) ≡ true → Full x k
-is-full x k e = eqb-true (length (x .records)) (x .slots) e
+is-full x k e = eqb-true (count x (ownerOf k)) (quotaIn x (ownerOf k)) e
 
 pub full-is : {b : List ℕ} (x : ProperBook b) (k : Key) → Full x k → fullIn x k (x .records) ≡ true
-full-is x k e = eq-eqb (length (x .records)) (x .slots) e
+full-is x k e = eq-eqb (count x (ownerOf k)) (quotaIn x (ownerOf k)) e
 
 -- the size of a book with other records in it
-pub length-with : {b : List ℕ} (x : ProperBook b) (s : List Rec) → AllFit Current s → length s ≤ x .slots → length (bytesWith x s) ≡ length b
-length-with x s f h = length-layout Current lawful (x .slots) (x .extra) s f h ∙ sym (size-is Current lawful _ x)
+pub length-with : {b : List ℕ} (x : ProperBook b) (s : List Rec) → AllFit Current s → AllExact Current s → Within Current (x .slots) (x .extra) s → length (bytesWith x s) ≡ length b
+length-with x s f e w = length-layout Current lawful (x .slots) (x .extra) s f (few Current lawful (x .slots) (x .extra) s e (x .quotas) w) ∙ sym (size-is Current lawful _ x)
 
 -- what a path holds in a book
 pub holds-in : {b : List ℕ} {k : Key} {o : Option (List ℕ)} → Holds b k o → (x : ProperBook b) → get (x .records) k ≡ o
@@ -99,7 +96,7 @@ holds-in {k = k} h x = ap (λ (s : List Rec). get s k) (one-book Current lawful 
 
 -- a book is full by its bytes
 pub full-as : {b : List ℕ} (x y : ProperBook b) (k : Key) → Full y k → Full x k
-full-as x y k f = let o = one-book Current lawful _ x y in rw (o .0, o .2) f
+full-as x y k f = let o = one-book Current lawful _ x y in rw (o .1, o .2) f
 
 pub one-held : {b : List ℕ} {k : Key} {o p : Option (List ℕ)} → Holds b k o → Holds b k p → o ≡ p
 one-held h g = sym (h .is) ∙ holds-in g (h .book)

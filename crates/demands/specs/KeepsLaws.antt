@@ -9,8 +9,10 @@ use Rattle.text.specs.declared.Written.{Written}
 use Rattle.book_records.specs.Records.{Key, get, put, del}
 use Rattle.book_records.specs.Act.{Rec, Meaning, refuses, writes, removes, looks, Answer, says, done, gives, addTo, takeFrom, lookIn, act, seen}
 use Rattle.book.specs.Book.{Current, bytesWith, fullIn}
-use Rattle.book.specs.Outcome.{Outcome, no-book, this-book, Changed, Found, shown, Made, no-size, new-book}
-use Rattle.book_convert.specs.Convert.{Converted, no-old, other-size, converted}
+use Rattle.book.specs.Outcome.{Outcome, no-book, this-book, Changed, Found, shown, Made, no-size, no-slots, new-book}
+use Rattle.book_convert.specs.Convert.{Converted, ConvertedOwners}
+use Rattle.book_convert.specs.Convert as convert
+use Rattle.book_form.specs.declared.Quotas.{Quotas}
 use Rattle.demands.specs.AnswerLaws.{written-number}
 
 -- ---- a refusal changes no byte
@@ -50,11 +52,18 @@ shown-keeps (gives v) out z = absurd (z refl)
 pub found-keeps : {b : List ℕ} {m : Meaning} {out : List ℕ} {r : Written} {out₁ : List ℕ} → Found Current b m out r out₁ → (r .refusal ≡ 0 → ⊥) → out₁ ≡ out
 found-keeps {out = out} x z = x .value ∙ shown-keeps (x .answer) out (λ e. z (ap (λ (w : Written). w .refusal) (x .written) ∙ written-number (x .answer) ∙ e))
 
-pub made-keeps : {b : List ℕ} {r : ℕ} {b₁ : List ℕ} → Made Current tt b r b₁ → (r ≡ 0 → ⊥) → b₁ ≡ b
+pub made-keeps : {q : Quotas} {b : List ℕ} {r : ℕ} {b₁ : List ℕ} → Made Current q b r b₁ → (r ≡ 0 → ⊥) → b₁ ≡ b
 made-keeps (no-size n e f) z = f
-made-keeps (new-book C s e f) z = absurd (z e)
+made-keeps (no-slots C s n e f) z = f
+made-keeps (new-book C s n e f) z = absurd (z e)
 
 pub converted-keeps : {old new : List ℕ} {r : ℕ} {new₁ : List ℕ} → Converted old new r new₁ → (r ≡ 0 → ⊥) → new₁ ≡ new
-converted-keeps (no-old n e f) z = f
-converted-keeps (other-size x n e f) z = f
-converted-keeps (converted x n e f) z = absurd (z e)
+converted-keeps (convert.Converted.no-old n e f) z = f
+converted-keeps (convert.Converted.other-size x n e f) z = f
+converted-keeps (convert.Converted.converted x n e f) z = absurd (z e)
+
+pub owned-keeps : {old new : List ℕ} {q : Quotas} {r : ℕ} {new₁ : List ℕ} → ConvertedOwners old new q r new₁ → (r ≡ 0 → ⊥) → new₁ ≡ new
+owned-keeps (convert.ConvertedOwners.no-old n e f) z = f
+owned-keeps (convert.ConvertedOwners.other-size x n e f) z = f
+owned-keeps (convert.ConvertedOwners.too-many x n m e f) z = f
+owned-keeps (convert.ConvertedOwners.converted x n m e f) z = absurd (z e)

@@ -1,26 +1,27 @@
--- The records of a book with C slots as a machine whose calls go by one cell each.
+-- The records of a book as a machine whose calls go by one cell each.
 -- Assumes nothing.
 use Prim.Native.Nat.{ℕ, _-_, _≤_}
 use mathlib.Core.Path.{_≡_, refl, sym, ap}
-use mathlib.Core.Bool.{Bool}
-use mathlib.Core.List.{List, [], _∷_}
+use mathlib.Core.Bool.{Bool, true, false}
+use mathlib.Core.List.{List}
 use mathlib.Core.Option.{Option, none, some}
 use native.Mathlib.Decide.{ℕ-discrete}
 use native.Mathlib.Omega.{arith}
 use lib.Dec.{eqb}
 use lib.ListN.{length}
+use borrow.Author.Tests.{eqb-true}
 use Rattle.runs.specs.MachineLaws.{Independent, Enough}
 use Rattle.book_records.specs.Records.{Key, get}
 use Rattle.book_records.specs.RecordLaws.{records-ext}
-use Rattle.book_records.specs.Act.{Rec, Meaning, refuses, Answer, says, act, Seen, seen}
-use Rattle.book_records.specs.ActLaws.{keyMeant, ansOf, effOf, dec-some, countOf, chargeOf, Proper, good, pays, declines, answersBy, leaves, spares}
-use Rattle.book_records.specs.Calls.{Asked, to-write, to-remove, to-look, Call, meaning, PathOf}
+use Rattle.book_records.specs.Act.{Rec, Meaning, act, countBy, Seen, seen}
+use Rattle.book_records.specs.ActLaws.{keyMeant, ansOf, effOf, dec-some, cost, chargeOf, Proper, good, pays, declines, answersBy, leaves, spares}
+use Rattle.book_records.specs.Calls.{Asked, to-write, to-remove, to-look, Call, isOwner, ownerOf, meaning, PathOf}
 use Rattle.demands.specs.Held as calls
-use Rattle.book_form.specs.Form.{AllFit}
-use Rattle.book.specs.Book.{Current, AllExact, bytesWith, fullIn}
-use Rattle.demands.specs.Held.{Room, asWrite, isWrite, Updates, Accepted, leftBy, ProperBook}
+use Rattle.book_form.specs.Form.{AllFit, AllExact}
+use Rattle.book.specs.Book.{Current, quotaIn, bytesWith, fullIn}
+use Rattle.demands.specs.Held.{Room, ownWrite, Updates, Accepted, leftBy, ProperBook}
 use Rattle.demands.specs.Permitted.{Permitted}
-use Rattle.book_records.specs.CallLaws.{Means, writing, removing, looking, means, one-path, declined-not}
+use Rattle.book_records.specs.CallLaws.{Means, writing, removing, looking, means, one-path, path-owner, declined-not}
 use Rattle.book_records.specs.CallLaws as by-case
 use Rattle.demands.specs.HeldLaws.{fit-act, exact-act, length-with}
 use Rattle.demands.specs.PermittedLaws.{permitted-book}
@@ -72,50 +73,36 @@ keeps (removing ok) none u = refl
 keeps {c} (removing ok) (some v) u = absurd (u (updates-remove c (ok .asked), refl))
 keeps (looking ok) x u = refl
 
--- ---- one owner, who has every slot
-abbrev purse : Key → Unit {0}
-purse k = tt
+-- ---- each owner pays from its quota
+-- what a call is charged is a write of its owner's
+pub charged : {c : Call} {m : Meaning} → Means c m → {b : List ℕ} (x : ProperBook b) (o : ℕ) → chargeOf ownerOf (quotaIn x) o m ≤ ownWrite o c
+charged (by-case.declines d) x o = omega arith
+charged {c} (writing {k = k} {v = v} ok) x o = go (eqb (c .owner) o) refl
+  where
+    own : ownerOf k ≡ c .owner
+    own = path-owner c k (ok .key .path)
 
-abbrev same : (p q : Unit {0}) → Dec (p ≡ q)
-same p q = yes refl
-
-abbrev quota : {b : List ℕ} → ProperBook b → Unit {0} → ℕ
-quota x p = x .slots
-
-pub count-length : (s : List Rec) → countOf purse same s tt ≡ length s
-count-length [] = refl
-count-length (r ∷ s) = omega (arith, count-length s)
-
-pub tells : {b : List ℕ} (x : ProperBook b) (k : Key) (s : List Rec) → fullIn x k s ≡ eqb (countOf purse same s (purse k)) (quota x (purse k))
-tells x k s = ap (λ (n : ℕ). eqb n (x .slots)) (sym (count-length s))
-
-pub charged : {c : Call} {m : Meaning} → Means c m → {b : List ℕ} (x : ProperBook b) (p : Unit {0}) → chargeOf purse same (quota x) (fullIn x) (tells x) p m ≤ isWrite c
-charged (by-case.declines d) x p = omega arith
-charged (writing ok) x p = omega (arith, ap asWrite (ok .asked))
-charged (removing ok) x p = omega arith
-charged (looking ok) x p = omega arith
+    go : (w : Bool) → eqb (c .owner) o ≡ w → cost ownerOf o (k, v) ≤ ownWrite o c
+    go true e = let known : isOwner o ≡ true = rw (eqb-true (c .owner) o e) at (ok .key .path .known) in rw (own, e, known, ok .asked) (omega arith)
+    go false e = rw (own, e) (omega arith)
+charged (removing ok) x o = omega arith
+charged (looking ok) x o = omega arith
 
 module _ {b : List ℕ} (x : ProperBook b) where
-  abbrev pub InOrder : List Rec → Type 0
-  InOrder s = Proper purse same (quota x) (fullIn x) (tells x) s
-
   -- the records that this book may hold
   pub record Good (s : List Rec) : Type 0 where
-    pub proper : InOrder s
+    pub proper : Proper ownerOf (quotaIn x) s
     pub fit : AllFit Current s
-    pub exact : AllExact s
+    pub exact : AllExact Current s
 
   abbrev pub step : List Rec → Call → Seen × List Rec
   step s c = (seen (act (fullIn x) (meaning c) s .0), act (fullIn x) (meaning c) s .1)
 
-  abbrev charge : Unit {0} → Call → ℕ
-  charge p c = isWrite c
+  abbrev left : List Rec → ℕ → ℕ
+  left s o = quotaIn x o - countBy ownerOf o s
 
-  abbrev slotsFree : List Rec → Unit {0} → ℕ
-  slotsFree s p = quota x p - countOf purse same s p
-
-  pub small : (s : List Rec) (c : Call) → ((p : Unit {0}) → isWrite c ≤ slotsFree s p) → (p : Unit {0}) → chargeOf purse same (quota x) (fullIn x) (tells x) p (meaning c) ≤ slotsFree s p
-  small s c h p = omega (arith, h p, charged (means c) x p)
+  pub small : (s : List Rec) (c : Call) → ((o : ℕ) → ownWrite o c ≤ left s o) → (o : ℕ) → chargeOf ownerOf (quotaIn x) o (meaning c) ≤ left s o
+  small s c h o = omega (arith, h o, charged (means c) x o)
 
   abbrev pub machine : Independent
   machine =
@@ -125,12 +112,12 @@ module _ {b : List ℕ} (x : ProperBook b) where
         Answer = Seen;
         Key = Key;
         Cell = Option (List ℕ);
-        Purse = Unit {0};
+        Purse = ℕ;
         step = step;
         Good = Good;
         get = get;
-        free = slotsFree;
-        charge = charge;
+        free = left;
+        charge = ownWrite;
         key = λ c. keyMeant (meaning c);
         isKey = λ k c. dec-some (keyMeant (meaning c)) k;
         refusal = λ c. seen (ansOf (meaning c) none);
@@ -139,12 +126,12 @@ module _ {b : List ℕ} (x : ProperBook b) where
         Upd = Accepted;
         isUpd = isAccepted;
         put = calls.leaves;
-        good = λ s c g. record { proper = good purse same (quota x) (fullIn x) (tells x) s (meaning c) (g .proper); fit = fit-act (fullIn x) s c (g .fit); exact = exact-act (fullIn x) s c (g .exact) };
-        pays = λ s c g p. omega (arith, pays purse same (quota x) (fullIn x) (tells x) s (meaning c) (g .proper) p, charged (means c) x p);
-        refuses = λ s c g e. ap seen (declines purse same (quota x) (fullIn x) (tells x) s (meaning c) e);
-        says = λ s c g h k e. ap seen (answersBy purse same (quota x) (fullIn x) (tells x) s (meaning c) (small s c h) k e);
-        does = λ s c g h k e. leaves purse same (quota x) (fullIn x) (tells x) s (meaning c) (g .proper) (small s c h) k e;
-        spares = λ s c g h k e. spares purse same (quota x) (fullIn x) (tells x) s (meaning c) (small s c h) k e;
+        good = λ s c g. record { proper = good ownerOf (quotaIn x) s (meaning c) (g .proper); fit = fit-act (fullIn x) s c (g .fit); exact = exact-act (fullIn x) s c (g .exact) };
+        pays = λ s c g o. omega (arith, pays ownerOf (quotaIn x) s (meaning c) (g .proper) o, charged (means c) x o);
+        refuses = λ s c g e. ap seen (declines ownerOf (quotaIn x) s (meaning c) e);
+        says = λ s c g h k e. ap seen (answersBy ownerOf (quotaIn x) s (meaning c) (small s c h) k e);
+        does = λ s c g h k e. leaves ownerOf (quotaIn x) s (meaning c) (g .proper) (small s c h) k e;
+        spares = λ s c g h k e. spares ownerOf (quotaIn x) s (meaning c) (small s c h) k e;
         puts = λ c x. puts (means c) x;
         keeps = λ c x. keeps (means c) x;
         ext = λ s t g h. records-ext s t (g .proper .sorted) (h .proper .sorted);
@@ -152,15 +139,15 @@ module _ {b : List ℕ} (x : ProperBook b) where
 
 -- ---- a book's records are good, and good records make a book
 pub good-of : {b : List ℕ} (x : ProperBook b) → Good x (x .records)
-good-of x = record { proper = record { sorted = x .sorted; within = λ p. omega (arith, count-length (x .records), x .few) }; fit = x .fit; exact = x .exact }
+good-of x = record { proper = record { sorted = x .sorted; within = x .within }; fit = x .fit; exact = x .exact }
 
 unfoldable pub book-of : {b : List ℕ} (x : ProperBook b) (b₁ : List ℕ) (s : List Rec) → Good x s → b₁ ≡ bytesWith x s → ProperBook b₁
 book-of x b₁ s g e =
-    record { slots = x .slots; extra = x .extra; records = s; least = x .least; most = x .most; fit = g .fit; exact = g .exact; sorted = g .proper .sorted; few = omega (arith, count-length s, g .proper .within tt); bytes = e }
+    record { slots = x .slots; extra = x .extra; records = s; least = x .least; most = x .most; fit = g .fit; exact = g .exact; sorted = g .proper .sorted; quotas = x .quotas; within = g .proper .within; bytes = e }
 
 -- and the bytes of its size
 pub size-of : {b : List ℕ} (x : ProperBook b) (s : List Rec) → Good x s → length (bytesWith x s) ≡ length b
-size-of x s g = length-with x s (g .fit) (omega (arith, count-length s, g .proper .within tt))
+size-of x s g = length-with x s (g .fit) (g .exact) (g .proper .within)
 
 -- a book stays a book
 pub keeps-book : (b : List ℕ) (c : Call) (a : Seen) (b₁ : List ℕ) → Permitted b c a b₁ → ProperBook b → ProperBook b₁
@@ -174,4 +161,4 @@ sim x s c a b₁ g p = permitted-book (bytesWith x s) c a b₁ (book-of x (bytes
 
 -- the premise of demand 3
 pub enough : {b : List ℕ} (x : ProperBook b) (cs : List Call) → Room x cs → Enough (machine x) (x .records) cs
-enough x cs h p = omega (arith, h, count-length (x .records))
+enough x cs h = h

@@ -1,4 +1,4 @@
--- Request L6, of the generated contracts: a plain call that is not refused with 20 and the lenient call on the same text do the same.
+-- Request L6, of the generated contracts: a plain call that is not refused with 20 and the lenient call of the same owner on the same text do the same.
 -- That 20 is given exactly where the call is plain and its text is not its own key is a row of `book_records` (Refusals), and so part of demand 3.
 -- Assumes nothing.
 use Prim.Native.Nat.{ℕ}
@@ -39,11 +39,11 @@ same-found {out = out} e x y not-loose =
     (x .written ∙ ap writtenBy o ∙ sym (y .written), x .value ∙ ap (λ (a : Answer). shown a out) o ∙ sym (y .value))
 
 -- ---- the theorem, of each of the three
-pub write-same : (b t v : List ℕ) (r s : ℕ) (b₁ b₂ : List ℕ) → Writes Plain b t v r b₁ → Writes Lenient b t v s b₂ → (r ≡ loose → ⊥) → (r ≡ s) × (b₁ ≡ b₂)
-write-same b t v r s b₁ b₂ x y = same-changed (plain-or-loose t (to-write v)) (wrote Plain b t v r b₁ x) (wrote Lenient b t v s b₂ y)
+pub write-same : (b : List ℕ) (o : ℕ) (t v : List ℕ) (r s : ℕ) (b₁ b₂ : List ℕ) → Writes Plain b o t v r b₁ → Writes Lenient b o t v s b₂ → (r ≡ loose → ⊥) → (r ≡ s) × (b₁ ≡ b₂)
+write-same b o t v r s b₁ b₂ x y = same-changed (plain-or-loose o t (to-write v)) (wrote Plain b o t v r b₁ x) (wrote Lenient b o t v s b₂ y)
 
-pub remove-same : (b t : List ℕ) (r s : ℕ) (b₁ b₂ : List ℕ) → Removes Plain b t r b₁ → Removes Lenient b t s b₂ → (r ≡ loose → ⊥) → (r ≡ s) × (b₁ ≡ b₂)
-remove-same b t r s b₁ b₂ x y = same-changed (plain-or-loose t to-remove) (removed Plain b t r b₁ x) (removed Lenient b t s b₂ y)
+pub remove-same : (b : List ℕ) (o : ℕ) (t : List ℕ) (r s : ℕ) (b₁ b₂ : List ℕ) → Removes Plain b o t r b₁ → Removes Lenient b o t s b₂ → (r ≡ loose → ⊥) → (r ≡ s) × (b₁ ≡ b₂)
+remove-same b o t r s b₁ b₂ x y = same-changed (plain-or-loose o t to-remove) (removed Plain b o t r b₁ x) (removed Lenient b o t s b₂ y)
 
-pub lookup-same : (b t out : List ℕ) (r s : Written) (out₁ out₂ : List ℕ) → Looks Plain b t out r out₁ → Looks Lenient b t out s out₂ → (r .refusal ≡ loose → ⊥) → (r ≡ s) × (out₁ ≡ out₂)
-lookup-same b t out r s out₁ out₂ x y = same-found (plain-or-loose t (to-look (length out))) (looked Plain b t out r out₁ x) (looked Lenient b t out s out₂ y)
+pub lookup-same : (b : List ℕ) (o : ℕ) (t out : List ℕ) (r s : Written) (out₁ out₂ : List ℕ) → Looks Plain b o t out r out₁ → Looks Lenient b o t out s out₂ → (r .refusal ≡ loose → ⊥) → (r ≡ s) × (out₁ ≡ out₂)
+lookup-same b o t out r s out₁ out₂ x y = same-found (plain-or-loose o t (to-look (length out))) (looked Plain b o t out r out₁ x) (looked Lenient b o t out s out₂ y)

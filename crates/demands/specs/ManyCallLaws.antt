@@ -2,8 +2,9 @@
 -- Assumes nothing.
 use Prim.Native.Nat.{ℕ, zero, suc, _+_, _-_, _*_, _<_, _≤_}
 use mathlib.Core.Path.{_≡_, refl, sym, ap, ap₂, _∙_}
+use mathlib.Core.Bool.{true, false}
 use mathlib.Core.List.{List, [], _∷_, _++_, append-assoc, append-nil}
-use mathlib.Core.Option.{Option, none, some}
+use mathlib.Core.Option.{some}
 use mathlib.Core.Logic.{_↔_}
 use native.Mathlib.Omega.{arith}
 use lib.ListN.{length, take, drop, getElem?, replicate-append-replicate, drop-of-length-le}
@@ -15,6 +16,7 @@ use Rattle.text.specs.PutLaws.{put-zero}
 use Rattle.book_records.specs.Act.{Answer, says, gives}
 use Rattle.book_records.specs.Act as act
 use Rattle.book_records.specs.declared.Manner.the-variants.{Plain}
+use Rattle.book_records.specs.Calls.{isOwner}
 use Rattle.book_form.specs.Form.{zeros}
 use Rattle.book_form.specs.FormLaws.{length-zeros}
 use Rattle.book.specs.Book.{Current, Book}
@@ -34,10 +36,10 @@ fills-outcome x =
     let p : Fills Current (now (x .args .0)) (now (x .args .1 .0)) (x .result) (now (x .exits .1 .0)) = x .ensures in
     rw (x .book-in, x .table-in, x .number-out, x .table-out) at p
 
-many-outcome : {b table texts out : List ℕ} {r : Written} {out₁ : List ℕ} → LooksUpMany b table texts out r out₁ → LooksMany Current b table texts out r out₁
+many-outcome : {b : List ℕ} {owner : ℕ} {table texts out : List ℕ} {r : Written} {out₁ : List ℕ} → LooksUpMany b owner table texts out r out₁ → LooksMany Current b owner table texts out r out₁
 many-outcome x =
-    let p : LooksMany Current (now (x .args .0)) (now (x .args .1 .0)) (now (x .args .1 .1 .0)) (now (x .args .1 .1 .1 .0)) (x .result) (now (x .exits .1 .1 .1 .0)) = x .ensures in
-    rw (x .book-in, x .table-in, x .texts-in, x .out-in, x .answer-out, x .out-out) at p
+    let p : LooksMany Current (now (x .args .0)) (x .args .1 .0) (now (x .args .1 .1 .0)) (now (x .args .1 .1 .1 .0)) (now (x .args .1 .1 .1 .1 .0)) (x .result) (now (x .exits .1 .1 .1 .1 .0)) = x .ensures in
+    rw (x .book-in, x .owner-in, x .table-in, x .texts-in, x .out-in, x .answer-out, x .out-out) at p
 
 -- two numbers that are not one
 apart : {A : Type 0} (r m n : ℕ) → r ≡ m → (m ≡ n → ⊥) → r ≡ n → A
@@ -115,14 +117,18 @@ entry-there f s (u ∷ ts) (suc i) t e rest =
     ∙ entry-there f s ts i t e rest
 
 -- ---- many lookups
-module _ (b table texts out : List ℕ) (r : Written) (out₁ : List ℕ) where
+module _ (b : List ℕ) (owner : ℕ) (table texts out : List ℕ) (r : Written) (out₁ : List ℕ) where
   abbrev count : ℕ
   count = length (lines texts)
 
-  none-read : (n : Book Current b → ⊥) → number r ≡ 9 → Many b table texts out r out₁
+  abbrev Said : Type 0
+  Said = Many b owner table texts out r out₁
+
+  none-read : (n : Book Current b → ⊥) → number r ≡ 9 → Said
   none-read n e =
       record {
         bad-book = (λ q. n, λ q. e);
+        bad-owner = (apart _ 9 23 e (λ z. omega arith), λ q. absurd (n (q .0)));
         bad-table = (apart _ 9 22 e (λ z. omega arith), λ q. absurd (n (q .0)));
         no-room = (apart _ 9 4 e (λ z. omega arith), λ q. absurd (n (q .0)));
         done = (apart _ 9 0 e (λ z. omega arith), λ q. absurd (n (q .0)));
@@ -132,92 +138,117 @@ module _ (b table texts out : List ℕ) (r : Written) (out₁ : List ℕ) where
         refused = apart _ 9 0 e (λ z. omega arith);
       }
 
-  other-table : (x : Book Current b) → (table ≡ tableOf x → ⊥) → number r ≡ 22 → Many b table texts out r out₁
-  other-table x n e =
+  nobodys : (x : Book Current b) → isOwner owner ≡ false → number r ≡ 23 → Said
+  nobodys x w e =
       record {
-        bad-book = (apart _ 22 9 e (λ z. omega arith), λ q. absurd (q x));
-        bad-table = (λ q. (x, n), λ q. e);
-        no-room = (apart _ 22 4 e (λ z. omega arith), λ q. absurd (n (q .1 ∙ one-table Current lawful b (q .0) x)));
-        done = (apart _ 22 0 e (λ z. omega arith), λ q. absurd (n (q .1 ∙ one-table Current lawful b (q .0) x)));
-        size = apart _ 22 0 e (λ z. omega arith);
-        later = apart _ 22 0 e (λ z. omega arith);
-        each = apart _ 22 0 e (λ z. omega arith);
-        refused = apart _ 22 0 e (λ z. omega arith);
+        bad-book = (apart _ 23 9 e (λ z. omega arith), λ q. absurd (q x));
+        bad-owner = (λ q. (x, w), λ q. e);
+        bad-table = (apart _ 23 22 e (λ z. omega arith), λ q. not-both (q .1));
+        no-room = (apart _ 23 4 e (λ z. omega arith), λ q. not-both (q .1));
+        done = (apart _ 23 0 e (λ z. omega arith), λ q. not-both (q .1));
+        size = apart _ 23 0 e (λ z. omega arith);
+        later = apart _ 23 0 e (λ z. omega arith);
+        each = apart _ 23 0 e (λ z. omega arith);
+        refused = apart _ 23 0 e (λ z. omega arith);
       }
+    where
+      not-both : {A : Type 0} → isOwner owner ≡ true → A
+      not-both q = let z : true ≡ false = sym q ∙ w in let y : _≡_ {A = ℕ} 0 1 = cc in absurd (omega arith)
 
-  module _ (x : Book Current b) (g : table ≡ tableOf x) where
-    abbrev all : List ℕ
-    all = entries (lookedUp x) (lines texts)
+  module _ (w : isOwner owner ≡ true) where
+    known : {A : Type 0} → isOwner owner ≡ false → A
+    known q = let z : true ≡ false = sym w ∙ q in let y : _≡_ {A = ℕ} 0 1 = cc in absurd (omega arith)
 
-    bytes : length all ≡ 66 * count
-    bytes = entries-size b x (lines texts)
-
-    same-table : (y : Book Current b) → (table ≡ tableOf y → ⊥) → ⊥
-    same-table y n = n (g ∙ one-table Current lawful b x y)
-
-    too-short : length out < length all → number r ≡ 4 → Many b table texts out r out₁
-    too-short l e =
+    other-table : (x : Book Current b) → (table ≡ tableOf x → ⊥) → number r ≡ 22 → Said
+    other-table x n e =
         record {
-          bad-book = (apart _ 4 9 e (λ z. omega arith), λ q. absurd (q x));
-          bad-table = (apart _ 4 22 e (λ z. omega arith), λ q. absurd (same-table (q .0) (q .1)));
-          no-room = (λ q. (x, g, omega (arith, l, bytes)), λ q. e);
-          done = (apart _ 4 0 e (λ z. omega arith), λ q. absurd (let z : ⊥ = omega (arith, q .2, l, bytes) in z));
-          size = apart _ 4 0 e (λ z. omega arith);
-          later = apart _ 4 0 e (λ z. omega arith);
-          each = apart _ 4 0 e (λ z. omega arith);
-          refused = apart _ 4 0 e (λ z. omega arith);
+          bad-book = (apart _ 22 9 e (λ z. omega arith), λ q. absurd (q x));
+          bad-owner = (apart _ 22 23 e (λ z. omega arith), λ q. known (q .1));
+          bad-table = (λ q. (x, w, n), λ q. e);
+          no-room = (apart _ 22 4 e (λ z. omega arith), λ q. absurd (n (q .2 ∙ one-table Current lawful b (q .0) x)));
+          done = (apart _ 22 0 e (λ z. omega arith), λ q. absurd (n (q .2 ∙ one-table Current lawful b (q .0) x)));
+          size = apart _ 22 0 e (λ z. omega arith);
+          later = apart _ 22 0 e (λ z. omega arith);
+          each = apart _ 22 0 e (λ z. omega arith);
+          refused = apart _ 22 0 e (λ z. omega arith);
         }
 
-    module _ (l : length all ≤ length out) (e : r ≡ done (length all)) (o : out₁ ≡ put out 0 all) where
-      stands : out₁ ≡ all ++ drop (length all) out
-      stands = o ∙ put-zero out all
+    module _ (x : Book Current b) (g : table ≡ tableOf x) where
+      abbrev all : List ℕ
+      all = entries (lookedUp x owner) (lines texts)
 
-      there : (i : ℕ) (t : List ℕ) → getElem? (lines texts) i ≡ some t → entryAt out₁ i ≡ entryOf (lookedUp x t)
-      there i t h = ap (λ (u : List ℕ). entryAt u i) stands ∙ entry-there (lookedUp x) (entry-size b x) (lines texts) i t h (drop (length all) out)
+      bytes : length all ≡ 66 * count
+      bytes = entries-size b x owner (lines texts)
 
-      plain : (t room : List ℕ) → length room ≡ 64 → (w : Written) (room₁ : List ℕ) → Looks Plain b t room w room₁ → (w ≡ writtenBy (lookedUp x t)) × (room₁ ≡ shown (lookedUp x t) room)
-      plain t room s w room₁ h =
-          let f : Looked Current Plain b t room w room₁ = looked Plain b t room w room₁ h in
-          rw s at (answer-is x f)
+      same-table : (y : Book Current b) → (table ≡ tableOf y → ⊥) → ⊥
+      same-table y n = n (g ∙ one-table Current lawful b x y)
 
-      answered : Many b table texts out r out₁
-      answered =
-          let n : number r ≡ 0 = ap number e in
+      too-short : length out < length all → number r ≡ 4 → Said
+      too-short l e =
           record {
-            bad-book = (apart _ 0 9 n (λ z. omega arith), λ q. absurd (q x));
-            bad-table = (apart _ 0 22 n (λ z. omega arith), λ q. absurd (same-table (q .0) (q .1)));
-            no-room = (apart _ 0 4 n (λ z. omega arith), λ q. absurd (let z : ⊥ = omega (arith, q .2, l, bytes) in z));
-            done = (λ q. (x, g, omega (arith, l, bytes)), λ q. n);
-            size = λ q. ap (λ (w : Written). w .length) e ∙ bytes;
-            later = λ q. ap (drop (66 * count)) stands ∙ drop-at all (drop (length all) out) (66 * count) bytes ∙ ap (λ (k : ℕ). drop k out) bytes;
-            each = λ q i t h room s w room₁ c. let p = plain t room s w room₁ c in there i t h ∙ answer-bytes (lookedUp x t) (value-most b x t) room w room₁ (p .0) (p .1);
-            refused = λ q i t h room s w room₁ c z. let p = plain t room s w room₁ c in there i t h ∙ refused-bytes (lookedUp x t) w (p .0) z;
+            bad-book = (apart _ 4 9 e (λ z. omega arith), λ q. absurd (q x));
+            bad-owner = (apart _ 4 23 e (λ z. omega arith), λ q. known (q .1));
+            bad-table = (apart _ 4 22 e (λ z. omega arith), λ q. absurd (same-table (q .0) (q .2)));
+            no-room = (λ q. (x, w, g, omega (arith, l, bytes)), λ q. e);
+            done = (apart _ 4 0 e (λ z. omega arith), λ q. absurd (let z : ⊥ = omega (arith, q .3, l, bytes) in z));
+            size = apart _ 4 0 e (λ z. omega arith);
+            later = apart _ 4 0 e (λ z. omega arith);
+            each = apart _ 4 0 e (λ z. omega arith);
+            refused = apart _ 4 0 e (λ z. omega arith);
           }
 
-many-says : {b table texts out : List ℕ} {r : Written} {out₁ : List ℕ} → LooksMany Current b table texts out r out₁ → Many b table texts out r out₁
-many-says {b} {table} {texts} {out} {r} {out₁} (many.LooksMany.no-book n e f) = none-read b table texts out r out₁ n (ap number e)
-many-says {b} {table} {texts} {out} {r} {out₁} (many.LooksMany.bad-table x n e f) = other-table b table texts out r out₁ x n (ap number e)
-many-says {b} {table} {texts} {out} {r} {out₁} (many.LooksMany.this-table x g e f) = go (way (entries (lookedUp x) (lines texts)) out r out₁ e f)
+      module _ (l : length all ≤ length out) (e : r ≡ done (length all)) (o : out₁ ≡ put out 0 all) where
+        stands : out₁ ≡ all ++ drop (length all) out
+        stands = o ∙ put-zero out all
+
+        there : (i : ℕ) (t : List ℕ) → getElem? (lines texts) i ≡ some t → entryAt out₁ i ≡ entryOf (lookedUp x owner t)
+        there i t h = ap (λ (u : List ℕ). entryAt u i) stands ∙ entry-there (lookedUp x owner) (entry-size b x owner) (lines texts) i t h (drop (length all) out)
+
+        plain : (t room : List ℕ) → length room ≡ 64 → (u : Written) (room₁ : List ℕ) → Looks Plain b owner t room u room₁ → (u ≡ writtenBy (lookedUp x owner t)) × (room₁ ≡ shown (lookedUp x owner t) room)
+        plain t room s u room₁ h =
+            let f : Looked Current Plain b owner t room u room₁ = looked Plain b owner t room u room₁ h in
+            rw s at (answer-is x f)
+
+        answered : Said
+        answered =
+            let n : number r ≡ 0 = ap number e in
+            record {
+              bad-book = (apart _ 0 9 n (λ z. omega arith), λ q. absurd (q x));
+              bad-owner = (apart _ 0 23 n (λ z. omega arith), λ q. known (q .1));
+              bad-table = (apart _ 0 22 n (λ z. omega arith), λ q. absurd (same-table (q .0) (q .2)));
+              no-room = (apart _ 0 4 n (λ z. omega arith), λ q. absurd (let z : ⊥ = omega (arith, q .3, l, bytes) in z));
+              done = (λ q. (x, w, g, omega (arith, l, bytes)), λ q. n);
+              size = λ q. ap (λ (u : Written). u .length) e ∙ bytes;
+              later = λ q. ap (drop (66 * count)) stands ∙ drop-at all (drop (length all) out) (66 * count) bytes ∙ ap (λ (k : ℕ). drop k out) bytes;
+              each = λ q i t h room s u room₁ c. let p = plain t room s u room₁ c in there i t h ∙ answer-bytes (lookedUp x owner t) (value-most b x owner t) room u room₁ (p .0) (p .1);
+              refused = λ q i t h room s u room₁ c z. let p = plain t room s u room₁ c in there i t h ∙ refused-bytes (lookedUp x owner t) u (p .0) z;
+            }
+
+many-says : {b : List ℕ} {owner : ℕ} {table texts out : List ℕ} {r : Written} {out₁ : List ℕ} → LooksMany Current b owner table texts out r out₁ → Many b owner table texts out r out₁
+many-says {b} {owner} {table} {texts} {out} {r} {out₁} (many.LooksMany.no-book n e f) = none-read b owner table texts out r out₁ n (ap number e)
+many-says {b} {owner} {table} {texts} {out} {r} {out₁} (many.LooksMany.no-owner x w e f) = nobodys b owner table texts out r out₁ x w (ap number e)
+many-says {b} {owner} {table} {texts} {out} {r} {out₁} (many.LooksMany.bad-table x w n e f) = other-table b owner table texts out r out₁ w x n (ap number e)
+many-says {b} {owner} {table} {texts} {out} {r} {out₁} (many.LooksMany.this-table x w g e f) = go (way (entries (lookedUp x owner) (lines texts)) out r out₁ e f)
   where
-    go : Way (entries (lookedUp x) (lines texts)) out r out₁ → Many b table texts out r out₁
-    go (short l a o) = too-short b table texts out r out₁ x g l (ap number a)
-    go (fits l a o) = answered b table texts out r out₁ x g l a o
+    go : Way (entries (lookedUp x owner) (lines texts)) out r out₁ → Many b owner table texts out r out₁
+    go (short l a o) = too-short b owner table texts out r out₁ w x g l (ap number a)
+    go (fits l a o) = answered b owner table texts out r out₁ w x g l a o
 
 -- a filled table
 taken : {b t : List ℕ} {r : ℕ} {t₁ : List ℕ} → Fills Current b t r t₁ → r ≡ 0 → length t ≡ 512
-    → {table texts out : List ℕ} {q : Written} {out₁ : List ℕ} → LooksMany Current b table texts out q out₁ → (number q ≡ 22) ↔ (table ≡ t₁ → ⊥)
-taken {b} {t} {r} {t₁} f e s {table} {texts} {out} {q} {out₁} l =
+    → {owner : ℕ} → isOwner owner ≡ true → {table texts out : List ℕ} {q : Written} {out₁ : List ℕ} → LooksMany Current b owner table texts out q out₁ → (number q ≡ 22) ↔ (table ≡ t₁ → ⊥)
+taken {b} {t} {r} {t₁} f e s w l =
     let p = filling f in
     let x = p .done .0 e .0 in
     let is : t₁ ≡ tableOf x = p .filled e x ∙ ap (λ (u : List ℕ). tableOf x ++ u) (drop-of-length-le t (let q : length t ≤ 512 = omega (arith, s) in q)) ∙ append-nil (tableOf x) in
     let m = many-says l .bad-table in
-    (λ z h. let y = m .0 z in y .1 (h ∙ is ∙ one-table Current lawful b x (y .0)), λ h. m .1 (x, λ g. h (g ∙ sym is)))
+    (λ z h. let y = m .0 z in y .2 (h ∙ is ∙ one-table Current lawful b x (y .0)), λ h. m .1 (x, w, λ g. h (g ∙ sym is)))
 
 -- THE THEOREM
 pub many-demand : ManyDemand
 many-demand =
     record {
       fills = λ b table r table₁ x. filling (fills-outcome x);
-      looks = λ b table texts out r out₁ x. many-says (many-outcome x);
-      taken = λ b t r t₁ f e s table texts out q out₁ l. taken (fills-outcome f) e s (many-outcome l);
+      looks = λ b owner table texts out r out₁ x. many-says (many-outcome x);
+      taken = λ b t r t₁ f e s owner w table texts out q out₁ l. taken (fills-outcome f) e s w (many-outcome l);
     }

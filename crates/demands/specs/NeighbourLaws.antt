@@ -5,7 +5,7 @@ use Prim.Native.Nat.{ℕ, zero, suc, _+_, _≤_, _<_, Ordering·lt, Ordering·gt
 use mathlib.Core.Path.{_≡_, refl, sym, ap, subst, _∙_}
 use mathlib.Core.Logic.{_⊎_, inl, inr, ⊎-elim}
 use mathlib.Core.Bool.{Bool, true, false, not, _||_}
-use mathlib.Core.List.{List, [], _∷_, _++_, append-assoc, append-nil}
+use mathlib.Core.List.{List, [], _∷_, _++_, append-assoc, append-nil, tail-eq-of-cons-eq}
 use mathlib.Core.Option.{some}
 use native.Mathlib.Decide.{decLt}
 use native.Mathlib.Omega.{arith}
@@ -17,7 +17,7 @@ use Rattle.text.specs.Bytes.{bytes}
 use Rattle.text.specs.Number.{decimal, numeralOf, digitsAt, digitsFrom}
 use Rattle.text.specs.NumberLaws.{Digit, decimal-each}
 use Rattle.text.specs.Order.{cmp, Before}
-use Rattle.text.specs.OrderLaws.{Tri, below, equal, above, tri, cmp-self, cmp-append, cmp-cons-gt, cmp-nil-cons, before-trans, before-not-same, cmp-flip, flip-gt}
+use Rattle.text.specs.OrderLaws.{Tri, below, equal, above, tri, cmp-self, cmp-append, cmp-cons-eq, cmp-cons-gt, cmp-nil-cons, before-trans, before-not-same, cmp-flip, flip-gt}
 use Rattle.text.specs.Part.{every, same, startsWith}
 use Rattle.text.specs.PartLaws.{and-left, and-right, starts-append}
 use Rattle.text.specs.PlaceLaws.{at-some, at-lt}
@@ -31,10 +31,9 @@ use Rattle.path.specs.Valid.{Valid}
 use Rattle.path.specs.ReadLaws.{upFrom}
 use Rattle.path.specs.BackLaws.{rendered-cut, key-read, read-valid}
 use Rattle.book_records.specs.Act.{Rec}
-use Rattle.book_records.specs.Calls.{Exact}
+use Rattle.book_records.specs.Calls.{Exact, Owned}
 use Rattle.book_records.specs.SplitLaws.{sorted-at}
-use Rattle.book_form.specs.Form.{Form}
-use Rattle.book.specs.Book.{Book}
+use Rattle.book.specs.Book.{Current, Book}
 use Rattle.book.specs.CheckLaws.{exact-at}
 use Rattle.book_oldest.specs.PrefixLaws.{starts-own, starts-below, starts-between}
 use Rattle.iteration.specs.ReadLaws.{starts-is}
@@ -245,25 +244,53 @@ height-first v = rw (time-text v, height-text v) (after-same (renders 5 v) (byte
 no-round : (a b : List ℕ) → Before a b → Before b a → ⊥
 no-round a b h k = before-not-same a a (before-trans a b a h k) refl
 
-module _ (F : Form) (b : List ℕ) (x : Book F b) (v : Carried (List ℕ)) (ok : Valid 5 v) (i : ℕ) (r : Rec) (at : getElem? (x .records) i ≡ some r) (is : r .0 ≡ renders 5 v) where
-  -- whatever stands between the state and a record below it lies below it too
-  pub together : (m j : ℕ) (s q : Rec) → getElem? (x .records) m ≡ some s → getElem? (x .records) j ≡ some q → i < m → m < j → Above (renders 5 v) (q .0) → Above (renders 5 v) (s .0)
-  together m j s q em ej lo hi h =
-      let p = exact-path (s .0) (exact-at (x .records) m s (x .exact) em) in
-      let f : Before (renders 5 v) (renders (p .0) (p .1)) = rw (is, p .3) at (sorted-at (x .records) i m r s (x .sorted) lo at em) in
-      let g : Before (renders (p .0) (p .1)) (q .0) = rw (p .3) at (sorted-at (x .records) m j s q (x .sorted) hi em ej) in
-      subst (Above (renders 5 v)) (sym (p .3)) (between (p .0) v (p .1) ok (p .2) (q .0) f g h)
+-- ---- the records of one owner
+module _ (b : List ℕ) (x : Book Current b) (o : ℕ) where
+  abbrev At : ℕ → List ℕ → Type 0
+  At j k = Stands (x .records) o j k
 
-  -- a record whose key comes after the state's stands after it
-  after : (j : ℕ) (q : Rec) → getElem? (x .records) j ≡ some q → Before (renders 5 v) (q .0) → i < j
-  after j q ej h = go (tri i j)
+  -- their texts are exact
+  text-exact : (j : ℕ) (k : List ℕ) → At j k → Exact k
+  text-exact j k st = let h : Owned (o ∷ k) = rw (st .2) at (exact-at Current (x .records) j (st .0) (x .exact) (st .1)) in h .1
+
+  -- they stand in the order of their texts
+  pub in-order : (i j : ℕ) (h k : List ℕ) → At i h → At j k → i < j → Before h k
+  in-order i j h k r s l =
+      let f : Before (o ∷ h) (o ∷ k) = rw (r .2, s .2) at (sorted-at (x .records) i j (r .0) (s .0) (x .sorted) l (r .1) (s .1)) in
+      sym (cmp-cons-eq o o h k refl) ∙ f
+
+  -- and together
+  pub own-between : (i m j : ℕ) (h k : List ℕ) (s : Rec) → At i h → At j k → getElem? (x .records) m ≡ some s → i < m → m < j → (z : List ℕ) × At m z
+  own-between i m j h k s r q e lo hi =
+      let f : Before (o ∷ h) (s .0) = rw (r .2) at (sorted-at (x .records) i m (r .0) s (x .sorted) lo (r .1) e) in
+      let g : Before (s .0) (o ∷ k) = rw (q .2) at (sorted-at (x .records) m j s (q .0) (x .sorted) hi e (q .1)) in
+      let w = starts-together (o ∷ []) (o ∷ h) (s .0) (o ∷ k) f g (starts-own (o ∷ []) h) (starts-own (o ∷ []) k) in
+      (drop 1 (s .0), (s, e, sym (starts-is (o ∷ []) (s .0) w)))
+
+module _ (b : List ℕ) (x : Book Current b) (o : ℕ) (v : Carried (List ℕ)) (ok : Valid 5 v) (i : ℕ) (here : Stands (x .records) o i (renders 5 v)) where
+  abbrev There : ℕ → List ℕ → Type 0
+  There j k = Stands (x .records) o j k
+
+  -- whatever stands between the state and a record of its owner below it is that owner's, and lies below it too
+  pub together : (m j : ℕ) (s : Rec) (k : List ℕ) → getElem? (x .records) m ≡ some s → There j k → i < m → m < j → Above (renders 5 v) k → (z : List ℕ) × There m z × Above (renders 5 v) z
+  together m j s k em st lo hi h =
+      let z = own-between b x o i m j (renders 5 v) k s here st em lo hi in
+      let p = exact-path (z .0) (text-exact b x o m (z .0) (z .1)) in
+      let f = subst (Before (renders 5 v)) (p .3) (in-order b x o i m (renders 5 v) (z .0) here (z .1) lo) in
+      let g = subst (λ (t : List ℕ). Before t k) (p .3) (in-order b x o m j (z .0) k (z .1) st hi) in
+      (z .0, z .1, subst (Above (renders 5 v)) (sym (p .3)) (between (p .0) v (p .1) ok (p .2) k f g h))
+
+  -- a record of its owner whose text comes after the state's stands after it
+  after : (j : ℕ) (k : List ℕ) → There j k → Before (renders 5 v) k → i < j
+  after j k st h = go (tri i j)
     where
       go : Tri i j → i < j
       go (below l) = l
       go (equal e) =
-          let f : r ≡ q = let g = ap (getElem? (x .records)) e in cc in
-          absurd (before-not-same (renders 5 v) (q .0) h (sym is ∙ ap (λ (y : Rec). y .0) f))
-      go (above l) = absurd (no-round (renders 5 v) (q .0) h (rw is at (sorted-at (x .records) j i q r (x .sorted) l ej at)))
+          let f : here .0 ≡ st .0 = let g = ap (getElem? (x .records)) e in let p = here .1 in let q = st .1 in cc in
+          let t : renders 5 v ≡ k = tail-eq-of-cons-eq (sym (here .2) ∙ ap (λ (y : Rec). y .0) f ∙ st .2) in
+          absurd (before-not-same (renders 5 v) k h t)
+      go (above l) = absurd (no-round (renders 5 v) k h (in-order b x o j i k (renders 5 v) st here l))
 
   above-after : (k : List ℕ) → (k ≡ renders 6 v) ⊎ (k ≡ renders 7 v) → Before (renders 5 v) k × Above (renders 5 v) k
   above-after k c = ⊎-elim (λ e. own (bytes "processedTime") (e ∙ time-text v)) (λ e. own (bytes "processedHeight") (e ∙ height-text v)) c
@@ -274,20 +301,15 @@ module _ (F : Form) (b : List ℕ) (x : Book F b) (v : Carried (List ℕ)) (ok :
         subst (Above (renders 5 v)) (append-assoc (renders 5 v) (bytes "/") y ∙ sym e) (starts-own (renders 5 v ++ bytes "/") y),
       )
 
-  -- the record at a place between the state and one below it: its key, which comes before that one's
-  one-between : (m j : ℕ) (k : List ℕ) → Stands (x .records) j k → Above (renders 5 v) k → i < m → m < j → (z : List ℕ) × Stands (x .records) m z × ((z ≡ renders 6 v) ⊎ (z ≡ renders 7 v)) × Before z k
+  -- the record at a place between the state and one below it: its text, which comes before that one's
+  one-between : (m j : ℕ) (k : List ℕ) → There j k → Above (renders 5 v) k → i < m → m < j → (z : List ℕ) × There m z × ((z ≡ renders 6 v) ⊎ (z ≡ renders 7 v)) × Before z k
   one-between m j k st h lo hi =
-      let q = st .0 in
-      let y = at-some (x .records) m (omega (arith, at-lt (x .records) j q (st .1))) in
-      let a = together m j (y .0) q (y .1) (st .1) lo hi (subst (Above (renders 5 v)) (sym (st .2)) h) in (
-        y .0 .0,
-        (y .0, y .1, refl),
-        below-is v ok (y .0 .0) (exact-at (x .records) m (y .0) (x .exact) (y .1)) a,
-        subst (Before (y .0 .0)) (st .2) (sorted-at (x .records) m j (y .0) q (x .sorted) hi (y .1) (st .1)),
-      )
+      let y = at-some (x .records) m (omega (arith, at-lt (x .records) j (st .0) (st .1))) in
+      let z = together m j (y .0) k (y .1) st lo hi h in
+      (z .0, z .1, below-is v ok (z .0) (text-exact b x o m (z .0) (z .1)) (z .2), in-order b x o m j (z .0) k (z .1) st hi)
 
-  behind : (j : ℕ) (k : List ℕ) → Stands (x .records) j k → (k ≡ renders 6 v) ⊎ (k ≡ renders 7 v) → i < j
-  behind j k st c = after j (st .0) (st .1) (subst (Before (renders 5 v)) (sym (st .2)) (above-after k c .0))
+  behind : (j : ℕ) (k : List ℕ) → There j k → (k ≡ renders 6 v) ⊎ (k ≡ renders 7 v) → i < j
+  behind j k st c = after j k st (above-after k c .0)
 
   -- before the processed height stands none of the two, and before the processed time the processed height at most
   none-first : (z : List ℕ) → (z ≡ renders 6 v) ⊎ (z ≡ renders 7 v) → Before z (renders 7 v) → ⊥
@@ -296,29 +318,29 @@ module _ (F : Form) (b : List ℕ) (x : Book F b) (v : Carried (List ℕ)) (ok :
   height-only : (z : List ℕ) → (z ≡ renders 6 v) ⊎ (z ≡ renders 7 v) → Before z (renders 6 v) → z ≡ renders 7 v
   height-only z c h = ⊎-elim (λ e. absurd (before-not-same z (renders 6 v) h e)) (λ e. e) c
 
-  height-at : (j : ℕ) → Stands (x .records) j (renders 7 v) → j ≡ i + 1
+  height-at : (j : ℕ) → There j (renders 7 v) → j ≡ i + 1
   height-at j st = go (decLt (i + 1) j)
     where
       go : Dec (i + 1 < j) → j ≡ i + 1
       go (no l) = omega (arith, behind j (renders 7 v) st (inr refl))
       go (yes l) = let t = one-between (i + 1) j (renders 7 v) st (above-after (renders 7 v) (inr refl) .1) (omega arith) l in absurd (none-first (t .0) (t .2) (t .3))
 
-  time-at : (j : ℕ) → Stands (x .records) j (renders 6 v) → (j ≡ i + 1) ⊎ ((j ≡ i + 2) × Stands (x .records) (i + 1) (renders 7 v))
+  time-at : (j : ℕ) → There j (renders 6 v) → (j ≡ i + 1) ⊎ ((j ≡ i + 2) × There (i + 1) (renders 7 v))
   time-at j st = go (decLt (i + 1) j) (decLt (i + 2) j)
     where
-      between-at : (m : ℕ) → i < m → m < j → Stands (x .records) m (renders 7 v)
-      between-at m lo hi = let t = one-between m j (renders 6 v) st (above-after (renders 6 v) (inl refl) .1) lo hi in subst (Stands (x .records) m) (height-only (t .0) (t .2) (t .3)) (t .1)
+      between-at : (m : ℕ) → i < m → m < j → There m (renders 7 v)
+      between-at m lo hi = let t = one-between m j (renders 6 v) st (above-after (renders 6 v) (inl refl) .1) lo hi in subst (There m) (height-only (t .0) (t .2) (t .3)) (t .1)
 
-      go : Dec (i + 1 < j) → Dec (i + 2 < j) → (j ≡ i + 1) ⊎ ((j ≡ i + 2) × Stands (x .records) (i + 1) (renders 7 v))
+      go : Dec (i + 1 < j) → Dec (i + 2 < j) → (j ≡ i + 1) ⊎ ((j ≡ i + 2) × There (i + 1) (renders 7 v))
       go (no l) m = inl (omega (arith, behind j (renders 6 v) st (inl refl)))
       go (yes l) (no m) = inr (omega arith, between-at (i + 1) (omega arith) l)
       go (yes l) (yes m) = absurd (let n : ⊥ = omega (arith, height-at (i + 2) (between-at (i + 2) (omega arith) m)) in n)
 
-  no-other : (j : ℕ) (k : List ℕ) → Stands (x .records) j k → Above (renders 5 v) k → (i < j) × (j ≤ i + 2)
+  no-other : (j : ℕ) (k : List ℕ) → There j k → Above (renders 5 v) k → (i < j) × (j ≤ i + 2)
   no-other j k st h = ⊎-elim
-      (λ e. ⊎-elim (λ f. (omega arith, omega arith)) (λ f. (omega (arith, f .0), omega (arith, f .0))) (time-at j (subst (Stands (x .records) j) e st)))
-      (λ e. let f = height-at j (subst (Stands (x .records) j) e st) in (omega arith, omega arith))
-      (below-is v ok k (subst Exact (st .2) (exact-at (x .records) j (st .0) (x .exact) (st .1))) h)
+      (λ e. ⊎-elim (λ f. (omega arith, omega arith)) (λ f. (omega (arith, f .0), omega (arith, f .0))) (time-at j (subst (There j) e st)))
+      (λ e. let f = height-at j (subst (There j) e st) in (omega arith, omega arith))
+      (below-is v ok k (text-exact b x o j k st) h)
 
-  pub neighbours : Neighbours (x .records) i v
+  pub neighbours : Neighbours (x .records) o i v
   neighbours = record { height-next = height-at; time-next = time-at; no-other = no-other }

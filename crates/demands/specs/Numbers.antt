@@ -41,13 +41,32 @@ inManner Plain ns = 20 ∷ ns
 inManner Lenient ns = ns
 
 abbrev pub writeNumbers : Manner → List ℕ
-writeNumbers m = inManner m (9 ∷ 1 ∷ 2 ∷ 3 ∷ 17 ∷ 18 ∷ 19 ∷ 10 ∷ 6 ∷ 11 ∷ [])
+writeNumbers m = inManner m (9 ∷ 23 ∷ 1 ∷ 2 ∷ 3 ∷ 17 ∷ 18 ∷ 19 ∷ 10 ∷ 6 ∷ 11 ∷ [])
 
 abbrev pub removeNumbers : Manner → List ℕ
-removeNumbers m = inManner m (9 ∷ 1 ∷ 2 ∷ 3 ∷ 17 ∷ 18 ∷ 19 ∷ 10 ∷ 12 ∷ [])
+removeNumbers m = inManner m (9 ∷ 23 ∷ 1 ∷ 2 ∷ 3 ∷ 17 ∷ 18 ∷ 19 ∷ 10 ∷ 12 ∷ [])
 
 abbrev pub lookNumbers : Manner → List ℕ
-lookNumbers m = inManner m (9 ∷ 1 ∷ 2 ∷ 3 ∷ 17 ∷ 18 ∷ 19 ∷ 10 ∷ 4 ∷ 12 ∷ [])
+lookNumbers m = inManner m (9 ∷ 23 ∷ 1 ∷ 2 ∷ 3 ∷ 17 ∷ 18 ∷ 19 ∷ 10 ∷ 4 ∷ 12 ∷ [])
+
+-- making a book; converting one of version 1, and one of version 2; a client's oldest state; filling a table, and many lookups
+abbrev pub newNumbers : List ℕ
+newNumbers = 9 ∷ 11 ∷ []
+
+abbrev pub convertNumbers : List ℕ
+convertNumbers = 9 ∷ 4 ∷ []
+
+abbrev pub convertOwnersNumbers : List ℕ
+convertOwnersNumbers = 9 ∷ 4 ∷ 11 ∷ []
+
+abbrev pub oldestNumbers : List ℕ
+oldestNumbers = 9 ∷ 23 ∷ 2 ∷ 5 ∷ 6 ∷ 12 ∷ []
+
+abbrev pub fillNumbers : List ℕ
+fillNumbers = 9 ∷ 4 ∷ []
+
+abbrev pub manyNumbers : List ℕ
+manyNumbers = 9 ∷ 23 ∷ 22 ∷ 4 ∷ []
 
 -- the check of a name and an index, and that of an identifier that is such
 abbrev pub named : List ℕ

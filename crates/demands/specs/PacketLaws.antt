@@ -21,8 +21,8 @@ use Rattle.path.specs.declared.Reading.the-variants.{Refused as Unread}
 use Rattle.path.specs.declared.Refusal.the-variants.{NotAscii, NotAPath}
 use Rattle.path.specs.Read.{readPath, readFault, readingBytes, whyNot, refusalOf, placeOf}
 use Rattle.book_records.specs.Act.{Seen}
-use Rattle.book_records.specs.Calls.{Call}
-use Rattle.book_records.specs.Refusals.{Declined, not-ascii, not-a-path}
+use Rattle.book_records.specs.Calls.{Call, isOwner}
+use Rattle.book_records.specs.Refusals.{Declined, bad-owner, not-ascii, not-a-path}
 use Rattle.packet.specs.declared.KindAnswer.{KindAnswer}
 use Rattle.packet.specs.declared.KindAnswer.the-variants.{Kind, Unknown}
 use Rattle.packet.specs.declared.Packet.{Packet}
@@ -34,7 +34,7 @@ use Rattle.packet.specs.Key.{markerOf, kindMarked, packetKey, packet, cutPlace,
 use Rattle.packet.specs.KeyLaws.{kind-marker, marker-kind, no-kind, one-marker, key-length, client-there, read-written, key-one, key-reads, written-read, key-counted}
 use Rattle.packet.specs.PathLaws.{short-key, no-kind-fits, no-number, no-path}
 use Rattle.packet.specs.WayLaws.{read-short, read-marked, read-unknown, write-unknown, write-refused, write-text}
-use Rattle.demands.specs.BookCalls.{Does, permits-to}
+use Rattle.demands.specs.BookCalls.{Does, permits}
 use Rattle.demands.specs.Demand2Laws.{iff-yes, iff-no, wrote}
 use Rattle.demands.specs.Packeted.{IsMarker, Marked, WhenV2Read, WhenV2Written, IsPacket, Says}
 use Rattle.demands.specs.Held.{ProperBook}
@@ -233,17 +233,21 @@ module _ (key : List ℕ) (k : PacketKind) (c : List ℕ) (n : ℕ) (is : IsPack
   pub unread-key : readPath key ≡ Unread (cond (ascii key) NotAPath NotAscii)
   unread-key = rw (is .bytes) (no-path k c n (is .accepted))
 
-  pub declined-key : (a : Call) → a .text ≡ key → Declined a (cond (ascii key) 3 2)
-  declined-key a t = go (ascii key) refl
+  pub declined-key : (a : Call) → a .text ≡ key → Declined a (cond (isOwner (a .owner)) (cond (ascii key) 3 2) 23)
+  declined-key a t = whose (isOwner (a .owner)) refl
     where
       short : length (a .text) ≤ 4096
       short = rw (t, is .bytes) (short-key k c n (is .accepted))
 
-      go : (v : Bool) → ascii key ≡ v → Declined a (cond v 3 2)
-      go false z = not-ascii short (ap ascii t ∙ z)
-      go true z =
+      go : isOwner (a .owner) ≡ true → (v : Bool) → ascii key ≡ v → Declined a (cond v 3 2)
+      go w false z = not-ascii w short (ap ascii t ∙ z)
+      go w true z =
           let why : whyNot (a .text) ≡ NotAPath = rw (t, is .bytes) (no-number k c n (is .accepted)) in
-          subst (Declined a) (ap refusalOf why) (not-a-path short (ap ascii t ∙ z) (rw (t, is .bytes) (no-kind-fits k c n (is .accepted))))
+          subst (Declined a) (ap refusalOf why) (not-a-path w short (ap ascii t ∙ z) (rw (t, is .bytes) (no-kind-fits k c n (is .accepted))))
+
+      whose : (v : Bool) → isOwner (a .owner) ≡ v → Declined a (cond v (cond (ascii key) 3 2) 23)
+      whose true w = go w (ascii key) refl
+      whose false w = bad-owner w
 
 module _ (key : List ℕ) (b : Bytes key) (y : Packet) (e : y ≡ packetOf (packetIn key)) (z : y .refusal ≡ 0) where
   pub unread-fault : (room : ℕ) → readFault key room ≡ record { refusal = cond (ascii key) 3 2; place = 0 }
@@ -256,15 +260,16 @@ module _ (key : List ℕ) (b : Bytes key) (y : Packet) (e : y ≡ packetOf (pack
       go true = refl
       go false = refl
 
-  pub declined : (a : Call) → a .text ≡ key → (book : List ℕ) (s : Seen) (book₁ : List ℕ) → Does book a s book₁ → ProperBook book → s .number ≡ cond (ascii key) 3 2
+  pub declined : (a : Call) → a .text ≡ key → (book : List ℕ) (s : Seen) (book₁ : List ℕ) → Does book a s book₁ → ProperBook book → s .number ≡ cond (isOwner (a .owner)) (cond (ascii key) 3 2) 23
   declined a t book s book₁ did proper =
       let r = packet-read key b y e z in
       let d = declined-key key (r .0 .kind) (take (r .0 .length) key) (r .0 .sequence .0) (is-packet key b y e (r .0) (r .1)) a t in
-      refused-exactly book a s book₁ (permits-to (a .manner) (a .asked) book (a .text) s book₁ did) (cond (ascii key) 3 2) (nonzero (ascii key)) .1 (refusals.declined proper d)
+      refused-exactly book a s book₁ (permits book a s book₁ did) (cond (isOwner (a .owner)) (cond (ascii key) 3 2) 23) (nonzero (isOwner (a .owner)) (ascii key)) .1 (refusals.declined proper d)
     where
-      nonzero : (v : Bool) → _≡_ {A = ℕ} (cond v 3 2) 0 → ⊥
-      nonzero true q = omega (arith, q)
-      nonzero false q = omega (arith, q)
+      nonzero : (w v : Bool) → _≡_ {A = ℕ} (cond w (cond v 3 2) 23) 0 → ⊥
+      nonzero false v q = omega (arith, q)
+      nonzero true true q = omega (arith, q)
+      nonzero true false q = omega (arith, q)
 
 -- ---- demand 1
 read-listed : (key : List ℕ) → Listed packetReads (packetOf (packetIn key) .refusal)

@@ -11,10 +11,10 @@ use Rattle.text.specs.declared.Fault.{Fault}
 use Rattle.text.specs.declared.Written.{Written}
 use Rattle.text.specs.Number.{Bytes}
 use Rattle.text.specs.Part.{ascii}
-use Rattle.text.specs.Refusal.{notAscii, notAPath}
+use Rattle.text.specs.Refusal.{notAscii, notAPath, badOwner}
 use Rattle.identifiers.specs.Check.{checkOf, client}
 use Rattle.book_records.specs.Act.{Seen}
-use Rattle.book_records.specs.Calls.{Call}
+use Rattle.book_records.specs.Calls.{Call, isOwner}
 use Rattle.packet.specs.declared.Packet.{Packet}
 use Rattle.packet.specs.declared.PacketKind.{PacketKind}
 use Rattle.packet.specs.Key.{markerOf, packetKey}
@@ -62,11 +62,11 @@ one-key j m c d n p a b o u x y o₁ u₁ one two v w e =
     let t = laws.written-done m d p u y u₁ (writing-packet two .0) (writing-packet two .1) w in
     laws.one-key j m c d n p a b (s .0) (t .0) (s .1) (t .1) (sym (s .3 .shown) ∙ e ∙ t .3 .shown)
 
--- ---- "These keys stay outside the book": none of them is a path, and every call of a book on one is refused, as on any such text. 2 where a
--- byte of its sequence is 128 or more, and else 3
+-- ---- "These keys stay outside the book": none of them is a path, and every call of a book on one is refused, as on any such text. Of an
+-- owner 2 where a byte of its sequence is 128 or more, and else 3
 module _ (key : List ℕ) (b : Bytes key) (y : Packet) (read : V2ReadCall key y) (z : y .refusal ≡ 0) where
   pub no-path : (out : List ℕ) (f : Fault) (out₁ : List ℕ) → ReadCall key out f out₁ → f ≡ record { refusal = cond (ascii key) notAPath notAscii; place = 0 }
   no-path out f out₁ call = reading call .0 ∙ laws.unread-fault key b y (reading-packet read) z (length out)
 
-  pub no-book-takes-it : (a : Call) → a .text ≡ key → (book : List ℕ) (s : Seen) (book₁ : List ℕ) → Does book a s book₁ → ProperBook book → s .number ≡ cond (ascii key) notAPath notAscii
+  pub no-book-takes-it : (a : Call) → a .text ≡ key → (book : List ℕ) (s : Seen) (book₁ : List ℕ) → Does book a s book₁ → ProperBook book → s .number ≡ cond (isOwner (a .owner)) (cond (ascii key) notAPath notAscii) badOwner
   no-book-takes-it a t book s book₁ did proper = laws.declined key b y (reading-packet read) z a t book s book₁ did proper

@@ -1,18 +1,21 @@
--- What demands 2 and 3 refuse: useless readers, renderers and writers of keys, and useless books, each with the line that it breaks. And that demand 3
--- is not empty: every list has a run.
+-- What demands 2 and 3 and isolation refuse: useless readers, renderers and writers of keys, and useless books, each with the line that it breaks.
+-- And that demand 3 is not empty: every list has a run.
 -- Assumes nothing.
 use Prim.Native.Nat.{ℕ, zero, suc, _-_, _*_, _≤_, _<_}
 use mathlib.Core.Path.{_≡_, refl, sym, ap, subst, _∙_}
-use mathlib.Core.Bool.{true}
+use mathlib.Core.Bool.{Bool, true, false, and-false}
 use mathlib.Core.Logic.{_⊎_, inl, inr, ⊎-elim}
 use mathlib.Core.List.{List, [], _∷_, _++_}
 use mathlib.Core.Option.{Option, none, some}
 use native.Mathlib.Omega.{arith}
+use lib.Dec.{eqb}
 use lib.ListN.{length, getD, take}
+use borrow.Author.Tests.{eqb-true}
 use Rattle.text.specs.Bytes.{bytes}
 use Rattle.text.specs.Put.{text}
 use Rattle.text.specs.declared.Fault.{Fault}
 use Rattle.text.specs.declared.Written.{Written}
+use Rattle.path.specs.declared.Pair.{Pair}
 use Rattle.path.specs.declared.Path.{Path}
 use Rattle.path.specs.declared.Path.the-variants.{Ports, UpgradeClientState}
 use Rattle.path.specs.declared.Reading.the-variants.{Read, Refused as Unread}
@@ -26,15 +29,19 @@ use Rattle.path.specs.ReadLaws.{reads-one}
 use Rattle.path.specs.BackLaws.{exact-renders, read-short, read-ascii, read-reads}
 use Rattle.demands.specs.Cases.{Outcome, gives, cases-hold}
 use Rattle.runs.specs.Runs.{Runs, stop, next, before}
+use Rattle.runs.specs.Without.{without, answersWithout}
+use Rattle.book_form.specs.declared.Quotas.{Quotas}
 use Rattle.book_form.specs.Form.{layout, slots, zeros}
 use Rattle.book_form.specs.FormLaws.{length-zeros}
+use Rattle.text.specs.Order.{cmp}
 use Rattle.text.specs.OrderLaws.{cmp-self}
 use Rattle.book_records.specs.Records.{Key, get, put}
-use Rattle.book_records.specs.Act.{writes, act, done, Seen, seen}
+use Rattle.book_records.specs.Act.{Rec, writes, act, says, done, countBy, Seen, seen}
 use Rattle.book_records.specs.declared.Manner.the-variants.{Plain}
-use Rattle.book_records.specs.Calls.{Call, write, remove, look, meaning, ValueFits}
+use Rattle.book_records.specs.Calls.{Asked, to-write, to-remove, to-look, Call, write, remove, look, isOwner, ownerOf, PathOf, meaning, ValueFits}
 use Rattle.book.specs.Book.{Current, acts}
-use Rattle.demands.specs.Held.{Holds, isWrite, ProperBook}
+use Rattle.book.specs.Outcome.{quotas}
+use Rattle.demands.specs.Held.{Holds, isWrite, writesIn, free, Room, ProperBook}
 use Rattle.demands.specs.Permitted.{Permitted}
 use Rattle.book_records.specs.CallLaws.{writing-means, one-path}
 use Rattle.demands.specs.HeldLaws.{one-held}
@@ -45,6 +52,7 @@ use Rattle.demands.specs.Told.{told}
 use Rattle.demands.specs.Rendered.{Fine}
 use Rattle.demands.specs.Demand2.{Demand2}
 use Rattle.demands.specs.Demand3.{Taken, AcceptedAt, Demand3}
+use Rattle.demands.specs.Isolation.{call, Reply, seen as reply, pair, called, Any, Alone, Isolation}
 
 -- every list of calls on every book has a run
 pub run-exists : (b : List ℕ) → ProperBook b → (cs : List Call) → (rs : List Seen) × (b₁ : List ℕ) × Runs Permitted b cs rs b₁
@@ -54,16 +62,25 @@ run-exists b x (c ∷ cs) =
     let r = run-exists (p .1) (keeps-book b c (p .0) (p .1) (p .2) x) cs in
     (p .0 ∷ r .0, r .1, next (p .2) (r .2))
 
--- ---- a book of two slots without records, a path and a value
+-- ---- a book of two slots without records, one for each owner, a path and a value
+abbrev ones : Quotas
+ones = quotas 1 1
+
 abbrev two : List ℕ
-two = layout Current 2 tt []
+two = layout Current 2 ones []
 
 empty : ProperBook two
-empty = record { slots = 2; extra = tt; records = []; least = omega arith; most = omega arith; fit = tt; exact = tt; sorted = tt; few = omega arith; bytes = refl }
+unfolding countBy
+empty = record { slots = 2; extra = ones; records = []; least = omega arith; most = omega arith; fit = tt; exact = tt; sorted = tt; quotas = omega arith; within = λ o. omega arith; bytes = refl }
 
-one-of-two : 1 ≤ empty .slots - length (empty .records)
-unfolding empty
-one-of-two = omega arith
+-- it has room for a list with one write, where that is owner 1's
+one-room : (cs : List Call) → writesIn 1 cs ≡ 1 → ((o : ℕ) → eqb 1 o ≡ false → writesIn o cs ≡ 0) → Room empty cs
+unfolding empty countBy
+one-room cs e f o = go (eqb 1 o) refl
+  where
+    go : (v : Bool) → eqb 1 o ≡ v → writesIn o cs ≤ free empty o
+    go true h = let z : 1 ≡ o = eqb-true 1 o h in rw (← z) (omega (arith, e))
+    go false h = omega (arith, f o h)
 
 no-records : empty .records ≡ []
 unfolding empty
@@ -86,21 +103,28 @@ abbrev value : List ℕ
 value = zeros 32
 
 -- the write of that value under that path, and what it does on the empty book
+abbrev own : Key
+own = 1 ∷ port
+
 abbrev W : Call
-W = write Plain port value
+W = write Plain 1 port value
 
 sized : ValueFits value
 sized = record { least = omega (arith, length-zeros 32); most = omega (arith, length-zeros 32) }
 
-write-means : meaning W ≡ writes port value
-write-means = writing-means W port value (record { asked = refl; key = record { path = port-key; spelled = port-key; fits = omega arith }; size = sized })
+-- the path of each call of owner 1's on that text
+own-path : (q : Asked) → PathOf (record { manner = Plain; owner = 1; text = port; asked = q }) own
+own-path q = record { rendering = port; known = refl; renders = port-key; is = refl }
+
+write-means : meaning W ≡ writes own value
+write-means = writing-means W own value (record { asked = refl; key = record { path = own-path (to-write value); spelled = port-key; fits = omega arith }; size = sized })
 
 -- the write is accepted there, and the record then stands in the book
 abbrev filled : List ℕ
-filled = layout Current 2 tt ((port, value) ∷ [])
+filled = layout Current 2 ones ((own, value) ∷ [])
 
-acted : acts empty (meaning W) ≡ (done, (port, value) ∷ [])
-unfolding empty act get put
+acted : acts empty (meaning W) ≡ (done, (own, value) ∷ [])
+unfolding empty act get put countBy
 acted = rw write-means
 
 pub writes-port : (a : Seen) (b₁ : List ℕ) → Permitted two W a b₁ → (a ≡ seen done) × (b₁ ≡ filled)
@@ -108,7 +132,7 @@ unfolding empty
 writes-port a b₁ p =
     let q = permitted-book two W a b₁ empty p in
     let e = acted in
-    (q .0 ∙ ap (λ (y : _). seen (y .0)) e, q .1 ∙ ap (λ (y : _). layout Current 2 tt (y .1)) e)
+    (q .0 ∙ ap (λ (y : _). seen (y .0)) e, q .1 ∙ ap (λ (y : _). layout Current 2 ones (y .1)) e)
 
 port-written : Permitted two W (seen done) filled
 port-written =
@@ -136,19 +160,19 @@ ignored =
       calls = W ∷ [];
       start = two;
       book = empty;
-      room = one-of-two;
+      room = one-room (W ∷ []) refl (λ o e. rw (e, and-false (isOwner o)));
       answers = seen done ∷ [];
       end = two;
       run = next write-lost stop;
     }
 
 pub ignores-refused : ((x : Taken Ignores) → Demand3 Ignores x) → ⊥
-ignores-refused h = none-before port value (h ignored .last-accepted port 0 (record { here = here; none-later = later }))
+ignores-refused h = none-before own value (h ignored .last-accepted own 0 (record { here = here; none-later = later }))
   where
-    here : AcceptedAt Ignores ignored port 0
-    here = record { made = record { call = W; answer = seen done; there = refl; said = refl }; path = port-key; accepted = (tt, refl) }
+    here : AcceptedAt Ignores ignored own 0
+    here = record { made = record { call = W; answer = seen done; there = refl; said = refl }; path = own-path (to-write value); accepted = (tt, refl) }
 
-    later : (j : ℕ) → 0 < j → AcceptedAt Ignores ignored port j → ⊥
+    later : (j : ℕ) → 0 < j → AcceptedAt Ignores ignored own j → ⊥
     later zero l u = omega arith
     later (suc j) l u = let e = u .made .there in let z : _≡_ {A = ℕ} 0 1 = cc in omega arith
 
@@ -170,7 +194,7 @@ module _ (r : ℕ) (nz : r ≡ 0 → ⊥) where
         calls = W ∷ [];
         start = two;
         book = empty;
-        room = one-of-two;
+        room = one-room (W ∷ []) refl (λ o e. rw (e, and-false (isOwner o)));
         answers = no ∷ [];
         end = two;
         run = next write-away stop;
@@ -187,40 +211,61 @@ pub data Once (b : List ℕ) (c : Call) (a : Seen) (b₁ : List ℕ) : Type 0 wh
   first-call : (x : ProperBook b) → x .records ≡ [] → Permitted b c a b₁ → Once b c a b₁
   later-call : (x : ProperBook b) → (x .records ≡ [] → ⊥) → a ≡ seen done → b₁ ≡ b → Once b c a b₁
 
+one-within : (o : ℕ) → countBy ownerOf o ((own, value) ∷ []) ≤ Current .quota ones 2 o
+unfolding countBy
+one-within o = go (eqb 1 o) refl
+  where
+    go : (v : Bool) → eqb 1 o ≡ v → countBy ownerOf o ((own, value) ∷ []) ≤ Current .quota ones 2 o
+    go true h = let z : 1 ≡ o = eqb-true 1 o h in rw (← z) (omega arith)
+    go false h = rw h (omega arith)
+
 one-record : ProperBook filled
-one-record = record { slots = 2; extra = tt; records = (port, value) ∷ []; least = omega arith; most = omega arith; fit = ((omega arith, sized), tt); exact = (port-key, tt); sorted = (tt, tt); few = omega arith; bytes = refl }
+one-record =
+    record {
+      slots = 2;
+      extra = ones;
+      records = (own, value) ∷ [];
+      least = omega arith;
+      most = omega arith;
+      fit = ((omega arith, omega arith, sized), tt);
+      exact = ((refl, port-key), tt);
+      sorted = (tt, tt);
+      quotas = omega arith;
+      within = one-within;
+      bytes = refl;
+    }
 
 has-record : one-record .records ≡ [] → ⊥
 unfolding one-record
 has-record e = let z : _≡_ {A = ℕ} 0 1 = cc in omega arith
 
-still-there : Holds filled port none → ⊥
+still-there : Holds filled own none → ⊥
 unfolding one-record get
-still-there h = let e : some value ≡ none = one-held (record { book = one-record; is = rw (cmp-self port) }) h in let z : _≡_ {A = ℕ} 0 1 = cc in omega arith
+still-there h = let e : some value ≡ none = one-held (record { book = one-record; is = rw (cmp-self own) }) h in let z : _≡_ {A = ℕ} 0 1 = cc in omega arith
 
-not-empty : Holds filled port (some []) → ⊥
+not-empty : Holds filled own (some []) → ⊥
 unfolding one-record get
-not-empty h = let e : some value ≡ some [] = one-held (record { book = one-record; is = rw (cmp-self port) }) h in let z : _≡_ {A = ℕ} 0 1 = cc in omega arith
+not-empty h = let e : some value ≡ some [] = one-held (record { book = one-record; is = rw (cmp-self own) }) h in let z : _≡_ {A = ℕ} 0 1 = cc in omega arith
 
 abbrev obeyed-once : Taken Once
 obeyed-once =
     record {
-      calls = W ∷ remove Plain port ∷ [];
+      calls = W ∷ remove Plain 1 port ∷ [];
       start = two;
       book = empty;
-      room = one-of-two;
+      room = one-room (W ∷ remove Plain 1 port ∷ []) refl (λ o e. rw (e, and-false (isOwner o)));
       answers = seen done ∷ seen done ∷ [];
       end = filled;
       run = next (first-call empty no-records port-written) (next (later-call one-record has-record refl refl) stop);
     }
 
 pub once-refused : ((x : Taken Once) → Demand3 Once x) → ⊥
-once-refused h = still-there (h obeyed-once .last-accepted port 1 (record { here = here; none-later = later }))
+once-refused h = still-there (h obeyed-once .last-accepted own 1 (record { here = here; none-later = later }))
   where
-    here : AcceptedAt Once obeyed-once port 1
-    here = record { made = record { call = remove Plain port; answer = seen done; there = refl; said = refl }; path = port-key; accepted = (tt, refl) }
+    here : AcceptedAt Once obeyed-once own 1
+    here = record { made = record { call = remove Plain 1 port; answer = seen done; there = refl; said = refl }; path = own-path to-remove; accepted = (tt, refl) }
 
-    later : (j : ℕ) → 1 < j → AcceptedAt Once obeyed-once port j → ⊥
+    later : (j : ℕ) → 1 < j → AcceptedAt Once obeyed-once own j → ⊥
     later zero l u = omega arith
     later (suc zero) l u = omega arith
     later (suc (suc j)) l u = let e = u .made .there in let z : _≡_ {A = ℕ} 0 1 = cc in omega arith
@@ -229,10 +274,10 @@ once-refused h = still-there (h obeyed-once .last-accepted port 1 (record { here
 abbrev asked-once : Taken Once
 asked-once =
     record {
-      calls = W ∷ look Plain port 64 ∷ [];
+      calls = W ∷ look Plain 1 port 64 ∷ [];
       start = two;
       book = empty;
-      room = one-of-two;
+      room = one-room (W ∷ look Plain 1 port 64 ∷ []) refl (λ o e. rw (e, and-false (isOwner o)));
       answers = seen done ∷ seen done ∷ [];
       end = filled;
       run = next (first-call empty no-records port-written) (next (later-call one-record has-record refl refl) stop);
@@ -241,15 +286,15 @@ asked-once =
 pub once-gives-refused : ((x : Taken Once) → Demand3 Once x) → ⊥
 unfolding before
 once-gives-refused h =
-    let g = h asked-once .lookup-gives 1 (record { call = look Plain port 64; answer = seen done; there = refl; said = refl }) tt refl in
-    not-empty (subst (λ (k : Key). Holds filled k (some [])) (one-path (look Plain port 64) (g .0) port (g .1) port-key) (g .2))
+    let g = h asked-once .lookup-gives 1 (record { call = look Plain 1 port 64; answer = seen done; there = refl; said = refl }) tt refl in
+    not-empty (subst (λ (k : Key). Holds filled k (some [])) (one-path (look Plain 1 port 64) (g .0) own (g .1) (own-path (to-look 64))) (g .2))
 
 -- ---- a book whose count is not the number of its keys: the header says one more. It breaks `stays-a-book`
 pub record Miscounts (b : List ℕ) (c : Call) (a : Seen) (b₁ : List ℕ) : Type 0 where
   pub meant : List ℕ
   pub answered : Permitted b c a meant
   pub book : ProperBook meant
-  pub left : b₁ ≡ Current .header tt (suc (length (book .records))) ++ (slots Current (book .records) ++ zeros (Current .width * (book .slots - length (book .records))))
+  pub left : b₁ ≡ Current .header (book .extra) (suc (length (book .records))) ++ (slots Current (book .records) ++ zeros (Current .width * (book .slots - length (book .records))))
 
 abbrev miscounted : Taken Miscounts
 miscounted =
@@ -257,16 +302,93 @@ miscounted =
       calls = W ∷ [];
       start = two;
       book = empty;
-      room = one-of-two;
+      room = one-room (W ∷ []) refl (λ o e. rw (e, and-false (isOwner o)));
       answers = seen done ∷ [];
-      end = Current .header tt (suc (length (one-record .records))) ++ (slots Current (one-record .records) ++ zeros (Current .width * (one-record .slots - length (one-record .records))));
+      end = Current .header (one-record .extra) (suc (length (one-record .records))) ++ (slots Current (one-record .records) ++ zeros (Current .width * (one-record .slots - length (one-record .records))));
       run = next (record { meant = filled; answered = port-written; book = one-record; left = refl }) stop;
     }
 
 pub miscounts-refused : ((x : Taken Miscounts) → Demand3 Miscounts x) → ⊥
 miscounts-refused h =
-    let e = count-right (suc (length (one-record .records))) (Current .width * (one-record .slots - length (one-record .records))) (one-record .records) (one-record .fit) (one-record .exact) (h miscounted .stays-a-book) in
+    let e = count-right (one-record .extra) (suc (length (one-record .records))) (Current .width * (one-record .slots - length (one-record .records))) (one-record .records) (one-record .fit) (one-record .exact) (h miscounted .stays-a-book) in
     omega (arith, e)
+
+-- ---- a book in which one owner's writes take the other's slots: FULL is given where the whole count equals the number of slots. It breaks
+-- `same-answers` of isolation
+abbrev allFull : ℕ → Key → List Rec → Bool
+allFull C k s = eqb (length s) C
+
+pub record Takes (b : List ℕ) (c : Call) (a : Seen) (b₁ : List ℕ) : Type 0 where
+  pub slots : ℕ
+  pub extra : Quotas
+  pub records : List Rec
+  pub bytes : b ≡ layout Current slots extra records
+  pub answered : a ≡ seen (act (allFull slots) (meaning c) records .0)
+  pub left : b₁ ≡ layout Current slots extra (act (allFull slots) (meaning c) records .1)
+
+-- a book of one slot, which is owner 2's, and the write of each owner
+abbrev second : Quotas
+second = quotas 0 1
+
+abbrev one : List ℕ
+one = layout Current 1 second []
+
+one-slot : ProperBook one
+unfolding countBy
+one-slot = record { slots = 1; extra = second; records = []; least = omega arith; most = omega arith; fit = tt; exact = tt; sorted = tt; quotas = omega arith; within = λ o. omega arith; bytes = refl }
+
+abbrev other : Call
+other = write Plain 2 port value
+
+other-means : meaning other ≡ writes (2 ∷ port) value
+other-means = writing-means other (2 ∷ port) value (record { asked = refl; key = record { path = record { rendering = port; known = refl; renders = port-key; is = refl }; spelled = port-key; fits = omega arith }; size = sized })
+
+abbrev taken-slot : List ℕ
+taken-slot = layout Current 1 second ((own, value) ∷ [])
+
+-- owner 1's write is accepted, and then owner 2's refused with 11; alone it is accepted
+takes-slot : Takes one W (seen done) taken-slot
+unfolding act get put
+takes-slot = record { slots = 1; extra = second; records = []; bytes = refl; answered = rw write-means; left = rw write-means }
+
+no-slot-left : Takes taken-slot other (seen (says 11)) taken-slot
+unfolding act get put cmp
+no-slot-left = record { slots = 1; extra = second; records = (own, value) ∷ []; bytes = refl; answered = rw other-means; left = rw other-means }
+
+own-slot : Takes one other (seen done) (layout Current 1 second ((2 ∷ port, value) ∷ []))
+unfolding act get put
+own-slot = record { slots = 1; extra = second; records = []; bytes = refl; answered = rw other-means; left = rw other-means }
+
+-- no call of `oldest` is made
+abbrev Silent : List ℕ → ℕ → List ℕ → Pair → Type 0
+Silent b o client p = ⊥
+
+abbrev shared : Any Takes Silent
+shared =
+    record {
+      events = call W ∷ call other ∷ [];
+      start = one;
+      book = one-slot;
+      replies = reply (seen done) ∷ reply (seen (says 11)) ∷ [];
+      end = taken-slot;
+      run = next (called takes-slot) (next (called no-slot-left) stop);
+    }
+
+alone : Alone Takes Silent shared 1
+unfolding without
+alone = record { replies = reply (seen done) ∷ []; end = layout Current 1 second ((2 ∷ port, value) ∷ []); run = next (called own-slot) stop }
+
+firstNumber : List Reply → ℕ
+firstNumber [] = 0
+firstNumber (reply a ∷ rs) = a .number
+firstNumber (pair p ∷ rs) = 0
+
+pub takes-refused : ((x : Any Takes Silent) (o : ℕ) → Isolation Takes Silent x o) → ⊥
+unfolding alone answersWithout firstNumber
+takes-refused h =
+    let e : reply (seen (says 11)) ∷ [] ≡ reply (seen done) ∷ [] = h shared 1 .same-answers alone in
+    let z : _≡_ {A = ℕ} 11 0 = ap firstNumber e in
+    omega arith
 
 -- ---- a second text that reads, and two kinds without identifiers
 abbrev upgrade : List ℕ

@@ -8,6 +8,7 @@ use Rattle.book.specs.Book.{Current}
 use Rattle.book.specs.BookLaws.{lawful}
 use Rattle.book.specs.OutcomeLaws.{one-changed, one-found, one-made}
 use Rattle.book_convert.specs.ConvertLaws.{one-converted}
+use Rattle.book_convert.specs.OwnersLaws.{one-owners}
 use Rattle.book_oldest.specs.OldestLaws.{one-oldest}
 use Rattle.book_table.specs.OneLaws.{one-fills, one-many}
 use Rattle.hostpath.proofs.hp_validate_identifier_chars.Reads as hp-validate-identifier-chars
@@ -72,6 +73,7 @@ use Rattle.hostpath.proofs.hp_book_lookup.Reads as hp-book-lookup
 use Rattle.hostpath.proofs.hp_book_lookup_lenient.Reads as hp-book-lookup-lenient
 use Rattle.hostpath.proofs.hp_book_oldest.Reads as hp-book-oldest
 use Rattle.hostpath.proofs.hp_book_convert.Reads as hp-book-convert
+use Rattle.hostpath.proofs.hp_book_convert_owners.Reads as hp-book-convert-owners
 use Rattle.hostpath.proofs.hp_book_fill.Reads as hp-book-fill
 use Rattle.hostpath.proofs.hp_book_lookup_many.Reads as hp-book-lookup-many
 use Rattle.hostpath.proofs.hp_refusal_text.Reads as hp-refusal-text
@@ -236,7 +238,7 @@ pub one-hp-wide-receipts-path : OneWith hp-wide-receipts-path.Post (λ κs s. no
 one-hp-wide-receipts-path κs a r₁ r₂ s₁ s₂ p q = agree p q
 
 pub one-hp-book-new : OneWith hp-book-new.Post (λ κs s. now (s .0))
-one-hp-book-new κs a r₁ r₂ s₁ s₂ p q = one-made lawful tt _ _ _ _ _ p q
+one-hp-book-new κs a r₁ r₂ s₁ s₂ p q = one-made lawful _ _ _ _ _ _ p q
 
 pub one-hp-book-write : OneWith hp-book-write.Post (λ κs s. now (s .0))
 one-hp-book-write κs a r₁ r₂ s₁ s₂ p q = one-changed lawful p q
@@ -244,7 +246,7 @@ one-hp-book-write κs a r₁ r₂ s₁ s₂ p q = one-changed lawful p q
 pub one-hp-book-remove : OneWith hp-book-remove.Post (λ κs s. now (s .0))
 one-hp-book-remove κs a r₁ r₂ s₁ s₂ p q = one-changed lawful p q
 
-pub one-hp-book-lookup : OneWith hp-book-lookup.Post (λ κs s. now (s .1 .1 .0))
+pub one-hp-book-lookup : OneWith hp-book-lookup.Post (λ κs s. now (s .1 .1 .1 .0))
 one-hp-book-lookup κs a r₁ r₂ s₁ s₂ p q = one-found lawful p q
 
 pub one-hp-book-write-lenient : OneWith hp-book-write-lenient.Post (λ κs s. now (s .0))
@@ -253,20 +255,23 @@ one-hp-book-write-lenient κs a r₁ r₂ s₁ s₂ p q = one-changed lawful p q
 pub one-hp-book-remove-lenient : OneWith hp-book-remove-lenient.Post (λ κs s. now (s .0))
 one-hp-book-remove-lenient κs a r₁ r₂ s₁ s₂ p q = one-changed lawful p q
 
-pub one-hp-book-lookup-lenient : OneWith hp-book-lookup-lenient.Post (λ κs s. now (s .1 .1 .0))
+pub one-hp-book-lookup-lenient : OneWith hp-book-lookup-lenient.Post (λ κs s. now (s .1 .1 .1 .0))
 one-hp-book-lookup-lenient κs a r₁ r₂ s₁ s₂ p q = one-found lawful p q
 
 pub one-hp-book-oldest : One hp-book-oldest.Post
-one-hp-book-oldest κs a r₁ r₂ s₁ s₂ p q = one-oldest Current lawful _ _ _ _ p q
+one-hp-book-oldest κs a r₁ r₂ s₁ s₂ p q = one-oldest Current lawful _ _ _ _ _ p q
 
 -- the second buffer
 pub one-hp-book-convert : OneWith hp-book-convert.Post (λ κs s. now (s .1 .0))
 one-hp-book-convert κs a r₁ r₂ s₁ s₂ p q = one-converted p q
 
+pub one-hp-book-convert-owners : OneWith hp-book-convert-owners.Post (λ κs s. now (s .1 .0))
+one-hp-book-convert-owners κs a r₁ r₂ s₁ s₂ p q = one-owners p q
+
 pub one-hp-book-fill : OneWith hp-book-fill.Post (λ κs s. now (s .1 .0))
 one-hp-book-fill κs a r₁ r₂ s₁ s₂ p q = one-fills Current lawful p q
 
-pub one-hp-book-lookup-many : OneWith hp-book-lookup-many.Post (λ κs s. now (s .1 .1 .1 .0))
+pub one-hp-book-lookup-many : OneWith hp-book-lookup-many.Post (λ κs s. now (s .1 .1 .1 .1 .0))
 one-hp-book-lookup-many κs a r₁ r₂ s₁ s₂ p q = one-many Current lawful p q
 
 pub one-hp-refusal-text : OneWith hp-refusal-text.Post (λ κs s. now (s .1 .0))

@@ -36,8 +36,8 @@ ghost use Rattle.wide.specs.Read.{readFaultIn, readingBytesIn, keyIn};
 ghost use Rattle.wide.specs.Render.{renderIn, textIn};
 ghost use Rattle.book_records.specs.declared.Manner.the-variants.{Plain, Lenient};
 ghost use Rattle.book.specs.Book.{Current};
-ghost use Rattle.book.specs.Outcome.{Recorded, Removed, Looked, Made};
-ghost use Rattle.book_convert.specs.Convert.{Converted};
+ghost use Rattle.book.specs.Outcome.{Recorded, Removed, Looked, Made, quotas};
+ghost use Rattle.book_convert.specs.Convert.{Converted, ConvertedOwners};
 ghost use Rattle.book_oldest.specs.Oldest.{Oldest};
 ghost use Rattle.book_table.specs.Many.{Fills, LooksMany};
 
@@ -549,71 +549,77 @@ pub extern "C" fn hp_wide_receipts_path(port: &[u8], channel: &[u8], out: &mut [
 
 // Books.
 
-// Makes the buffer, whatever it holds, a book of version 2 without records; its size alone is looked at: 9.
+// Makes the buffer, whatever it holds, a book of version 3 without records, in which owner 1 may have quota1 of them and owner 2
+// quota2; its size alone is looked at: 9, then 11 where the quotas sum to more than its slots.
 #[no_mangle]
-pub extern "C" fn hp_book_new(book: &mut [u8]) -> u8
-    ensures { λ r. ⌜ Made Current tt (now (book .entry)) r (now (book .exit)) ⌝ }
+pub extern "C" fn hp_book_new(book: &mut [u8], quota1: u16, quota2: u16) -> u8
+    ensures { λ r. ⌜ Made Current (quotas quota1 quota2) (now (book .entry)) r (now (book .exit)) ⌝ }
 {
-    book::new_book(book)
+    book::new_book(book, quota1, quota2)
 }
 
-// The text, which is its own rendering, holds the value from now on, anew or in place of what it held:
-// 9, 1, 2, 3 (17, 18, 19), 20, 10, 6, 11.
+// The owner's text, which is its own rendering, holds the value from now on, anew or in place of what it held:
+// 9, 23, 1, 2, 3 (17, 18, 19), 20, 10, 6, then 11 where it is new and the owner has as many records as its quota.
 #[no_mangle]
-pub extern "C" fn hp_book_write(book: &mut [u8], text: &[u8], value: &[u8]) -> u8
-    ensures { λ r. ⌜ Recorded Current Plain (now (book .entry)) (now (text .entry)) (now (value .entry)) r (now (book .exit)) ⌝ }
+pub extern "C" fn hp_book_write(book: &mut [u8], owner: u8, text: &[u8], value: &[u8]) -> u8
+    ensures { λ r. ⌜ Recorded Current Plain (now (book .entry)) owner (now (text .entry)) (now (value .entry)) r (now (book .exit)) ⌝ }
 {
-    book::write(Manner::Plain, book, text, value)
+    book::write(Manner::Plain, book, owner, text, value)
 }
 
-// The text, which is its own rendering, holds nothing from now on: 9, 1, 2, 3 (17, 18, 19), 20, 10, 12.
+// The owner's text, which is its own rendering, holds nothing from now on: 9, 23, 1, 2, 3 (17, 18, 19), 20, 10, 12.
 #[no_mangle]
-pub extern "C" fn hp_book_remove(book: &mut [u8], text: &[u8]) -> u8
-    ensures { λ r. ⌜ Removed Current Plain (now (book .entry)) (now (text .entry)) r (now (book .exit)) ⌝ }
+pub extern "C" fn hp_book_remove(book: &mut [u8], owner: u8, text: &[u8]) -> u8
+    ensures { λ r. ⌜ Removed Current Plain (now (book .entry)) owner (now (text .entry)) r (now (book .exit)) ⌝ }
 {
-    book::remove(Manner::Plain, book, text)
+    book::remove(Manner::Plain, book, owner, text)
 }
 
-// What the text, which is its own rendering, holds, 1 to 64 bytes; wants room for 64 whatever it holds:
-// 9, 1, 2, 3 (17, 18, 19), 20, 10, 4, 12.
+// What the owner's text, which is its own rendering, holds, 1 to 64 bytes; wants room for 64 whatever it holds:
+// 9, 23, 1, 2, 3 (17, 18, 19), 20, 10, 4, 12.
 #[no_mangle]
-pub extern "C" fn hp_book_lookup(book: &[u8], text: &[u8], out: &mut [u8]) -> Written
-    ensures { λ r. ⌜ Looked Current Plain (now (book .entry)) (now (text .entry)) (now (out .entry)) r (now (out .exit)) ⌝ }
+pub extern "C" fn hp_book_lookup(book: &[u8], owner: u8, text: &[u8], out: &mut [u8]) -> Written
+    ensures { λ r. ⌜ Looked Current Plain (now (book .entry)) owner (now (text .entry)) (now (out .entry)) r (now (out .exit)) ⌝ }
 {
-    book::lookup(Manner::Plain, book, text, out)
+    book::lookup(Manner::Plain, book, owner, text, out)
 }
 
-// As hp_book_write, on the rendering of the text, for importers that pad their heights: 9, 1, 2, 3 (17, 18, 19), 10, 6, 11.
+// As hp_book_write, on the rendering of the text, for importers that pad their heights: 9, 23, 1, 2, 3 (17, 18, 19), 10, 6, 11.
 #[no_mangle]
-pub extern "C" fn hp_book_write_lenient(book: &mut [u8], text: &[u8], value: &[u8]) -> u8
-    ensures { λ r. ⌜ Recorded Current Lenient (now (book .entry)) (now (text .entry)) (now (value .entry)) r (now (book .exit)) ⌝ }
+pub extern "C" fn hp_book_write_lenient(book: &mut [u8], owner: u8, text: &[u8], value: &[u8]) -> u8
+    ensures { λ r. ⌜ Recorded Current Lenient (now (book .entry)) owner (now (text .entry)) (now (value .entry)) r (now (book .exit)) ⌝ }
 {
-    book::write(Manner::Lenient, book, text, value)
+    book::write(Manner::Lenient, book, owner, text, value)
 }
 
-// As hp_book_remove, on the rendering of the text, for importers that pad their heights: 9, 1, 2, 3 (17, 18, 19), 10, 12.
+// As hp_book_remove, on the rendering of the text, for importers that pad their heights: 9, 23, 1, 2, 3 (17, 18, 19), 10, 12.
 #[no_mangle]
-pub extern "C" fn hp_book_remove_lenient(book: &mut [u8], text: &[u8]) -> u8
-    ensures { λ r. ⌜ Removed Current Lenient (now (book .entry)) (now (text .entry)) r (now (book .exit)) ⌝ }
+pub extern "C" fn hp_book_remove_lenient(book: &mut [u8], owner: u8, text: &[u8]) -> u8
+    ensures { λ r. ⌜ Removed Current Lenient (now (book .entry)) owner (now (text .entry)) r (now (book .exit)) ⌝ }
 {
-    book::remove(Manner::Lenient, book, text)
+    book::remove(Manner::Lenient, book, owner, text)
 }
 
-// As hp_book_lookup, on the rendering of the text, for importers that pad their heights: 9, 1, 2, 3 (17, 18, 19), 10, 4, 12.
+// As hp_book_lookup, on the rendering of the text, for importers that pad their heights: 9, 23, 1, 2, 3 (17, 18, 19), 10, 4, 12.
 #[no_mangle]
-pub extern "C" fn hp_book_lookup_lenient(book: &[u8], text: &[u8], out: &mut [u8]) -> Written
-    ensures { λ r. ⌜ Looked Current Lenient (now (book .entry)) (now (text .entry)) (now (out .entry)) r (now (out .exit)) ⌝ }
+pub extern "C" fn hp_book_lookup_lenient(
+    book: &[u8],
+    owner: u8,
+    text: &[u8],
+    out: &mut [u8],
+) -> Written
+    ensures { λ r. ⌜ Looked Current Lenient (now (book .entry)) owner (now (text .entry)) (now (out .entry)) r (now (out .exit)) ⌝ }
 {
-    book::lookup(Manner::Lenient, book, text, out)
+    book::lookup(Manner::Lenient, book, owner, text, out)
 }
 
-// The smallest pair of revision number and height among the client's records `clients/C/consensusStates/R-h`: 9, the
-// client's 2, 5, 6; then 12.
+// The smallest pair of revision number and height among the client's records `clients/C/consensusStates/R-h` of that owner: 9, 23,
+// the client's 2, 5, 6; then 12.
 #[no_mangle]
-pub extern "C" fn hp_book_oldest(book: &[u8], client: &[u8]) -> Pair
-    ensures { λ r. ⌜ Oldest Current (now (book .entry)) (now (client .entry)) r ⌝ }
+pub extern "C" fn hp_book_oldest(book: &[u8], owner: u8, client: &[u8]) -> Pair
+    ensures { λ r. ⌜ Oldest Current (now (book .entry)) owner (now (client .entry)) r ⌝ }
 {
-    book_oldest::oldest(book, client)
+    book_oldest::oldest(book, owner, client)
 }
 
 // Makes the second buffer, whatever it holds, the book of version 2 that has the slots and the records of `old`, a book
@@ -625,7 +631,22 @@ pub extern "C" fn hp_book_convert(old: &[u8], book: &mut [u8]) -> u8
     book_convert::convert(old, book)
 }
 
-// Fills the first 512 bytes of the table with the buckets by which the book's records are found: 9, 4.
+// Makes the second buffer, whatever it holds, the book of version 3 that has the slots and the records of `old`, a book of
+// version 2, all of them owner 1's: 9 where that is none, then 4 where the second buffer is not of that book's size, then 11
+// where the quotas sum to more than its slots, or there are more records than the first quota.
+#[no_mangle]
+pub extern "C" fn hp_book_convert_owners(
+    old: &[u8],
+    book: &mut [u8],
+    quota1: u16,
+    quota2: u16,
+) -> u8
+    ensures { λ r. ⌜ ConvertedOwners (now (old .entry)) (now (book .entry)) (quotas quota1 quota2) r (now (book .exit)) ⌝ }
+{
+    book_convert::convert_owners(old, book, quota1, quota2)
+}
+
+// Fills the first 512 bytes of the table with the buckets by which the book's records, of both owners, are found: 9, 4.
 #[no_mangle]
 pub extern "C" fn hp_book_fill(book: &[u8], table: &mut [u8]) -> u8
     ensures { λ r. ⌜ Fills Current (now (book .entry)) (now (table .entry)) r (now (table .exit)) ⌝ }
@@ -633,19 +654,20 @@ pub extern "C" fn hp_book_fill(book: &[u8], table: &mut [u8]) -> u8
     book_table::many::fill(book, table)
 }
 
-// What hp_book_lookup gives for each text of `texts`, which byte 10 ends, by a table of 512 bytes that was filled from this book
+// What hp_book_lookup gives the owner for each text of `texts`, which byte 10 ends, by a table of 512 bytes that was filled from this book
 // as it is now: 66 bytes a text, its refusal number, the length of its value, and the value filled with zeros to 64. Bytes after
-// the last 10 are a text if there are any: 9, 22, 4.
+// the last 10 are a text if there are any: 9, 23, 22, 4.
 #[no_mangle]
 pub extern "C" fn hp_book_lookup_many(
     book: &[u8],
+    owner: u8,
     table: &[u8],
     texts: &[u8],
     out: &mut [u8],
 ) -> Written
-    ensures { λ r. ⌜ LooksMany Current (now (book .entry)) (now (table .entry)) (now (texts .entry)) (now (out .entry)) r (now (out .exit)) ⌝ }
+    ensures { λ r. ⌜ LooksMany Current (now (book .entry)) owner (now (table .entry)) (now (texts .entry)) (now (out .entry)) r (now (out .exit)) ⌝ }
 {
-    book_table::many::look_many(book, table, texts, out)
+    book_table::many::look_many(book, owner, table, texts, out)
 }
 
 // What refusals mean.

@@ -7,3 +7,5 @@ pub mod Runs
 pub mod RunsLaws
 pub mod Total
 pub mod TotalLaws
+pub mod Without
+pub mod WithoutLaws

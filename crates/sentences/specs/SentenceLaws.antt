@@ -2,41 +2,33 @@
 -- Assumes nothing.
 use Prim.Native.Nat.{ℕ, _+_, _-_, _≤_, _<_}
 use mathlib.Core.Path.{_≡_, refl, sym, ap, _∙_}
-use mathlib.Core.Bool.{Bool, true, false, cond, _&&_, _||_}
+use mathlib.Core.Bool.{Bool, true, false, cond, _&&_}
 use mathlib.Core.List.{List, [], _∷_}
 use native.Mathlib.Omega.{arith}
 use lib.Dec.{eqb, leb}
 use lib.ListN.{length, take, drop}
 use lib.Seq.{take-at}
-use borrow.Author.Tests.{leb-true, eqb-true, ne-eqb}
+use borrow.Author.Tests.{leb-true, ne-eqb}
 use Rattle.text.specs.Put.{put}
 use Rattle.text.specs.PutLaws.{put-nil, put-zero, length-put}
 use Rattle.text.specs.PartLaws.{and-left, and-right}
 use Rattle.text.specs.Refusal.{sentences, said, sentence}
 
--- ---- 8, and what is above 22 and not 24, have none
+-- ---- 8, and what is above 24, have none
 pub sentence-eight : sentence 8 ≡ []
 unfolding sentence
 sentence-eight = refl
 
-abbrev given : ℕ → Bool
-given k = leb k 22 || eqb k 24
-
 abbrev allGiven : List (ℕ × List ℕ) → Bool
 allGiven [] = true
-allGiven (row ∷ rows) = given (row .0) && allGiven rows
+allGiven (row ∷ rows) = leb (row .0) 24 && allGiven rows
 
-module _ (n : ℕ) (l : 22 < n) (h : n ≡ 24 → ⊥) where
-  apart : (k : ℕ) → given k ≡ true → n ≡ k → ⊥
-  apart k = go (leb k 22) refl
-    where
-      go : (v : Bool) → leb k 22 ≡ v → (v || eqb k 24) ≡ true → n ≡ k → ⊥
-      go true e g q = omega (arith, leb-true k 22 e)
-      go false e g q = h (q ∙ eqb-true k 24 g)
-
+module _ (n : ℕ) (l : 24 < n) where
   none-said : (rows : List (ℕ × List ℕ)) → allGiven rows ≡ true → said n rows ≡ []
   none-said [] g = refl
-  none-said (row ∷ rows) g = rw (ne-eqb n (row .0) (apart (row .0) (and-left (given (row .0)) (allGiven rows) g))) (none-said rows (and-right (given (row .0)) (allGiven rows) g))
+  none-said (row ∷ rows) g =
+      let k : row .0 ≤ 24 = leb-true (row .0) 24 (and-left (leb (row .0) 24) (allGiven rows) g) in
+      rw (ne-eqb n (row .0) (λ e. omega arith)) (none-said rows (and-right (leb (row .0) 24) (allGiven rows) g))
 
   pub sentence-past : sentence n ≡ []
   unfolding sentence

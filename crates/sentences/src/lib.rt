@@ -15,13 +15,15 @@ use text::refusal::BAD_KIND;
 use text::refusal::BAD_KIND_SAYS;
 use text::refusal::BAD_LENGTH;
 use text::refusal::BAD_LENGTH_SAYS;
+use text::refusal::BAD_OWNER;
+use text::refusal::BAD_OWNER_SAYS;
 use text::refusal::BAD_PREFIX_SAYS;
 use text::refusal::BAD_SEGMENT;
 use text::refusal::BAD_SEGMENT_SAYS;
+use text::refusal::BAD_TABLE;
 use text::refusal::BAD_TABLE_SAYS;
 use text::refusal::BAD_UTF8;
 use text::refusal::BAD_UTF8_SAYS;
-use text::refusal::BAD_V2_KEY;
 use text::refusal::BAD_V2_KEY_SAYS;
 use text::refusal::DONE;
 use text::refusal::DONE_SAYS;
@@ -87,9 +89,9 @@ fn write_of_books(out: &mut [u8], at: usize, number: u8) -> usize
     }
 }
 
-// 17 to 22: of numbers, and of what came later.
+// 17 to 24: of numbers, and of what came later.
 fn write_of_numbers(out: &mut [u8], at: usize, number: u8) -> usize
-    requires { ⌜ (17 ≤ number) × (number ≤ 22) × (at + length (sentence number) ≤ length (now out)) ⌝ }
+    requires { ⌜ (17 ≤ number) × (number ≤ 24) × (at + length (sentence number) ≤ length (now out)) ⌝ }
     ensures { λ r. ⌜ r ≡ at + length (sentence number) ⌝ }
     ensures { λ _. ⌜ now (out .exit) ≡ put (now (out .entry)) at (sentence number) ⌝ }
 {
@@ -99,7 +101,9 @@ fn write_of_numbers(out: &mut [u8], at: usize, number: u8) -> usize
         TOO_LARGE => write_text(out, at, &TOO_LARGE_SAYS),
         LOOSE => write_text(out, at, &LOOSE_SAYS),
         BAD_UTF8 => write_text(out, at, &BAD_UTF8_SAYS),
-        _ => write_text(out, at, &BAD_TABLE_SAYS),
+        BAD_TABLE => write_text(out, at, &BAD_TABLE_SAYS),
+        BAD_OWNER => write_text(out, at, &BAD_OWNER_SAYS),
+        _ => write_text(out, at, &BAD_V2_KEY_SAYS),
     }
 }
 
@@ -118,11 +122,8 @@ pub fn write_sentence(out: &mut [u8], at: usize, number: u8) -> usize
     if number < 17 {
         return write_of_books(out, at, number);
     }
-    if number < 23 {
+    if number < 25 {
         return write_of_numbers(out, at, number);
-    }
-    if number == BAD_V2_KEY {
-        return write_text(out, at, &BAD_V2_KEY_SAYS);
     }
     at
 }

@@ -43,7 +43,7 @@ badBook = 9
 abbrev pub keyTooLong : ℕ
 keyTooLong = 10
 
--- FULL: no free slot for a new key
+-- FULL: a new key where its owner's quota is used up, or quotas and records that do not go into a book of so many slots
 abbrev pub full : ℕ
 full = 11
 
@@ -91,6 +91,10 @@ badUtf8 = 21
 abbrev pub badTable : ℕ
 badTable = 22
 
+-- an owner that is neither 1 nor 2
+abbrev pub badOwner : ℕ
+badOwner = 23
+
 -- a text that is no packet key of IBC version 2, or a kind of which there is none
 abbrev pub badV2Key : ℕ
 badV2Key = 24
@@ -106,9 +110,9 @@ sentences =
     ∷ (badChar, bytes "a byte is none of A-Z, a-z, 0-9 and . _ + - # [ ] < >, which identifiers are made of: take it out")
     ∷ (badLength, bytes "the identifier is too short or too long, or the value is empty or over 64 bytes: give one of the right length")
     ∷ (badPrefix, bytes "the identifier is not its name, a dash and a number without leading zeros: write it as in channel-7")
-    ∷ (badBook, bytes "the buffer holds no book of the version that the call takes: make a new one in it, or convert a book of version 1")
+    ∷ (badBook, bytes "the buffer holds no book of the version that the call takes: make a new one in it, or convert an older one")
     ∷ (keyTooLong, bytes "the path's key has more than the 255 bytes that a book keeps: shorten its upgrade path")
-    ∷ (full, bytes "every slot of the book holds another key: remove a record, or take a book of more slots")
+    ∷ (full, bytes "the quota has no room for another record, or the book for such quotas: remove a record, or take other quotas")
     ∷ (absent, bytes "the book holds no such record, or the block no such key: ask for the key of the text to see which record was looked for")
     ∷ (badSegment, bytes "the upgrade path has a slash: give it as one piece, such as upgradedIBCState")
     ∷ (badKind, bytes "the kind is not a number from 1 to 19: take it from the table of kinds")
@@ -120,6 +124,7 @@ sentences =
     ∷ (loose, bytes "a number of the text has a plus or leading zeros, so it is not its own key: give its key, or make the lenient call")
     ∷ (badUtf8, bytes "the text is no UTF-8: give it as UTF-8 without overlong forms and surrogates")
     ∷ (badTable, bytes "the table is not the 512 numbers that filling it from this book gives: fill it again")
+    ∷ (badOwner, bytes "the owner is neither 1 nor 2: give the number of the network that the record belongs to")
     ∷ (badV2Key, bytes "the bytes are not a client, a marker of 1, 2 or 3 and 8 more, or the kind is not one of these: give a whole packet key")
     ∷ []
 

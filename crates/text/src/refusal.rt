@@ -43,8 +43,8 @@ pub const BAD_PREFIX_SAYS: [u8; 99] =
 
 pub const BAD_BOOK: u8 = 9;
 
-pub const BAD_BOOK_SAYS: [u8; 113] =
-    *b"the buffer holds no book of the version that the call takes: make a new one in it, or convert a book of version 1";
+pub const BAD_BOOK_SAYS: [u8; 106] =
+    *b"the buffer holds no book of the version that the call takes: make a new one in it, or convert an older one";
 
 pub const KEY_TOO_LONG: u8 = 10;
 
@@ -53,8 +53,8 @@ pub const KEY_TOO_LONG_SAYS: [u8; 86] =
 
 pub const FULL: u8 = 11;
 
-pub const FULL_SAYS: [u8; 87] =
-    *b"every slot of the book holds another key: remove a record, or take a book of more slots";
+pub const FULL_SAYS: [u8; 108] =
+    *b"the quota has no room for another record, or the book for such quotas: remove a record, or take other quotas";
 
 pub const ABSENT: u8 = 12;
 
@@ -110,6 +110,11 @@ pub const BAD_TABLE: u8 = 22;
 
 pub const BAD_TABLE_SAYS: [u8; 84] =
     *b"the table is not the 512 numbers that filling it from this book gives: fill it again";
+
+pub const BAD_OWNER: u8 = 23;
+
+pub const BAD_OWNER_SAYS: [u8; 87] =
+    *b"the owner is neither 1 nor 2: give the number of the network that the record belongs to";
 
 pub const BAD_V2_KEY: u8 = 24;
 

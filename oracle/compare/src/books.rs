@@ -1,7 +1,7 @@
 //! The record book: lists of calls by chance, lists rearranged, and the lengths that tell.
 use std::collections::BTreeMap;
 
-use model::book::{Answer, Book, Buffer, Call, Manner, MOST, VALUE};
+use model::book::{Answer, Book, Buffer, Call, Manner, Quotas, MOST, OWNERS, VALUE};
 use model::many::{filled, BUCKETS};
 use model::path::KINDS;
 use model::pool::Pools;
@@ -20,10 +20,16 @@ pub const SETS: Sets = &[
     ("books, loose texts of every kind", loose),
 ];
 
+/// Owners that are none.
+pub const STRANGERS: [u8; 3] = [0, 3, 255];
+
 /// Lengths of values that tell.
 pub const SIZES: [usize; 6] = [1, 31, 32, 33, 63, VALUE];
 
-/// A loose spelling of a state.
+/// A state's key.
+pub const STATE: &[u8] = b"clients/07-tendermint-4/consensusStates/7-2";
+
+/// A loose spelling of it.
 pub const PADDED: &[u8] = b"clients/07-tendermint-4/consensusStates/007-2";
 
 /// A buffer lent to the library and to the model.
@@ -43,39 +49,59 @@ impl Lent {
         }
     }
 
+    pub fn bytes(&self) -> Vec<u8> {
+        self.0.bytes()
+    }
+
+    /// The book that it is, where it is one.
+    pub fn book(&self) -> Option<&Book> {
+        match &self.0 {
+            Buffer::Book(book) => Some(book),
+            Buffer::Other(_) => None,
+        }
+    }
+
     /// A check of a call: its answer, and all bytes of the book after it.
     pub fn check(&mut self, set: &mut Set, call: &Call) {
         set.count();
         let _ = self.call(set, call);
     }
 
-    fn call(&mut self, set: &mut Set, call: &Call) -> Answer {
+    pub fn call(&mut self, set: &mut Set, call: &Call) -> Answer {
         let answer = self.0.act(call);
-        let asked = |function, texts| call::Call::new(function, texts, [0, 0]);
-        let (call, room) = match call {
-            Call::New => (asked(Function::BookNew, [b"", b""]), 0),
-            Call::Write(manner, text, value) => {
-                let function = by(*manner, Function::BookWrite, Function::BookWriteLenient);
-                (asked(function, [text, value]), 0)
-            }
-            Call::Remove(manner, text) => {
-                let function = by(*manner, Function::BookRemove, Function::BookRemoveLenient);
-                (asked(function, [text, b""]), 0)
-            }
-            Call::Lookup(manner, text, room) => {
-                let function = by(*manner, Function::BookLookup, Function::BookLookupLenient);
-                (asked(function, [text, b""]), *room)
-            }
-            Call::Oldest(client) => (asked(Function::BookOldest, [client, b""]), 0),
-            Call::Convert(old) => (asked(Function::BookConvert, [old, b""]), 0),
-            Call::Fill(room) => (asked(Function::BookFill, [b"", b""]), *room),
-            Call::LookupMany(table, texts, room) => {
-                (asked(Function::BookLookupMany, [table, texts]), *room)
-            }
-        };
-        set.on_book(call, room, &answer, &self.0.bytes());
+        let (asked, room) = asked(call);
+        set.on_book(asked, room, &answer, &self.0.bytes());
         answer
     }
+}
+
+/// A call over the C interface, and the room for what it gives.
+fn asked(call: &Call) -> (call::Call<'_>, usize) {
+    let (function, texts, room): (_, [&[u8]; 2], _) = match call {
+        Call::New(_) => (Function::BookNew, [b"", b""], 0),
+        Call::Write(_, manner, text, value) => {
+            (by(*manner, Function::BookWrite, Function::BookWriteLenient), [text, value], 0)
+        }
+        Call::Remove(_, manner, text) => {
+            (by(*manner, Function::BookRemove, Function::BookRemoveLenient), [text, b""], 0)
+        }
+        Call::Lookup(_, manner, text, room) => {
+            (by(*manner, Function::BookLookup, Function::BookLookupLenient), [text, b""], *room)
+        }
+        Call::Oldest(_, client) => (Function::BookOldest, [client, b""], 0),
+        Call::Convert(old) => (Function::BookConvert, [old, b""], 0),
+        Call::ConvertOwners(old, _) => (Function::BookConvertOwners, [old, b""], 0),
+        Call::Fill(room) => (Function::BookFill, [b"", b""], *room),
+        Call::LookupMany(_, table, texts, room) => {
+            (Function::BookLookupMany, [table, texts], *room)
+        }
+    };
+    let quotas = match call {
+        Call::New(quotas) | Call::ConvertOwners(_, quotas) => *quotas,
+        _ => [0, 0],
+    };
+    let kind = call.owner().unwrap_or_default();
+    (call::Call { function, kind, texts, numbers: quotas.map(u64::from) }, room)
 }
 
 /// The function of a call in its manner.
@@ -90,6 +116,7 @@ fn by(manner: Manner, plain: Function, lenient: Function) -> Function {
 pub struct Chance<'a> {
     random: &'a mut Random,
     pools: &'a Pools,
+    slots: usize,
     paths: Vec<Spelt>,
 }
 
@@ -98,23 +125,33 @@ impl<'a> Chance<'a> {
     pub fn new(random: &'a mut Random, pools: &'a Pools, slots: usize) -> Self {
         let count = 1 + random.below(slots + 6).max(slots * random.below(2));
         let paths = (0..count).map(|_| Spelt::chance(random)).collect();
-        Self { random, pools, paths }
+        Self { random, pools, slots, paths }
     }
 
-    /// A book with none, some or as many as this of its slots used.
+    /// A book with none, some or as many as this of its slots used, as far as quotas go.
     pub fn book(&mut self, most: usize, slots: usize) -> Book {
         let some = self.random.below(most + 1);
         let used = self.random.of(&[0, some, most]);
-        let mut book = Book::empty(slots);
+        let mut book = Book::empty(slots, quotas(self.random, slots));
         for path in &self.paths[..used.min(self.paths.len())] {
             let value = vec![self.random.word() as u8; self.random.of(&SIZES)];
-            book.write(Manner::Plain, &path.exact(), &value).expect("it has room");
+            let owner = self.random.of(&OWNERS);
+            let mut write = |owner| book.write(owner, Manner::Plain, &path.exact(), &value);
+            let _ = write(owner).or_else(|_| write(3 - owner));
         }
         book
     }
 
     fn manner(&mut self) -> Manner {
         self.random.of(&Manner::BOTH)
+    }
+
+    /// Mostly one that there is.
+    pub fn owner(&mut self) -> u8 {
+        if self.random.one_in(24) {
+            return self.random.of(&STRANGERS);
+        }
+        self.random.of(&OWNERS)
     }
 
     pub fn text(&mut self) -> Vec<u8> {
@@ -125,52 +162,82 @@ impl<'a> Chance<'a> {
         self.paths[at].spelling(self.random)
     }
 
-    fn write(&mut self) -> Call {
+    fn write(&mut self, owner: u8) -> Call {
         let length = match self.random.below(24) {
             0 => self.random.of(&[0, 65]),
             1..=12 => self.random.of(&SIZES),
             _ => 1 + self.random.below(VALUE),
         };
         let value = (0..length).map(|_| self.random.word() as u8).collect();
-        Call::Write(self.manner(), self.text(), value)
+        Call::Write(owner, self.manner(), self.text(), value)
     }
 
-    fn remove_or_lookup(&mut self) -> Call {
+    fn remove_or_lookup(&mut self, owner: u8) -> Call {
+        let (manner, text) = (self.manner(), self.text());
         match self.random.below(16) {
-            0..=7 => Call::Remove(self.manner(), self.text()),
-            8 => Call::Lookup(self.manner(), self.text(), self.random.of(&[0, 32, 63, 65])),
-            _ => Call::Lookup(self.manner(), self.text(), VALUE),
+            0..=7 => Call::Remove(owner, manner, text),
+            8 => Call::Lookup(owner, manner, text, self.random.of(&[0, 32, 63, 65])),
+            _ => Call::Lookup(owner, manner, text, VALUE),
         }
     }
 
-    fn oldest(&mut self) -> Call {
+    fn oldest(&mut self, owner: u8) -> Call {
         let mut client = spelling::client(self.random).into_bytes();
         let times = usize::from(self.random.one_in(8));
         self.random.damage(&mut client, times);
-        Call::Oldest(client)
+        Call::Oldest(owner, client)
     }
 
-    pub fn call(&mut self) -> Call {
-        match self.random.below(64) {
-            0 => Call::New,
-            1..=8 => self.oldest(),
-            9..=36 => self.write(),
-            _ => self.remove_or_lookup(),
+    /// A new book, now and then with quotas that are none of it.
+    fn renewal(&mut self) -> Call {
+        let mut quotas = quotas(self.random, self.slots);
+        if self.random.one_in(3) {
+            let most = self.slots as u16;
+            quotas[self.random.below(2)] = self.random.of(&[most, most + 1, 32_768, 65_535]);
+        }
+        Call::New(quotas)
+    }
+
+    /// A call of an owner's.
+    pub fn owned(&mut self) -> Call {
+        let owner = self.owner();
+        match self.random.below(63) {
+            0..=7 => self.oldest(owner),
+            8..=35 => self.write(owner),
+            _ => self.remove_or_lookup(owner),
         }
     }
 
-    /// A list with no more writes than this.
-    fn list(&mut self, writes: usize) -> Vec<Call> {
-        let (length, mut left) = (1 + self.random.below(24), writes);
+    pub fn call(&mut self) -> Call {
+        if self.random.one_in(64) {
+            return self.renewal();
+        }
+        self.owned()
+    }
+
+    /// A list with no more writes of each owner's than this; one with an owner that is none charges nobody.
+    fn list(&mut self, mut left: [usize; 2]) -> Vec<Call> {
+        let length = 1 + self.random.below(24);
         let mut one = || {
-            if left == 0 || self.random.one_in(2) {
-                return self.remove_or_lookup();
+            let owner = self.owner();
+            let left = OWNERS.iter().position(|one| *one == owner).map(|at| &mut left[at]);
+            if left == Some(&mut 0) || self.random.one_in(2) {
+                return self.remove_or_lookup(owner);
             }
-            left -= 1;
-            self.write()
+            left.into_iter().for_each(|left| *left -= 1);
+            self.write(owner)
         };
         (0..length).map(|_| one()).collect()
     }
+}
+
+/// Quotas of a book: all slots for one owner, all shared out, or some for neither.
+pub fn quotas(random: &mut Random, slots: usize) -> Quotas {
+    let first = random.below(slots + 1);
+    let second = random.below(slots - first + 1);
+    let shared = [first, slots - first];
+    let all = [[slots, 0], [0, slots], shared, shared, shared, [first, second]];
+    random.of(&all).map(|quota| quota as u16)
 }
 
 /// Mostly few slots; now and then any number, or the most.
@@ -197,9 +264,9 @@ fn chance(set: &mut Set, size: Size) {
     }
 }
 
-/// Demand 3: a list with no more writes than there are free slots, and a rearrangement that keeps calls
-/// on one path in their order. A check is a list, and of the second run the answers of the first are
-/// expected.
+/// Demand 3: a list of both owners with no more writes of each than it has slots free, and a rearrangement that keeps
+/// calls on one path in their order, where a path is an owner and a rendering. A check is a list, and of the second run the
+/// answers of the first are expected.
 fn rearranged(set: &mut Set, size: Size) {
     let (mut random, pools) = (Random(8), Pools::default());
     for _ in 0..size.pick(4_000, 120_000) {
@@ -223,7 +290,7 @@ fn rearranged(set: &mut Set, size: Size) {
 fn rearrangement(list: &[Call], random: &mut Random) -> Vec<usize> {
     let mut order: Vec<usize> = (0..list.len()).collect();
     random.shuffle(&mut order);
-    let mut paths: BTreeMap<Vec<u8>, Vec<usize>> = BTreeMap::new();
+    let mut paths: BTreeMap<(u8, Vec<u8>), Vec<usize>> = BTreeMap::new();
     for (place, at) in order.iter().enumerate() {
         if let Some(path) = list[*at].path() {
             paths.entry(path).or_default().push(place);
@@ -237,8 +304,8 @@ fn rearrangement(list: &[Call], random: &mut Random) -> Vec<usize> {
     order
 }
 
-/// Keys of each length around the longest, each length of value and each room: in a book that has the
-/// key, in one that lacks it, and in one that is full without it.
+/// Keys of each length around the longest, each length of value and each room: in a book where the owner has the key, in one
+/// where the other has it, and in one where the owner's quota is full without it.
 fn edges(set: &mut Set, _: Size) {
     let mut random = Random(9);
     let mut paths: Vec<Spelt> =
@@ -246,54 +313,57 @@ fn edges(set: &mut Set, _: Size) {
     paths.push(Spelt::longest());
     for path in &paths {
         let texts = [path.exact(), path.spelling(&mut random), path.spelling(&mut random)];
-        let mut with = Book::empty(2);
-        let _ = with.write(Manner::Plain, &path.exact(), &[1; 33]);
-        let mut full = Book::empty(1);
-        full.write(Manner::Plain, b"ports/transfer", &[2; VALUE]).expect("it has room");
-        for book in [with, Book::empty(2), full] {
+        let [mut ones, mut twos, mut full] = [(); 3].map(|()| Book::empty(2, [1, 1]));
+        let _ = ones.write(1, Manner::Plain, &path.exact(), &[1; 33]);
+        let _ = twos.write(2, Manner::Plain, &path.exact(), &[2; 33]);
+        full.write(1, Manner::Plain, b"ports/transfer", &[3; VALUE]).expect("it has room");
+        for book in [ones, twos, full] {
             for text in &texts {
-                for manner in Manner::BOTH {
-                    each_length(set, &book.bytes(), manner, text);
+                for owner in OWNERS {
+                    for manner in Manner::BOTH {
+                        each_length(set, &book.bytes(), owner, manner, text);
+                    }
                 }
             }
         }
     }
 }
 
-fn each_length(set: &mut Set, book: &[u8], manner: Manner, text: &[u8]) {
+fn each_length(set: &mut Set, book: &[u8], owner: u8, manner: Manner, text: &[u8]) {
     let mut lent = Lent::new(set, book);
     for room in 0..=70 {
-        lent.check(set, &Call::Lookup(manner, text.to_vec(), room));
+        lent.check(set, &Call::Lookup(owner, manner, text.to_vec(), room));
     }
-    for length in (0..=70).chain([32, 255, 256, 257, 288, 320, 321, 4096]) {
-        lent.check(set, &Call::Write(manner, text.to_vec(), vec![length as u8; length]));
+    for length in (0..=70).chain([32, 255, 256, 257, 288, 320, 321, 322, 4096]) {
+        lent.check(set, &Call::Write(owner, manner, text.to_vec(), vec![length as u8; length]));
     }
-    lent.check(set, &Call::Remove(manner, text.to_vec()));
-    lent.check(set, &Call::Remove(manner, text.to_vec()));
+    lent.check(set, &Call::Remove(owner, manner, text.to_vec()));
+    lent.check(set, &Call::Remove(owner, manner, text.to_vec()));
 }
 
 /// Of every kind a path with an exact text, a loose one where it has a number, and others by chance: each call in
-/// both manners, in a book that has the path and in one that lacks it.
+/// both manners, in a book where an owner has the path and in one where nobody does.
 fn loose(set: &mut Set, size: Size) {
     let mut random = Random(16);
     for kind in 1..=KINDS.len() as u8 {
         for _ in 0..size.pick(20, 2_000) {
-            let path = Spelt::of(kind, &mut random);
-            let mut with = Book::empty(2);
-            let _ = with.write(Manner::Plain, &path.exact(), &[1; 33]);
+            let (path, owner) = (Spelt::of(kind, &mut random), random.of(&OWNERS));
+            let without = Book::empty(2, [1, 1]);
+            let mut with = without.clone();
+            let _ = with.write(random.of(&OWNERS), Manner::Plain, &path.exact(), &[1; 33]);
             for text in [path.exact(), path.loose(), path.spelling(&mut random)] {
                 for manner in Manner::BOTH {
-                    each_call(set, &with.bytes(), manner, &text);
-                    each_call(set, &Book::empty(2).bytes(), manner, &text);
+                    each_call(set, &with.bytes(), owner, manner, &text);
+                    each_call(set, &without.bytes(), owner, manner, &text);
                 }
             }
         }
     }
 }
 
-fn each_call(set: &mut Set, book: &[u8], manner: Manner, text: &[u8]) {
+fn each_call(set: &mut Set, book: &[u8], owner: u8, manner: Manner, text: &[u8]) {
     let mut lent = Lent::new(set, book);
-    lent.check(set, &Call::Lookup(manner, text.to_vec(), VALUE));
-    lent.check(set, &Call::Write(manner, text.to_vec(), vec![2; VALUE]));
-    lent.check(set, &Call::Remove(manner, text.to_vec()));
+    lent.check(set, &Call::Lookup(owner, manner, text.to_vec(), VALUE));
+    lent.check(set, &Call::Write(owner, manner, text.to_vec(), vec![2; VALUE]));
+    lent.check(set, &Call::Remove(owner, manner, text.to_vec()));
 }

@@ -15,6 +15,7 @@ pub mod library;
 pub mod many;
 pub mod no_books;
 pub mod original;
+pub mod owners;
 pub mod packets;
 pub mod page;
 pub mod paths;
@@ -56,6 +57,7 @@ pub const FAMILIES: &[Sets] = &[
     iteration::SETS,
     packets::SETS,
     books::SETS,
+    owners::SETS,
     no_books::SETS,
     conversions::SETS,
     many::SETS,

@@ -1,14 +1,15 @@
-//! The section 'The book' of document 01, with requests L4 and L6: a map from renderings to values, and its bytes.
+//! The section 'The book' of document 01, with requests L4, L6 and L10: a map from owners and renderings to values, and its
+//! bytes.
 use std::collections::BTreeMap;
 
 use crate::identifier::Identifier;
 use crate::many;
 use crate::path::{self, read_with_key};
 use crate::{
-    hold, Mode, Refusal, ABSENT, BAD_BOOK, BAD_LENGTH, FULL, KEY_TOO_LONG, LOOSE, NO_ROOM,
+    hold, Mode, Refusal, ABSENT, BAD_BOOK, BAD_LENGTH, BAD_OWNER, FULL, KEY_TOO_LONG, LOOSE,
+    NO_ROOM,
 };
 
-pub const HEAD: usize = 8;
 pub const KEY: usize = 255;
 
 /// The bytes of the longest value; the shortest has one.
@@ -17,13 +18,20 @@ pub const VALUE: usize = 64;
 /// The slots of the largest book.
 pub const MOST: usize = 200;
 
+/// The owners of records.
+pub const OWNERS: [u8; 2] = [1, 2];
+
+/// How many slots each owner may use.
+pub type Quotas = [u16; 2];
+
 pub type Value = Vec<u8>;
 
-/// How a book stands in bytes. Calls take and make version 2; a book of version 1 is only converted.
+/// How a book stands in bytes. Calls take and make version 3; an older book is only converted.
 #[derive(Clone, Copy, Debug, PartialEq, Eq)]
 pub enum Version {
     One,
     Two,
+    Three,
 }
 
 impl Version {
@@ -31,6 +39,15 @@ impl Version {
         match self {
             Self::One => 1,
             Self::Two => 2,
+            Self::Three => 3,
+        }
+    }
+
+    /// The bytes of the header.
+    pub const fn head(self) -> usize {
+        match self {
+            Self::One | Self::Two => 8,
+            Self::Three => 12,
         }
     }
 
@@ -39,17 +56,26 @@ impl Version {
         match self {
             Self::One => 288,
             Self::Two => 321,
+            Self::Three => 322,
         }
     }
 
     /// The bytes of a book.
     pub const fn size(self, slots: usize) -> usize {
-        HEAD + self.slot() * slots
+        self.head() + self.slot() * slots
     }
 
     /// The slots of a buffer of this length, where a book has such a length.
     pub fn slots(self, length: usize) -> Option<usize> {
         (1..=MOST).find(|slots| self.size(*slots) == length)
+    }
+
+    /// A slot's owner, and its bytes from the key's length on. In an older book every record is owner 1's.
+    fn owner(self, slot: &[u8]) -> (u8, &[u8]) {
+        match self {
+            Self::One | Self::Two => (1, slot),
+            Self::Three => (slot[0], &slot[1..]),
+        }
     }
 
     /// The value in its field: 32 bytes; or 1 to 64 behind their number, and zeros.
@@ -63,8 +89,9 @@ impl Version {
     }
 }
 
-/// The bytes of a slot of version 2.
-pub const SLOT: usize = Version::Two.slot();
+/// The bytes of a header, and of a slot, of version 3.
+pub const HEAD: usize = Version::Three.head();
+pub const SLOT: usize = Version::Three.slot();
 
 /// The kind of a consensus state.
 pub const STATE: u8 = 5;
@@ -88,74 +115,131 @@ pub fn key(manner: Manner, text: &[u8]) -> Result<Vec<u8>, Refusal> {
     Ok(key)
 }
 
+/// 23.
+pub fn known(owner: u8) -> Result<(), Refusal> {
+    hold(OWNERS.contains(&owner), BAD_OWNER)
+}
+
+/// 23, then those of the text.
+fn place(owner: u8, manner: Manner, text: &[u8]) -> Result<(u8, Vec<u8>), Refusal> {
+    known(owner)?;
+    Ok((owner, key(manner, text)?))
+}
+
+/// Both quotas together, which may be more than 16 bits hold.
+fn sum(quotas: Quotas) -> usize {
+    quotas.map(usize::from).iter().sum()
+}
+
 /// A proper book.
 #[derive(Clone, Debug, PartialEq, Eq)]
 pub struct Book {
     slots: usize,
-    records: BTreeMap<Vec<u8>, Value>,
+    quotas: Quotas,
+    records: BTreeMap<(u8, Vec<u8>), Value>,
 }
 
 impl Book {
-    pub fn empty(slots: usize) -> Self {
+    pub fn empty(slots: usize, quotas: Quotas) -> Self {
         assert!((1..=MOST).contains(&slots), "{slots} slots");
-        Self { slots, records: BTreeMap::new() }
+        assert!(sum(quotas) <= slots, "{quotas:?} of {slots} slots");
+        Self { slots, quotas, records: BTreeMap::new() }
     }
 
-    pub fn free(&self) -> usize {
-        self.slots - self.records.len()
+    /// Without records, and all slots for owner 1.
+    pub fn ones(slots: usize) -> Self {
+        Self::empty(slots, [slots as u16, 0])
     }
 
-    /// The keys in their order.
-    pub fn keys(&self) -> impl Iterator<Item = &Vec<u8>> {
+    pub fn quotas(&self) -> Quotas {
+        self.quotas
+    }
+
+    /// An owner's records in the order of their keys.
+    pub fn records_of(&self, owner: u8) -> impl Iterator<Item = (&Vec<u8>, &Value)> {
+        let own = self.records.iter().filter(move |((of, _), _)| *of == owner);
+        own.map(|((_, key), value)| (key, value))
+    }
+
+    /// How many slots of its quota each owner has free.
+    pub fn free(&self) -> [usize; 2] {
+        let free = |at: usize| usize::from(self.quotas[at]) - self.records_of(OWNERS[at]).count();
+        [free(0), free(1)]
+    }
+
+    /// Owners and keys in their order.
+    pub fn keys(&self) -> impl Iterator<Item = &(u8, Vec<u8>)> {
         self.records.keys()
     }
 
-    /// 1, 2, 3, in a plain call 20, 10, 6, 11.
-    pub fn write(&mut self, manner: Manner, text: &[u8], value: &[u8]) -> Result<(), Refusal> {
-        let key = key(manner, text)?;
+    /// 23, 1, 2, 3, in a plain call 20, 10, 6, 11.
+    pub fn write(
+        &mut self,
+        owner: u8,
+        manner: Manner,
+        text: &[u8],
+        value: &[u8],
+    ) -> Result<(), Refusal> {
+        let place = place(owner, manner, text)?;
         hold((1..=VALUE).contains(&value.len()), BAD_LENGTH)?;
-        hold(self.free() > 0 || self.records.contains_key(&key), FULL)?;
-        self.records.insert(key, value.to_vec());
+        let full = self.free()[usize::from(owner) - 1] == 0;
+        hold(!full || self.records.contains_key(&place), FULL)?;
+        self.records.insert(place, value.to_vec());
         Ok(())
     }
 
-    /// 1, 2, 3, in a plain call 20, 10, 12.
-    pub fn remove(&mut self, manner: Manner, text: &[u8]) -> Result<(), Refusal> {
-        self.records.remove(&key(manner, text)?).map(|_| ()).ok_or(ABSENT)
+    /// 23, 1, 2, 3, in a plain call 20, 10, 12.
+    pub fn remove(&mut self, owner: u8, manner: Manner, text: &[u8]) -> Result<(), Refusal> {
+        self.records.remove(&place(owner, manner, text)?).map(|_| ()).ok_or(ABSENT)
     }
 
-    /// 1, 2, 3, in a plain call 20, 10, 4, 12.
-    pub fn lookup(&self, manner: Manner, text: &[u8], room: usize) -> Result<Value, Refusal> {
-        let key = key(manner, text)?;
+    /// 23, 1, 2, 3, in a plain call 20, 10, 4, 12.
+    pub fn lookup(
+        &self,
+        owner: u8,
+        manner: Manner,
+        text: &[u8],
+        room: usize,
+    ) -> Result<Value, Refusal> {
+        let place = place(owner, manner, text)?;
         hold(room >= VALUE, NO_ROOM)?;
-        self.records.get(&key).cloned().ok_or(ABSENT)
+        self.records.get(&place).cloned().ok_or(ABSENT)
     }
 
-    /// Client checks, 12.
-    pub fn oldest(&self, client: &[u8]) -> Result<[u64; 2], Refusal> {
+    /// 23, client checks, 12.
+    pub fn oldest(&self, owner: u8, client: &[u8]) -> Result<[u64; 2], Refusal> {
+        known(owner)?;
         Identifier::Client.check(Mode::Plain, client)?;
-        let heights = |key: &Vec<u8>| {
+        let heights = |(key, _): (&Vec<u8>, _)| {
             let reading = path::read(Mode::Plain, key).expect("a key is a path");
             let state = reading.kind == STATE && reading.first.of(key) == client;
             state.then_some(reading.numbers)
         };
-        self.records.keys().filter_map(heights).min().ok_or(ABSENT)
+        self.records_of(owner).filter_map(heights).min().ok_or(ABSENT)
     }
 
-    /// Header, a slot for each record in byte order of key, and zeros.
+    /// Header, a slot for each record in order of owner and key, and zeros.
     pub fn bytes(&self) -> Vec<u8> {
-        self.bytes_of(Version::Two)
+        self.bytes_of(Version::Three)
     }
 
-    /// The same in a version; in version 1 each value has 32 bytes.
+    /// The same in a version: in version 1 each value has 32 bytes, and in versions 1 and 2 each record is owner 1's.
     pub fn bytes_of(&self, version: Version) -> Vec<u8> {
         let count = self.records.len() as u16;
         let mut bytes = [&b"HPB\0"[..], &[version.number()], &count.to_be_bytes(), &[0]].concat();
-        for (at, (key, value)) in self.records.iter().enumerate() {
+        if version == Version::Three {
+            bytes.extend(self.quotas.iter().flat_map(|quota| quota.to_be_bytes()));
+        }
+        for (at, ((owner, key), value)) in self.records.iter().enumerate() {
+            match version {
+                Version::Three => bytes.push(*owner),
+                Version::One | Version::Two => assert_eq!(*owner, 1, "no other owner"),
+            }
+            let field = bytes.len();
             bytes.push(key.len() as u8);
             bytes.extend(key);
-            bytes.resize(version.size(at) + 1 + KEY, 0);
-            if version == Version::Two {
+            bytes.resize(field + 1 + KEY, 0);
+            if version != Version::One {
                 bytes.push(value.len() as u8);
             }
             bytes.extend(value);
@@ -167,79 +251,102 @@ impl Book {
 
     /// The book that a buffer is, if it is one.
     pub fn of(bytes: &[u8]) -> Option<Self> {
-        Self::of_version(Version::Two, bytes)
+        Self::of_version(Version::Three, bytes)
     }
 
-    /// The same of a version.
+    /// The same of a version; an older book is all owner 1's.
     pub fn of_version(version: Version, bytes: &[u8]) -> Option<Self> {
-        let record = |(key, value): (&[u8], &[u8])| (key.to_vec(), value.to_vec());
-        Some(Self {
-            slots: version.slots(bytes.len())?,
-            records: records(version, bytes)?.into_iter().map(record).collect(),
-        })
+        let (quotas, records) = parts(version, bytes)?;
+        let record = |(owner, key, value): Record| ((owner, key.to_vec()), value.to_vec());
+        let slots = version.slots(bytes.len())?;
+        Some(Self { slots, quotas, records: records.into_iter().map(record).collect() })
     }
 }
 
 /// Whether a buffer is a book.
 pub fn is_book(bytes: &[u8]) -> bool {
-    records(Version::Two, bytes).is_some()
+    parts(Version::Three, bytes).is_some()
 }
 
-type Records<'a> = Vec<(&'a [u8], &'a [u8])>;
+/// An owner, a key and a value.
+type Record<'a> = (u8, &'a [u8], &'a [u8]);
 
-/// The records of a book: document 01's sentences on a buffer's bytes, without the map and the layout
+/// The quotas and the records of a book: the documents' sentences on a buffer's bytes, without the map and the layout
 /// above.
-fn records(version: Version, bytes: &[u8]) -> Option<Records<'_>> {
+fn parts(version: Version, bytes: &[u8]) -> Option<(Quotas, Vec<Record<'_>>)> {
     let slots = version.slots(bytes.len())?;
-    let (head, rest) = bytes.split_at(HEAD);
-    let count = usize::from(head[5]) * 256 + usize::from(head[6]);
+    let (head, rest) = bytes.split_at(version.head());
+    let number = |at: usize| u16::from(head[at]) * 256 + u16::from(head[at + 1]);
+    let count = usize::from(number(5));
     let framed = head[..5] == [b'H', b'P', b'B', 0, version.number()] && head[7] == 0;
     if !framed || count > slots {
         return None;
     }
+    let quotas =
+        if version == Version::Three { [number(8), number(10)] } else { [slots as u16, 0] };
     let (used, unused) = rest.split_at(version.slot() * count);
-    let record = |slot| Some((slot_key(slot)?, version.value(&slot[1 + KEY..])?));
-    let records: Records = used.chunks(version.slot()).map(record).collect::<Option<_>>()?;
-    let rising = records.windows(2).all(|pair| pair[0].0 < pair[1].0);
-    (rising && unused.iter().all(|byte| *byte == 0)).then_some(records)
+    let slots_used = used.chunks(version.slot());
+    let records: Vec<Record> =
+        slots_used.map(|slot| record(version, slot)).collect::<Option<_>>()?;
+    let rising = records.windows(2).all(|two| (two[0].0, two[0].1) < (two[1].0, two[1].1));
+    let within = OWNERS.into_iter().zip(quotas).all(|(owner, quota)| {
+        records.iter().filter(|record| record.0 == owner).count() <= usize::from(quota)
+    });
+    let proper = rising && within && sum(quotas) <= slots;
+    (proper && unused.iter().all(|byte| *byte == 0)).then_some((quotas, records))
 }
 
-/// The key of a used slot: it reads back exact, and zeros fill its field.
-fn slot_key(slot: &[u8]) -> Option<&[u8]> {
-    let (key, fill) = slot[1..1 + KEY].split_at(slot[0].into());
+/// What a used slot has: an owner that there is, a key that reads back exact, and zeros to fill its field, and a value.
+fn record(version: Version, slot: &[u8]) -> Option<Record<'_>> {
+    let (owner, rest) = version.owner(slot);
+    let (key, fill) = rest[1..1 + KEY].split_at(rest[0].into());
     let exact = path::read(Mode::Plain, key).is_ok_and(|reading| reading.exact);
-    (exact && fill.iter().all(|byte| *byte == 0)).then_some(key)
+    let kept = OWNERS.contains(&owner) && exact && fill.iter().all(|byte| *byte == 0);
+    kept.then_some((owner, key, version.value(&rest[1 + KEY..])?))
 }
 
-/// A call that is lent a book.
+/// A call that is lent a book. An owner is any number of one byte.
 #[derive(Clone, Debug, PartialEq, Eq)]
 pub enum Call {
-    New,
-    Write(Manner, Vec<u8>, Vec<u8>),
-    Remove(Manner, Vec<u8>),
-    /// A text, and the room for what it holds.
-    Lookup(Manner, Vec<u8>, usize),
-    Oldest(Vec<u8>),
+    New(Quotas),
+    Write(u8, Manner, Vec<u8>, Vec<u8>),
+    Remove(u8, Manner, Vec<u8>),
+    /// An owner, a text, and the room for what it holds.
+    Lookup(u8, Manner, Vec<u8>, usize),
+    Oldest(u8, Vec<u8>),
     /// A book of version 1, to be turned into one of version 2 in the buffer that is lent.
     Convert(Vec<u8>),
+    /// A book of version 2, to be turned into one of version 3.
+    ConvertOwners(Vec<u8>, Quotas),
     /// The size of a buffer, of which a table is made.
     Fill(usize),
-    /// A table, texts that byte 10 ends, and the room for what they hold.
-    LookupMany(Vec<u8>, Vec<u8>, usize),
+    /// An owner, a table, texts that byte 10 ends, and the room for what they hold.
+    LookupMany(u8, Vec<u8>, Vec<u8>, usize),
 }
 
 impl Call {
-    /// The path that a call is on: the rendering of its text, of any length.
-    pub fn path(&self) -> Option<Vec<u8>> {
+    /// Whose call it is.
+    pub fn owner(&self) -> Option<u8> {
         match self {
-            Self::Write(_, text, _) | Self::Remove(_, text) | Self::Lookup(_, text, _) => {
-                read_with_key(Mode::Plain, text).ok().map(|(_, key)| key)
+            Self::Write(owner, ..)
+            | Self::Remove(owner, ..)
+            | Self::Lookup(owner, ..)
+            | Self::Oldest(owner, _)
+            | Self::LookupMany(owner, ..) => Some(*owner),
+            Self::New(_) | Self::Convert(_) | Self::ConvertOwners(..) | Self::Fill(_) => None,
+        }
+    }
+
+    /// The path that a call is on: an owner, and the rendering of a text, of any length.
+    pub fn path(&self) -> Option<(u8, Vec<u8>)> {
+        match self {
+            Self::Write(owner, _, text, _)
+            | Self::Remove(owner, _, text)
+            | Self::Lookup(owner, _, text, _) => {
+                known(*owner).ok()?;
+                read_with_key(Mode::Plain, text).ok().map(|(_, key)| (*owner, key))
             }
-            Self::New
-            | Self::Oldest(_)
-            | Self::Convert(_)
-            | Self::Fill(_)
-            | Self::LookupMany(..) => None,
+            _ => None,
         }
     }
 }
@@ -279,27 +386,34 @@ impl Buffer {
     pub fn act(&mut self, call: &Call) -> Answer {
         let done = |()| Given::Nothing;
         match (call, &mut *self) {
-            (Call::New, _) => self.renew().map(done),
+            (Call::New(quotas), _) => self.renew(*quotas).map(done),
             (Call::Convert(old), _) => self.convert(old).map(done),
+            (Call::ConvertOwners(old, quotas), _) => self.convert_owners(old, *quotas).map(done),
             (_, Self::Other(_)) => Err(BAD_BOOK),
-            (Call::Write(manner, text, value), Self::Book(book)) => {
-                book.write(*manner, text, value).map(done)
+            (Call::Write(owner, manner, text, value), Self::Book(book)) => {
+                book.write(*owner, *manner, text, value).map(done)
             }
-            (Call::Remove(manner, text), Self::Book(book)) => book.remove(*manner, text).map(done),
-            (Call::Lookup(manner, text, room), Self::Book(book)) => {
-                book.lookup(*manner, text, *room).map(Given::Value)
+            (Call::Remove(owner, manner, text), Self::Book(book)) => {
+                book.remove(*owner, *manner, text).map(done)
             }
-            (Call::Oldest(client), Self::Book(book)) => book.oldest(client).map(Given::Heights),
+            (Call::Lookup(owner, manner, text, room), Self::Book(book)) => {
+                book.lookup(*owner, *manner, text, *room).map(Given::Value)
+            }
+            (Call::Oldest(owner, client), Self::Book(book)) => {
+                book.oldest(*owner, client).map(Given::Heights)
+            }
             (Call::Fill(room), Self::Book(book)) => many::fill(book, *room).map(Given::Table),
-            (Call::LookupMany(table, texts, room), Self::Book(book)) => {
-                many::lookups(book, table, texts, *room).map(Given::Value)
+            (Call::LookupMany(owner, table, texts, room), Self::Book(book)) => {
+                many::lookups(book, *owner, table, texts, *room).map(Given::Value)
             }
         }
     }
 
-    fn renew(&mut self) -> Result<(), Refusal> {
-        let slots = Version::Two.slots(self.bytes().len()).ok_or(BAD_BOOK)?;
-        *self = Self::Book(Book::empty(slots));
+    /// 9, 11.
+    fn renew(&mut self, quotas: Quotas) -> Result<(), Refusal> {
+        let slots = Version::Three.slots(self.bytes().len()).ok_or(BAD_BOOK)?;
+        hold(sum(quotas) <= slots, FULL)?;
+        *self = Self::Book(Book::empty(slots, quotas));
         Ok(())
     }
 
@@ -307,7 +421,17 @@ impl Buffer {
     fn convert(&mut self, old: &[u8]) -> Result<(), Refusal> {
         let book = Book::of_version(Version::One, old).ok_or(BAD_BOOK)?;
         hold(self.bytes().len() == Version::Two.size(book.slots), NO_ROOM)?;
-        *self = Self::Book(book);
+        *self = Self::Other(book.bytes_of(Version::Two));
+        Ok(())
+    }
+
+    /// 9, 4, 11.
+    fn convert_owners(&mut self, old: &[u8], quotas: Quotas) -> Result<(), Refusal> {
+        let book = Book::of_version(Version::Two, old).ok_or(BAD_BOOK)?;
+        hold(self.bytes().len() == Version::Three.size(book.slots), NO_ROOM)?;
+        let enough = book.records.len() <= usize::from(quotas[0]);
+        hold(enough && sum(quotas) <= book.slots, FULL)?;
+        *self = Self::Book(Book { quotas, ..book });
         Ok(())
     }
 }

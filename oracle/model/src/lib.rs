@@ -38,6 +38,7 @@ pub const TOO_LARGE: Refusal = 19;
 pub const LOOSE: Refusal = 20;
 pub const BAD_UTF8: Refusal = 21;
 pub const BAD_TABLE: Refusal = 22;
+pub const BAD_OWNER: Refusal = 23;
 pub const BAD_V2_KEY: Refusal = 24;
 
 /// What may be wrong with a number. The refusals that have a place.

@@ -1,5 +1,5 @@
-//! Request L9: a table of buckets beside a book, and many lookups at once.
-use crate::book::{Book, Manner, VALUE};
+//! Request L9, with owners as request L10 has them: a table of buckets beside a book, and many lookups at once.
+use crate::book::{known, Book, Manner, VALUE};
 use crate::{hold, Refusal, BAD_TABLE, NO_ROOM};
 
 /// The bytes of a table: a bucket each.
@@ -14,17 +14,17 @@ pub fn fnv1a(bytes: &[u8]) -> u64 {
     bytes.iter().fold(0xcbf2_9ce4_8422_2325, joined)
 }
 
-/// The bucket at which a key is entered where that is free.
-pub fn home(key: &[u8]) -> usize {
-    (fnv1a(key) % BUCKETS as u64) as usize
+/// The bucket at which an owner's key is entered where that is free: the owner is hashed ahead of the key.
+pub fn home(owner: u8, key: &[u8]) -> usize {
+    (fnv1a(&[&[owner], key].concat()) % BUCKETS as u64) as usize
 }
 
-/// The table of a book: its records in key order, each at its home or the next free bucket after it, going round at
+/// The table of a book: the records of both owners in their order, each at its home or the next free bucket after it, going round at
 /// the end. A bucket holds the slot's number counted from 1, or 0.
 pub fn filled(book: &Book) -> Vec<u8> {
     let mut table = vec![0; BUCKETS];
-    for (number, key) in (1..).zip(book.keys()) {
-        let home = home(key);
+    for (number, (owner, key)) in (1..).zip(book.keys()) {
+        let home = home(*owner, key);
         let free = (home..BUCKETS).chain(0..home).find(|bucket| table[*bucket] == 0);
         table[free.expect("a book has fewer records")] = number;
     }
@@ -40,9 +40,9 @@ pub fn texts(bytes: &[u8]) -> Vec<&[u8]> {
     all
 }
 
-/// What the plain lookup of a text alone gives with 64 bytes of room.
-fn answer(book: &Book, text: &[u8]) -> Vec<u8> {
-    let mut bytes = match book.lookup(Manner::Plain, text, VALUE) {
+/// What the owner's plain lookup of a text alone gives with 64 bytes of room.
+fn answer(book: &Book, owner: u8, text: &[u8]) -> Vec<u8> {
+    let mut bytes = match book.lookup(owner, Manner::Plain, text, VALUE) {
         Ok(value) => [&[0, value.len() as u8], &value[..]].concat(),
         Err(refusal) => vec![refusal],
     };
@@ -56,10 +56,17 @@ pub fn fill(book: &Book, room: usize) -> Result<Vec<u8>, Refusal> {
     Ok(filled(book))
 }
 
-/// 22, 4.
-pub fn lookups(book: &Book, table: &[u8], lines: &[u8], room: usize) -> Result<Vec<u8>, Refusal> {
+/// 23, 22, 4.
+pub fn lookups(
+    book: &Book,
+    owner: u8,
+    table: &[u8],
+    lines: &[u8],
+    room: usize,
+) -> Result<Vec<u8>, Refusal> {
+    known(owner)?;
     hold(table == filled(book), BAD_TABLE)?;
     let texts = texts(lines);
     hold(room >= ANSWER * texts.len(), NO_ROOM)?;
-    Ok(texts.iter().flat_map(|text| answer(book, text)).collect())
+    Ok(texts.iter().flat_map(|text| answer(book, owner, text)).collect())
 }

@@ -2,7 +2,7 @@
 use std::cell::RefCell;
 use std::hint::black_box;
 
-use hostpath::{book_size, raw, Book, Refusal, BOOK_VALUE, READING};
+use hostpath::{book_size, raw, Book, Owner, Refusal, BOOK_VALUE, READING};
 use model::path::{render, KINDS};
 use model::Mode;
 
@@ -63,13 +63,16 @@ const OPERATIONS: [(&str, Operation); 8] = [
 
 const VALUE: [u8; 32] = [7; 32];
 
-/// So many keys, and a book that is full of them.
+/// Whose the records are.
+pub const OWNER: Owner = Owner::One;
+
+/// So many keys, and a book that is full of them, all of them one owner's.
 pub fn full(records: usize) -> (Vec<Vec<u8>>, Vec<u8>) {
     let keys: Vec<Vec<u8>> = (0..records).map(key).collect();
     let mut full = vec![0; book_size(records)];
-    let mut book = Book::new(&mut full).expect("a book's size");
+    let mut book = Book::new(&mut full, [records as u16, 0]).expect("a book's size");
     for key in &keys {
-        book.write(key, VALUE).expect("it has room");
+        book.write(OWNER, key, VALUE).expect("it has room");
     }
     assert_eq!(full[6], records as u8, "the keys differ");
     (keys, full)
@@ -93,22 +96,27 @@ impl Desk {
     fn run(&mut self, operation: Operation) {
         self.turn += 1;
         let key = black_box(self.keys[self.turn % self.keys.len()].as_slice());
-        let book = self.book.as_mut_slice();
+        let (book, owner) = (self.book.as_mut_slice(), OWNER.number());
         let refusal = match operation {
             Readings => read_all(&self.keys),
-            Check => u8::from(raw::book_oldest(book, b"").refusal != Refusal::BadLength.number()),
-            Lookup => raw::book_lookup(book, key, &mut black_box([0; BOOK_VALUE])).refusal,
-            Replace => raw::book_write(book, key, &VALUE),
+            Check => {
+                let answer = raw::book_oldest(book, owner, b"");
+                u8::from(answer.refusal != Refusal::BadLength.number())
+            }
+            Lookup => raw::book_lookup(book, owner, key, &mut black_box([0; BOOK_VALUE])).refusal,
+            Replace => raw::book_write(book, owner, key, &VALUE),
             Fresh => {
                 book.copy_from_slice(black_box(&self.full));
                 0
             }
             Removal => {
                 book.copy_from_slice(black_box(&self.full));
-                raw::book_remove(book, key)
+                raw::book_remove(book, owner, key)
             }
-            Renewal => raw::book_remove(book, key) | raw::book_write(book, key, &VALUE),
-            Oldest => black_box(raw::book_oldest(book, b"07-tendermint-0")).refusal,
+            Renewal => {
+                raw::book_remove(book, owner, key) | raw::book_write(book, owner, key, &VALUE)
+            }
+            Oldest => black_box(raw::book_oldest(book, owner, b"07-tendermint-0")).refusal,
         };
         assert_eq!(refusal, 0, "{operation:?}");
         keep(&self.book);

@@ -4,7 +4,7 @@ use std::hint::black_box;
 
 use hostpath::{raw, BOOK_ANSWER, BOOK_MOST, BOOK_TABLE, BOOK_VALUE};
 
-use crate::books::full;
+use crate::books::{full, OWNER};
 use crate::family::{keep, Family};
 
 /// How many texts are looked up.
@@ -52,18 +52,20 @@ impl Desk {
     fn run(&mut self, operation: Operation) {
         self.turn = (self.turn + 1) % BOOK_MOST;
         let starts = &self.starts[self.turn..=self.turn + self.texts];
+        let owner = OWNER.number();
         match operation {
             Fill => assert_eq!(raw::book_fill(&self.book, &mut self.table), 0),
             Once => {
                 let lines = black_box(&self.lines[starts[0]..starts[self.texts]]);
-                let answer = raw::book_lookup_many(&self.book, &self.table, lines, &mut self.out);
+                let answer =
+                    raw::book_lookup_many(&self.book, owner, &self.table, lines, &mut self.out);
                 assert_eq!(answer.length, self.out.len() as u64);
             }
             Alone => {
                 for place in starts.windows(2) {
                     let text = black_box(&self.lines[place[0]..place[1] - 1]);
                     let mut room = black_box([0; BOOK_VALUE]);
-                    assert_eq!(raw::book_lookup(&self.book, text, &mut room).refusal, 0);
+                    assert_eq!(raw::book_lookup(&self.book, owner, text, &mut room).refusal, 0);
                     keep(&room);
                 }
             }

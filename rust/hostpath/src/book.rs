@@ -5,9 +5,13 @@ use core::slice::ChunksExact;
 use crate::{bytes_of, done, pair, raw, str_of, sure, ClientId, Refusal};
 
 /// The bytes before a book's slots.
-pub const BOOK_HEAD: usize = 8;
+pub const BOOK_HEAD: usize = 12;
 /// The bytes of a slot.
-pub const BOOK_SLOT: usize = 321;
+pub const BOOK_SLOT: usize = 322;
+/// The bytes before the slots of a book of version 2.
+pub const BOOK_2_HEAD: usize = 8;
+/// The bytes of a slot of version 2.
+pub const BOOK_2_SLOT: usize = 321;
 /// The slots of the largest book; the smallest has one.
 pub const BOOK_MOST: usize = 200;
 /// The bytes of the longest key.
@@ -22,6 +26,30 @@ pub const BOOK_ANSWER: usize = 66;
 /// The size of a book of so many slots.
 pub const fn book_size(slots: usize) -> usize {
     BOOK_HEAD + BOOK_SLOT * slots
+}
+
+/// The size of a book of version 2 of so many slots, which [`Book::convert`] makes on the way from version 1.
+pub const fn book_2_size(slots: usize) -> usize {
+    BOOK_2_HEAD + BOOK_2_SLOT * slots
+}
+
+/// Whose a record is. A book has two owners, and neither's calls see or change the records of the other.
+#[derive(Clone, Copy, Debug, PartialEq, Eq, PartialOrd, Ord, Hash)]
+pub enum Owner {
+    /// Owner 1, who has all records of an older book that is converted.
+    One = 1,
+    /// Owner 2.
+    Two = 2,
+}
+
+impl Owner {
+    /// Both of them, in the order of their numbers, in which [`Book::quotas`] and [`Book::counts`] are too.
+    pub const ALL: [Self; 2] = [Self::One, Self::Two];
+
+    /// Its number, which stands in a slot.
+    pub const fn number(self) -> u8 {
+        self as u8
+    }
 }
 
 /// The key of a text: the rendering of the path that it is read as, where that has at most [`BOOK_KEY`] bytes.
@@ -80,35 +108,42 @@ pub struct Held<'a> {
     pub value: &'a [u8],
 }
 
-/// A book of version 2 in a lent buffer of [`book_size`] bytes. Texts with one rendering are one path, and a
-/// record stands under the rendering, its key. A text that is not its own key is refused as
-/// [`Loose`](Refusal::Loose); the `.._lenient` methods take it, for importers that pad their heights, and each
-/// answers the key that it worked on.
+/// A book of version 3 in a lent buffer of [`book_size`] bytes. Each of its two owners has a quota of the slots and sees its
+/// own records alone. Texts with one rendering are one path, and an owner's record stands under the rendering, its key. A
+/// text that is not its own key is refused as [`Loose`](Refusal::Loose); the `.._lenient` methods take it, for importers
+/// that pad their heights, and each answers the key that it worked on.
 ///
 /// ```
-/// use hostpath::{book_size, Book, ClientId, Refusal};
+/// use hostpath::{book_size, Book, ClientId, Owner, Refusal};
 ///
-/// let mut buffer = [0; book_size(2)];
-/// let mut book = Book::new(&mut buffer)?;
+/// let mut buffer = [0; book_size(3)];
+/// let mut book = Book::new(&mut buffer, [2, 1])?; // two slots for owner one, and one for owner two
 /// let padded = "clients/07-tendermint-4/consensusStates/007-2";
-/// assert_eq!(book.write(padded, "a digest"), Err(Refusal::Loose));
-/// let key = book.write_lenient(padded, "a digest")?;
+/// assert_eq!(book.write(Owner::One, padded, "a digest"), Err(Refusal::Loose));
+/// let key = book.write_lenient(Owner::One, padded, "a digest")?;
 /// assert_eq!(key.as_str(), "clients/07-tendermint-4/consensusStates/7-2");
 ///
 /// let client_id = ClientId::try_from("07-tendermint-4")?;
-/// assert_eq!(book.oldest(client_id), Ok((7, 2)));
-/// book.remove(key)?; // the same path, by its key
-/// assert_eq!(book.oldest(client_id), Err(Refusal::Absent));
+/// assert_eq!(book.oldest(Owner::One, client_id), Ok((7, 2)));
+/// assert_eq!(book.oldest(Owner::Two, client_id), Err(Refusal::Absent)); // it is the other's
+/// book.write(Owner::Two, key, "another")?;
+/// assert_eq!(book.write(Owner::Two, "ports/transfer", "a third"), Err(Refusal::Full));
+/// assert_eq!((book.quotas()?, book.counts()?), ([2, 1], [1, 1]));
+///
+/// book.remove(Owner::One, key)?; // the same path, by its key
+/// assert_eq!(book.oldest(Owner::One, client_id), Err(Refusal::Absent));
+/// assert_eq!(book.oldest(Owner::Two, client_id), Ok((7, 2)));
 /// # Ok::<(), Refusal>(())
 /// ```
 #[derive(Debug)]
 pub struct Book<'a>(&'a mut [u8]);
 
 impl<'a> Book<'a> {
-    /// Makes a book without records of a buffer, whatever that holds.
-    #[doc = errors!(BadBook)]
-    pub fn new(buffer: &'a mut [u8]) -> Result<Self, Refusal> {
-        done(raw::book_new(buffer))?;
+    /// Makes a book without records of a buffer, whatever that holds. The quotas are how many slots each owner may use, owner
+    /// one's first; they sum to no more than the slots, and may be 0.
+    #[doc = errors!(BadBook, Full)]
+    pub fn new(buffer: &'a mut [u8], quotas: [u16; 2]) -> Result<Self, Refusal> {
+        done(raw::book_new(buffer, quotas[0], quotas[1]))?;
         Ok(Self(buffer))
     }
 
@@ -118,11 +153,42 @@ impl<'a> Book<'a> {
         Self(buffer)
     }
 
-    /// Makes of a buffer, whatever that holds, the book that has the slots and the records of `old`, a book
-    /// of version 1. The buffer is of [`book_size`] for its slots.
-    #[doc = errors!(BadBook, NoRoom)]
-    pub fn convert(old: &[u8], buffer: &'a mut [u8]) -> Result<Self, Refusal> {
-        done(raw::book_convert(old, buffer))?;
+    /// Makes of a buffer, whatever that holds, the book with these quotas that has the slots and the records of `old`, a book
+    /// of version 1 or 2: all of them are owner one's, whose quota has to be as large as their number. The buffer is of
+    /// [`book_size`] for its slots. A book of version 1 goes by way of version 2, in `between`, which is of [`book_2_size`]
+    /// for its slots and holds that book afterwards, also where only the second step is refused; for a book of version 2
+    /// nothing is done to `between`, and it may be empty.
+    ///
+    /// ```
+    /// use hostpath::{book_2_size, book_size, Book, Refusal};
+    ///
+    /// let mut old = [0; 8 + 288]; // a book of version 1 with one slot, and no record in it
+    /// old[..5].copy_from_slice(b"HPB\0\x01");
+    /// let (mut between, mut buffer) = ([0; book_2_size(1)], [0; book_size(1)]);
+    /// let book = Book::convert(&old, &mut between, &mut buffer, [1, 0])?;
+    /// assert_eq!(book.quotas(), Ok([1, 0]));
+    ///
+    /// let mut other = [0; book_size(1)];
+    /// let book = Book::convert(&between, &mut [], &mut other, [0, 1])?; // now of version 2
+    /// assert_eq!(book.quotas(), Ok([0, 1]));
+    /// # Ok::<(), Refusal>(())
+    /// ```
+    #[doc = errors!(BadBook, NoRoom, Full)]
+    pub fn convert(
+        old: &[u8],
+        between: &mut [u8],
+        buffer: &'a mut [u8],
+        quotas: [u16; 2],
+    ) -> Result<Self, Refusal> {
+        // By its number alone: where something else is wrong with the buffer, either conversion says so.
+        let newer = match old {
+            [_, _, _, _, 1, ..] => {
+                done(raw::book_convert(old, between))?;
+                between
+            }
+            _ => old,
+        };
+        done(raw::book_convert_owners(newer, buffer, quotas[0], quotas[1]))?;
         Ok(Self(buffer))
     }
 
@@ -131,30 +197,49 @@ impl<'a> Book<'a> {
         self.0
     }
 
-    /// Adds a record, or replaces its value, which has from 1 to [`BOOK_VALUE`] bytes. The text is its own key.
+    /// How many slots each owner may use, owner one's first. No call on a book changes that.
+    #[doc = errors!(BadBook)]
+    pub fn quotas(&self) -> Result<[u16; 2], Refusal> {
+        self.looked_at()?;
+        Ok([self.number(8), self.number(10)])
+    }
+
+    /// How many records each owner has, owner one's first: of its quota so many are used.
+    #[doc = errors!(BadBook)]
+    pub fn counts(&self) -> Result<[u16; 2], Refusal> {
+        self.looked_at()?;
+        let all = self.number(5);
+        let slots = sure(self.0.get(BOOK_HEAD..)).chunks_exact(BOOK_SLOT).take(all.into());
+        let ones = slots.filter(|slot| slot[0] == Owner::One.number()).count() as u16;
+        Ok([ones, all - ones])
+    }
+
+    /// Adds a record of an owner's, or replaces its value, which has from 1 to [`BOOK_VALUE`] bytes. The text is its own key.
     #[doc = errors!(BadBook, path, Loose, KeyTooLong, BadLength, Full)]
     pub fn write(
         &mut self,
+        owner: Owner,
         text: impl AsRef<[u8]>,
         value: impl AsRef<[u8]>,
     ) -> Result<(), Refusal> {
-        done(raw::book_write(self.0, text.as_ref(), value.as_ref()))
+        done(raw::book_write(self.0, owner.number(), text.as_ref(), value.as_ref()))
     }
 
-    /// Removes a record. The text is its own key.
+    /// Removes a record of an owner's. The text is its own key.
     #[doc = errors!(BadBook, path, Loose, KeyTooLong, Absent)]
-    pub fn remove(&mut self, text: impl AsRef<[u8]>) -> Result<(), Refusal> {
-        done(raw::book_remove(self.0, text.as_ref()))
+    pub fn remove(&mut self, owner: Owner, text: impl AsRef<[u8]>) -> Result<(), Refusal> {
+        done(raw::book_remove(self.0, owner.number(), text.as_ref()))
     }
 
-    /// A record's value, in lent room for the longest. The text is its own key.
+    /// The value of an owner's record, in lent room for the longest. The text is its own key.
     #[doc = errors!(BadBook, path, Loose, KeyTooLong, Absent)]
     pub fn lookup<'b>(
         &self,
+        owner: Owner,
         text: impl AsRef<[u8]>,
         room: &'b mut [u8; BOOK_VALUE],
     ) -> Result<&'b [u8], Refusal> {
-        bytes_of(raw::book_lookup(self.0, text.as_ref(), room), room)
+        bytes_of(raw::book_lookup(self.0, owner.number(), text.as_ref(), room), room)
     }
 
     /// As [`write`](Self::write), under the key of the text however its numbers are spelled, which is the answer: for
@@ -163,11 +248,12 @@ impl<'a> Book<'a> {
     #[doc = errors!(BadBook, path, KeyTooLong, BadLength, Full)]
     pub fn write_lenient(
         &mut self,
+        owner: Owner,
         text: impl AsRef<[u8]>,
         value: impl AsRef<[u8]>,
     ) -> Result<Key, Refusal> {
         let text = text.as_ref();
-        done(raw::book_write_lenient(self.0, text, value.as_ref()))?;
+        done(raw::book_write_lenient(self.0, owner.number(), text, value.as_ref()))?;
         Ok(Key::of(text))
     }
 
@@ -175,9 +261,9 @@ impl<'a> Book<'a> {
     /// importers that pad their heights. Others use `remove`, and learn by [`Loose`](Refusal::Loose) that their text is
     /// no key.
     #[doc = errors!(BadBook, path, KeyTooLong, Absent)]
-    pub fn remove_lenient(&mut self, text: impl AsRef<[u8]>) -> Result<Key, Refusal> {
+    pub fn remove_lenient(&mut self, owner: Owner, text: impl AsRef<[u8]>) -> Result<Key, Refusal> {
         let text = text.as_ref();
-        done(raw::book_remove_lenient(self.0, text))?;
+        done(raw::book_remove_lenient(self.0, owner.number(), text))?;
         Ok(Key::of(text))
     }
 
@@ -187,60 +273,77 @@ impl<'a> Book<'a> {
     #[doc = errors!(BadBook, path, KeyTooLong, Absent)]
     pub fn lookup_lenient<'b>(
         &self,
+        owner: Owner,
         text: impl AsRef<[u8]>,
         room: &'b mut [u8; BOOK_VALUE],
     ) -> Result<Held<'b>, Refusal> {
         let text = text.as_ref();
-        let value = bytes_of(raw::book_lookup_lenient(self.0, text, room), room)?;
+        let value = bytes_of(raw::book_lookup_lenient(self.0, owner.number(), text, room), room)?;
         Ok(Held { key: Key::of(text), value })
     }
 
-    /// Fills a table from the book, by which [`lookup_many`](Self::lookup_many) finds its records as they are now.
+    /// Fills a table from the book, by which [`lookup_many`](Self::lookup_many) finds the records of both owners as they are
+    /// now.
     #[doc = errors!(BadBook)]
     pub fn fill(&self, table: &mut Table) -> Result<(), Refusal> {
         done(raw::book_fill(self.0, table.0))
     }
 
-    /// What [`lookup`](Self::lookup) gives for each of many texts, in their order: each text is ended by a line end, and
-    /// bytes after the last of these are a text if there are any. The room has [`BOOK_ANSWER`] bytes a text. Book and
-    /// table are checked once, and the table has to be filled anew once a key has come or gone.
+    /// What [`lookup`](Self::lookup) gives an owner for each of many texts, in their order: each text is ended by a line end,
+    /// and bytes after the last of these are a text if there are any. The room has [`BOOK_ANSWER`] bytes a text. Book and
+    /// table are checked once, and the table has to be filled anew once a key of either owner has come or gone.
     #[doc = errors!(BadBook, BadTable, NoRoom)]
     pub fn lookup_many<'b>(
         &self,
+        owner: Owner,
         table: &Table,
         texts: impl AsRef<[u8]>,
         room: &'b mut [u8],
     ) -> Result<Answers<'b>, Refusal> {
-        let answer = raw::book_lookup_many(self.0, table.0, texts.as_ref(), room);
+        let answer = raw::book_lookup_many(self.0, owner.number(), table.0, texts.as_ref(), room);
         Ok(Answers(bytes_of(answer, room)?.chunks_exact(BOOK_ANSWER)))
     }
 
-    /// The smallest pair of revision number and height among a client's consensus states: of `10-2` and
+    /// The smallest pair of revision number and height among an owner's consensus states of a client: of `10-2` and
     /// `7-2` the second, though it is the last in byte order of key.
     #[doc = errors!(BadBook, Absent)]
-    pub fn oldest(&self, client_id: ClientId<'_>) -> Result<(u64, u64), Refusal> {
-        pair(raw::book_oldest(self.0, client_id.as_bytes()))
+    pub fn oldest(&self, owner: Owner, client_id: ClientId<'_>) -> Result<(u64, u64), Refusal> {
+        pair(raw::book_oldest(self.0, owner.number(), client_id.as_bytes()))
+    }
+
+    /// Whether the buffer holds a book: every call looks at that first, and this one then refuses the client for its length.
+    fn looked_at(&self) -> Result<(), Refusal> {
+        match done(raw::book_oldest(self.0, Owner::One.number(), b"").refusal) {
+            Err(Refusal::BadLength) => Ok(()),
+            other => other,
+        }
+    }
+
+    /// A number of two bytes in the header, high byte first.
+    fn number(&self, at: usize) -> u16 {
+        u16::from_be_bytes(sure(self.0.get(at..at + 2).and_then(|two| two.try_into().ok())))
     }
 }
 
-/// A table of buckets in a lent buffer beside a book: which slot each record stands in, by the hash of its key.
+/// A table of buckets in a lent buffer beside a book: which slot each record stands in, by the hash of its owner and key.
 ///
 /// ```
-/// use hostpath::{book_size, Book, Refusal, Table, BOOK_ANSWER, BOOK_TABLE};
+/// use hostpath::{book_size, Book, Owner, Refusal, Table, BOOK_ANSWER, BOOK_TABLE};
 ///
 /// let (mut buffer, mut buckets) = ([0; book_size(2)], [0; BOOK_TABLE]);
-/// let (mut book, mut table) = (Book::new(&mut buffer)?, Table::open(&mut buckets));
-/// book.write("ports/transfer", "a digest")?;
+/// let (mut book, mut table) = (Book::new(&mut buffer, [1, 1])?, Table::open(&mut buckets));
+/// book.write(Owner::One, "ports/transfer", "a digest")?;
 /// book.fill(&mut table)?;
 /// let (texts, mut room) = ("ports/transfer\nports/icahost\nports", [0; 3 * BOOK_ANSWER]);
-/// let mut answers = book.lookup_many(&table, texts, &mut room)?;
+/// let mut answers = book.lookup_many(Owner::One, &table, texts, &mut room)?;
 /// assert_eq!(answers.next(), Some(Ok(&b"a digest"[..])));
 /// assert_eq!(answers.next(), Some(Err(Refusal::Absent)));
 /// assert_eq!(answers.next(), Some(Err(Refusal::NotAPath)));
 /// assert_eq!(answers.next(), None);
 ///
-/// book.write("ports/icahost", "another")?; // so the table is stale
-/// assert_eq!(book.lookup_many(&table, texts, &mut room).err(), Some(Refusal::BadTable));
+/// book.write(Owner::Two, "ports/icahost", "another")?; // so the table is stale
+/// let stale = book.lookup_many(Owner::One, &table, texts, &mut room);
+/// assert_eq!(stale.err(), Some(Refusal::BadTable));
 /// # Ok::<(), Refusal>(())
 /// ```
 #[derive(Debug)]

@@ -6,7 +6,7 @@
 //! loose spelling of a path whose key in the store is another text:
 //!
 //! ```
-//! use hostpath::{book_size, Book, Path, Refusal, BOOK_VALUE};
+//! use hostpath::{book_size, Book, Owner, Path, Refusal, BOOK_VALUE};
 //!
 //! let text = "clients/07-tendermint-4/consensusStates/007-2";
 //! let reading = Path::read(text)?;
@@ -21,14 +21,16 @@
 //! assert_eq!((revision_number, revision_height), (7, 2));
 //!
 //! let (mut buffer, mut room) = ([0; book_size(200)], [0; BOOK_VALUE]);
-//! let mut book = Book::new(&mut buffer)?;
-//! assert_eq!(book.write(text, "a digest"), Err(Refusal::Loose)); // it is not its own key
-//! book.write("clients/07-tendermint-4/consensusStates/7-2", "a digest")?;
-//! let held = book.lookup_lenient(text, &mut room)?; // for importers that pad their heights
+//! let mut book = Book::new(&mut buffer, [150, 50])?; // slots for each of two owners
+//! assert_eq!(book.write(Owner::One, text, "a digest"), Err(Refusal::Loose)); // it is not its own key
+//! book.write(Owner::One, "clients/07-tendermint-4/consensusStates/7-2", "a digest")?;
+//! let held = book.lookup_lenient(Owner::One, text, &mut room)?; // for importers that pad their heights
 //! assert_eq!(held.key.as_str(), "clients/07-tendermint-4/consensusStates/7-2");
 //! assert_eq!(held.value, b"a digest");
-//! let other = book.lookup("clients/007-tendermint-4/consensusStates/7-2", &mut room);
+//! let other = book.lookup(Owner::One, "clients/007-tendermint-4/consensusStates/7-2", &mut room);
 //! assert_eq!(other, Err(Refusal::Absent)); // another client
+//! let other = book.lookup(Owner::Two, "clients/07-tendermint-4/consensusStates/7-2", &mut room);
+//! assert_eq!(other, Err(Refusal::Absent)); // another owner
 //! # Ok::<(), Refusal>(())
 //! ```
 //!

@@ -180,27 +180,29 @@ pub mod c {
         /// [`wide_receipts_path`] on pointers.
         pub fn hp_wide_receipts_path(port: *const u8, port_len: usize, channel: *const u8, channel_len: usize, out: *mut u8, out_len: usize) -> Written;
         /// [`book_new`] on pointers.
-        pub fn hp_book_new(book: *mut u8, book_len: usize) -> u8;
+        pub fn hp_book_new(book: *mut u8, book_len: usize, quota1: u16, quota2: u16) -> u8;
         /// [`book_write`] on pointers.
-        pub fn hp_book_write(book: *mut u8, book_len: usize, text: *const u8, text_len: usize, value: *const u8, value_len: usize) -> u8;
+        pub fn hp_book_write(book: *mut u8, book_len: usize, owner: u8, text: *const u8, text_len: usize, value: *const u8, value_len: usize) -> u8;
         /// [`book_remove`] on pointers.
-        pub fn hp_book_remove(book: *mut u8, book_len: usize, text: *const u8, text_len: usize) -> u8;
+        pub fn hp_book_remove(book: *mut u8, book_len: usize, owner: u8, text: *const u8, text_len: usize) -> u8;
         /// [`book_lookup`] on pointers.
-        pub fn hp_book_lookup(book: *const u8, book_len: usize, text: *const u8, text_len: usize, out: *mut u8, out_len: usize) -> Written;
+        pub fn hp_book_lookup(book: *const u8, book_len: usize, owner: u8, text: *const u8, text_len: usize, out: *mut u8, out_len: usize) -> Written;
         /// [`book_write_lenient`] on pointers.
-        pub fn hp_book_write_lenient(book: *mut u8, book_len: usize, text: *const u8, text_len: usize, value: *const u8, value_len: usize) -> u8;
+        pub fn hp_book_write_lenient(book: *mut u8, book_len: usize, owner: u8, text: *const u8, text_len: usize, value: *const u8, value_len: usize) -> u8;
         /// [`book_remove_lenient`] on pointers.
-        pub fn hp_book_remove_lenient(book: *mut u8, book_len: usize, text: *const u8, text_len: usize) -> u8;
+        pub fn hp_book_remove_lenient(book: *mut u8, book_len: usize, owner: u8, text: *const u8, text_len: usize) -> u8;
         /// [`book_lookup_lenient`] on pointers.
-        pub fn hp_book_lookup_lenient(book: *const u8, book_len: usize, text: *const u8, text_len: usize, out: *mut u8, out_len: usize) -> Written;
+        pub fn hp_book_lookup_lenient(book: *const u8, book_len: usize, owner: u8, text: *const u8, text_len: usize, out: *mut u8, out_len: usize) -> Written;
         /// [`book_oldest`] on pointers.
-        pub fn hp_book_oldest(book: *const u8, book_len: usize, client: *const u8, client_len: usize) -> Pair;
+        pub fn hp_book_oldest(book: *const u8, book_len: usize, owner: u8, client: *const u8, client_len: usize) -> Pair;
         /// [`book_convert`] on pointers.
         pub fn hp_book_convert(old: *const u8, old_len: usize, book: *mut u8, book_len: usize) -> u8;
+        /// [`book_convert_owners`] on pointers.
+        pub fn hp_book_convert_owners(old: *const u8, old_len: usize, book: *mut u8, book_len: usize, quota1: u16, quota2: u16) -> u8;
         /// [`book_fill`] on pointers.
         pub fn hp_book_fill(book: *const u8, book_len: usize, table: *mut u8, table_len: usize) -> u8;
         /// [`book_lookup_many`] on pointers.
-        pub fn hp_book_lookup_many(book: *const u8, book_len: usize, table: *const u8, table_len: usize, texts: *const u8, texts_len: usize, out: *mut u8, out_len: usize) -> Written;
+        pub fn hp_book_lookup_many(book: *const u8, book_len: usize, owner: u8, table: *const u8, table_len: usize, texts: *const u8, texts_len: usize, out: *mut u8, out_len: usize) -> Written;
         /// [`refusal_text`] on pointers.
         pub fn hp_refusal_text(number: u8, out: *mut u8, out_len: usize) -> Written;
         // Above, made by bin/interface.
@@ -544,55 +546,56 @@ pub fn wide_receipts_path(port: &[u8], channel: &[u8], out: &mut [u8]) -> Writte
     unsafe { c::hp_wide_receipts_path(port.as_ptr(), port.len(), channel.as_ptr(), channel.len(), out.as_mut_ptr(), out.len()) }
 }
 
-/// Makes the buffer, whatever it holds, a book of version 2 without records; its size alone is looked at: [9](crate::Refusal::BadBook).
-pub fn book_new(book: &mut [u8]) -> u8 {
+/// Makes the buffer, whatever it holds, a book of version 3 without records, in which owner 1 may have quota1 of them and owner 2
+/// quota2; its size alone is looked at: [9](crate::Refusal::BadBook), then [11](crate::Refusal::Full) where the quotas sum to more than its slots.
+pub fn book_new(book: &mut [u8], quota1: u16, quota2: u16) -> u8 {
     // SAFETY: each pointer and count are those of one live slice.
-    unsafe { c::hp_book_new(book.as_mut_ptr(), book.len()) }
+    unsafe { c::hp_book_new(book.as_mut_ptr(), book.len(), quota1, quota2) }
 }
 
-/// The text, which is its own rendering, holds the value from now on, anew or in place of what it held:
-/// [9](crate::Refusal::BadBook), [1](crate::Refusal::TooLong), [2](crate::Refusal::NotAscii), [3](crate::Refusal::NotAPath) ([17](crate::Refusal::NoDigits), [18](crate::Refusal::NotADigit), [19](crate::Refusal::TooLarge)), [20](crate::Refusal::Loose), [10](crate::Refusal::KeyTooLong), [6](crate::Refusal::BadLength), [11](crate::Refusal::Full).
-pub fn book_write(book: &mut [u8], text: &[u8], value: &[u8]) -> u8 {
+/// The owner's text, which is its own rendering, holds the value from now on, anew or in place of what it held:
+/// [9](crate::Refusal::BadBook), [23](crate::Refusal::BadOwner), [1](crate::Refusal::TooLong), [2](crate::Refusal::NotAscii), [3](crate::Refusal::NotAPath) ([17](crate::Refusal::NoDigits), [18](crate::Refusal::NotADigit), [19](crate::Refusal::TooLarge)), [20](crate::Refusal::Loose), [10](crate::Refusal::KeyTooLong), [6](crate::Refusal::BadLength), then [11](crate::Refusal::Full) where it is new and the owner has as many records as its quota.
+pub fn book_write(book: &mut [u8], owner: u8, text: &[u8], value: &[u8]) -> u8 {
     // SAFETY: each pointer and count are those of one live slice.
-    unsafe { c::hp_book_write(book.as_mut_ptr(), book.len(), text.as_ptr(), text.len(), value.as_ptr(), value.len()) }
+    unsafe { c::hp_book_write(book.as_mut_ptr(), book.len(), owner, text.as_ptr(), text.len(), value.as_ptr(), value.len()) }
 }
 
-/// The text, which is its own rendering, holds nothing from now on: [9](crate::Refusal::BadBook), [1](crate::Refusal::TooLong), [2](crate::Refusal::NotAscii), [3](crate::Refusal::NotAPath) ([17](crate::Refusal::NoDigits), [18](crate::Refusal::NotADigit), [19](crate::Refusal::TooLarge)), [20](crate::Refusal::Loose), [10](crate::Refusal::KeyTooLong), [12](crate::Refusal::Absent).
-pub fn book_remove(book: &mut [u8], text: &[u8]) -> u8 {
+/// The owner's text, which is its own rendering, holds nothing from now on: [9](crate::Refusal::BadBook), [23](crate::Refusal::BadOwner), [1](crate::Refusal::TooLong), [2](crate::Refusal::NotAscii), [3](crate::Refusal::NotAPath) ([17](crate::Refusal::NoDigits), [18](crate::Refusal::NotADigit), [19](crate::Refusal::TooLarge)), [20](crate::Refusal::Loose), [10](crate::Refusal::KeyTooLong), [12](crate::Refusal::Absent).
+pub fn book_remove(book: &mut [u8], owner: u8, text: &[u8]) -> u8 {
     // SAFETY: each pointer and count are those of one live slice.
-    unsafe { c::hp_book_remove(book.as_mut_ptr(), book.len(), text.as_ptr(), text.len()) }
+    unsafe { c::hp_book_remove(book.as_mut_ptr(), book.len(), owner, text.as_ptr(), text.len()) }
 }
 
-/// What the text, which is its own rendering, holds, 1 to 64 bytes; wants room for 64 whatever it holds:
-/// [9](crate::Refusal::BadBook), [1](crate::Refusal::TooLong), [2](crate::Refusal::NotAscii), [3](crate::Refusal::NotAPath) ([17](crate::Refusal::NoDigits), [18](crate::Refusal::NotADigit), [19](crate::Refusal::TooLarge)), [20](crate::Refusal::Loose), [10](crate::Refusal::KeyTooLong), [4](crate::Refusal::NoRoom), [12](crate::Refusal::Absent).
-pub fn book_lookup(book: &[u8], text: &[u8], out: &mut [u8]) -> Written {
+/// What the owner's text, which is its own rendering, holds, 1 to 64 bytes; wants room for 64 whatever it holds:
+/// [9](crate::Refusal::BadBook), [23](crate::Refusal::BadOwner), [1](crate::Refusal::TooLong), [2](crate::Refusal::NotAscii), [3](crate::Refusal::NotAPath) ([17](crate::Refusal::NoDigits), [18](crate::Refusal::NotADigit), [19](crate::Refusal::TooLarge)), [20](crate::Refusal::Loose), [10](crate::Refusal::KeyTooLong), [4](crate::Refusal::NoRoom), [12](crate::Refusal::Absent).
+pub fn book_lookup(book: &[u8], owner: u8, text: &[u8], out: &mut [u8]) -> Written {
     // SAFETY: each pointer and count are those of one live slice.
-    unsafe { c::hp_book_lookup(book.as_ptr(), book.len(), text.as_ptr(), text.len(), out.as_mut_ptr(), out.len()) }
+    unsafe { c::hp_book_lookup(book.as_ptr(), book.len(), owner, text.as_ptr(), text.len(), out.as_mut_ptr(), out.len()) }
 }
 
-/// As hp_book_write, on the rendering of the text, for importers that pad their heights: [9](crate::Refusal::BadBook), [1](crate::Refusal::TooLong), [2](crate::Refusal::NotAscii), [3](crate::Refusal::NotAPath) ([17](crate::Refusal::NoDigits), [18](crate::Refusal::NotADigit), [19](crate::Refusal::TooLarge)), [10](crate::Refusal::KeyTooLong), [6](crate::Refusal::BadLength), [11](crate::Refusal::Full).
-pub fn book_write_lenient(book: &mut [u8], text: &[u8], value: &[u8]) -> u8 {
+/// As hp_book_write, on the rendering of the text, for importers that pad their heights: [9](crate::Refusal::BadBook), [23](crate::Refusal::BadOwner), [1](crate::Refusal::TooLong), [2](crate::Refusal::NotAscii), [3](crate::Refusal::NotAPath) ([17](crate::Refusal::NoDigits), [18](crate::Refusal::NotADigit), [19](crate::Refusal::TooLarge)), [10](crate::Refusal::KeyTooLong), [6](crate::Refusal::BadLength), [11](crate::Refusal::Full).
+pub fn book_write_lenient(book: &mut [u8], owner: u8, text: &[u8], value: &[u8]) -> u8 {
     // SAFETY: each pointer and count are those of one live slice.
-    unsafe { c::hp_book_write_lenient(book.as_mut_ptr(), book.len(), text.as_ptr(), text.len(), value.as_ptr(), value.len()) }
+    unsafe { c::hp_book_write_lenient(book.as_mut_ptr(), book.len(), owner, text.as_ptr(), text.len(), value.as_ptr(), value.len()) }
 }
 
-/// As hp_book_remove, on the rendering of the text, for importers that pad their heights: [9](crate::Refusal::BadBook), [1](crate::Refusal::TooLong), [2](crate::Refusal::NotAscii), [3](crate::Refusal::NotAPath) ([17](crate::Refusal::NoDigits), [18](crate::Refusal::NotADigit), [19](crate::Refusal::TooLarge)), [10](crate::Refusal::KeyTooLong), [12](crate::Refusal::Absent).
-pub fn book_remove_lenient(book: &mut [u8], text: &[u8]) -> u8 {
+/// As hp_book_remove, on the rendering of the text, for importers that pad their heights: [9](crate::Refusal::BadBook), [23](crate::Refusal::BadOwner), [1](crate::Refusal::TooLong), [2](crate::Refusal::NotAscii), [3](crate::Refusal::NotAPath) ([17](crate::Refusal::NoDigits), [18](crate::Refusal::NotADigit), [19](crate::Refusal::TooLarge)), [10](crate::Refusal::KeyTooLong), [12](crate::Refusal::Absent).
+pub fn book_remove_lenient(book: &mut [u8], owner: u8, text: &[u8]) -> u8 {
     // SAFETY: each pointer and count are those of one live slice.
-    unsafe { c::hp_book_remove_lenient(book.as_mut_ptr(), book.len(), text.as_ptr(), text.len()) }
+    unsafe { c::hp_book_remove_lenient(book.as_mut_ptr(), book.len(), owner, text.as_ptr(), text.len()) }
 }
 
-/// As hp_book_lookup, on the rendering of the text, for importers that pad their heights: [9](crate::Refusal::BadBook), [1](crate::Refusal::TooLong), [2](crate::Refusal::NotAscii), [3](crate::Refusal::NotAPath) ([17](crate::Refusal::NoDigits), [18](crate::Refusal::NotADigit), [19](crate::Refusal::TooLarge)), [10](crate::Refusal::KeyTooLong), [4](crate::Refusal::NoRoom), [12](crate::Refusal::Absent).
-pub fn book_lookup_lenient(book: &[u8], text: &[u8], out: &mut [u8]) -> Written {
+/// As hp_book_lookup, on the rendering of the text, for importers that pad their heights: [9](crate::Refusal::BadBook), [23](crate::Refusal::BadOwner), [1](crate::Refusal::TooLong), [2](crate::Refusal::NotAscii), [3](crate::Refusal::NotAPath) ([17](crate::Refusal::NoDigits), [18](crate::Refusal::NotADigit), [19](crate::Refusal::TooLarge)), [10](crate::Refusal::KeyTooLong), [4](crate::Refusal::NoRoom), [12](crate::Refusal::Absent).
+pub fn book_lookup_lenient(book: &[u8], owner: u8, text: &[u8], out: &mut [u8]) -> Written {
     // SAFETY: each pointer and count are those of one live slice.
-    unsafe { c::hp_book_lookup_lenient(book.as_ptr(), book.len(), text.as_ptr(), text.len(), out.as_mut_ptr(), out.len()) }
+    unsafe { c::hp_book_lookup_lenient(book.as_ptr(), book.len(), owner, text.as_ptr(), text.len(), out.as_mut_ptr(), out.len()) }
 }
 
-/// The smallest pair of revision number and height among the client's records `clients/C/consensusStates/R-h`: [9](crate::Refusal::BadBook), the
-/// client's [2](crate::Refusal::NotAscii), [5](crate::Refusal::BadChar), [6](crate::Refusal::BadLength); then [12](crate::Refusal::Absent).
-pub fn book_oldest(book: &[u8], client: &[u8]) -> Pair {
+/// The smallest pair of revision number and height among the client's records `clients/C/consensusStates/R-h` of that owner: [9](crate::Refusal::BadBook), [23](crate::Refusal::BadOwner),
+/// the client's [2](crate::Refusal::NotAscii), [5](crate::Refusal::BadChar), [6](crate::Refusal::BadLength); then [12](crate::Refusal::Absent).
+pub fn book_oldest(book: &[u8], owner: u8, client: &[u8]) -> Pair {
     // SAFETY: each pointer and count are those of one live slice.
-    unsafe { c::hp_book_oldest(book.as_ptr(), book.len(), client.as_ptr(), client.len()) }
+    unsafe { c::hp_book_oldest(book.as_ptr(), book.len(), owner, client.as_ptr(), client.len()) }
 }
 
 /// Makes the second buffer, whatever it holds, the book of version 2 that has the slots and the records of `old`, a book
@@ -602,18 +605,26 @@ pub fn book_convert(old: &[u8], book: &mut [u8]) -> u8 {
     unsafe { c::hp_book_convert(old.as_ptr(), old.len(), book.as_mut_ptr(), book.len()) }
 }
 
-/// Fills the first 512 bytes of the table with the buckets by which the book's records are found: [9](crate::Refusal::BadBook), [4](crate::Refusal::NoRoom).
+/// Makes the second buffer, whatever it holds, the book of version 3 that has the slots and the records of `old`, a book of
+/// version 2, all of them owner 1's: [9](crate::Refusal::BadBook) where that is none, then [4](crate::Refusal::NoRoom) where the second buffer is not of that book's size, then [11](crate::Refusal::Full)
+/// where the quotas sum to more than its slots, or there are more records than the first quota.
+pub fn book_convert_owners(old: &[u8], book: &mut [u8], quota1: u16, quota2: u16) -> u8 {
+    // SAFETY: each pointer and count are those of one live slice.
+    unsafe { c::hp_book_convert_owners(old.as_ptr(), old.len(), book.as_mut_ptr(), book.len(), quota1, quota2) }
+}
+
+/// Fills the first 512 bytes of the table with the buckets by which the book's records, of both owners, are found: [9](crate::Refusal::BadBook), [4](crate::Refusal::NoRoom).
 pub fn book_fill(book: &[u8], table: &mut [u8]) -> u8 {
     // SAFETY: each pointer and count are those of one live slice.
     unsafe { c::hp_book_fill(book.as_ptr(), book.len(), table.as_mut_ptr(), table.len()) }
 }
 
-/// What hp_book_lookup gives for each text of `texts`, which byte 10 ends, by a table of 512 bytes that was filled from this book
+/// What hp_book_lookup gives the owner for each text of `texts`, which byte 10 ends, by a table of 512 bytes that was filled from this book
 /// as it is now: 66 bytes a text, its refusal number, the length of its value, and the value filled with zeros to 64. Bytes after
-/// the last 10 are a text if there are any: [9](crate::Refusal::BadBook), [22](crate::Refusal::BadTable), [4](crate::Refusal::NoRoom).
-pub fn book_lookup_many(book: &[u8], table: &[u8], texts: &[u8], out: &mut [u8]) -> Written {
+/// the last 10 are a text if there are any: [9](crate::Refusal::BadBook), [23](crate::Refusal::BadOwner), [22](crate::Refusal::BadTable), [4](crate::Refusal::NoRoom).
+pub fn book_lookup_many(book: &[u8], owner: u8, table: &[u8], texts: &[u8], out: &mut [u8]) -> Written {
     // SAFETY: each pointer and count are those of one live slice.
-    unsafe { c::hp_book_lookup_many(book.as_ptr(), book.len(), table.as_ptr(), table.len(), texts.as_ptr(), texts.len(), out.as_mut_ptr(), out.len()) }
+    unsafe { c::hp_book_lookup_many(book.as_ptr(), book.len(), owner, table.as_ptr(), table.len(), texts.as_ptr(), texts.len(), out.as_mut_ptr(), out.len()) }
 }
 
 /// The sentence of a refusal, by its number: what was wrong and what to do about it, at most 128 bytes. `done` for 0, and

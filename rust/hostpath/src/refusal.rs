@@ -21,11 +21,11 @@ pub enum Refusal {
     BadLength = 6,
     /// 7: the identifier is not its name, a dash and a number without leading zeros: write it as in channel-7.
     BadPrefix = 7,
-    /// 9: the buffer holds no book of the version that the call takes: make a new one in it, or convert a book of version 1.
+    /// 9: the buffer holds no book of the version that the call takes: make a new one in it, or convert an older one.
     BadBook = 9,
     /// 10: the path's key has more than the 255 bytes that a book keeps: shorten its upgrade path.
     KeyTooLong = 10,
-    /// 11: every slot of the book holds another key: remove a record, or take a book of more slots.
+    /// 11: the quota has no room for another record, or the book for such quotas: remove a record, or take other quotas.
     Full = 11,
     /// 12: the book holds no such record, or the block no such key: ask for the key of the text to see which record was looked for.
     Absent = 12,
@@ -49,6 +49,8 @@ pub enum Refusal {
     BadUtf8 = 21,
     /// 22: the table is not the 512 numbers that filling it from this book gives: fill it again.
     BadTable = 22,
+    /// 23: the owner is neither 1 nor 2: give the number of the network that the record belongs to.
+    BadOwner = 23,
     /// 24: the bytes are not a client, a marker of 1, 2 or 3 and 8 more, or the kind is not one of these: give a whole packet key.
     BadV2Key = 24,
     // Above, made by bin/interface.
@@ -80,6 +82,7 @@ impl Refusal {
             20 => Self::Loose,
             21 => Self::BadUtf8,
             22 => Self::BadTable,
+            23 => Self::BadOwner,
             24 => Self::BadV2Key,
             // Above, made by bin/interface.
             _ => return None,
@@ -102,9 +105,9 @@ impl Refusal {
             Self::BadChar => "a byte is none of A-Z, a-z, 0-9 and . _ + - # [ ] < >, which identifiers are made of: take it out",
             Self::BadLength => "the identifier is too short or too long, or the value is empty or over 64 bytes: give one of the right length",
             Self::BadPrefix => "the identifier is not its name, a dash and a number without leading zeros: write it as in channel-7",
-            Self::BadBook => "the buffer holds no book of the version that the call takes: make a new one in it, or convert a book of version 1",
+            Self::BadBook => "the buffer holds no book of the version that the call takes: make a new one in it, or convert an older one",
             Self::KeyTooLong => "the path's key has more than the 255 bytes that a book keeps: shorten its upgrade path",
-            Self::Full => "every slot of the book holds another key: remove a record, or take a book of more slots",
+            Self::Full => "the quota has no room for another record, or the book for such quotas: remove a record, or take other quotas",
             Self::Absent => "the book holds no such record, or the block no such key: ask for the key of the text to see which record was looked for",
             Self::BadSegment => "the upgrade path has a slash: give it as one piece, such as upgradedIBCState",
             Self::BadKind => "the kind is not a number from 1 to 19: take it from the table of kinds",
@@ -116,6 +119,7 @@ impl Refusal {
             Self::Loose => "a number of the text has a plus or leading zeros, so it is not its own key: give its key, or make the lenient call",
             Self::BadUtf8 => "the text is no UTF-8: give it as UTF-8 without overlong forms and surrogates",
             Self::BadTable => "the table is not the 512 numbers that filling it from this book gives: fill it again",
+            Self::BadOwner => "the owner is neither 1 nor 2: give the number of the network that the record belongs to",
             Self::BadV2Key => "the bytes are not a client, a marker of 1, 2 or 3 and 8 more, or the kind is not one of these: give a whole packet key",
             // Above, made by bin/interface.
         }

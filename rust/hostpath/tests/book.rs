@@ -1,6 +1,8 @@
 //! The book through its type.
-use hostpath::{book_size, Book, ClientId, Refusal, Table};
-use hostpath::{BOOK_ANSWER, BOOK_HEAD, BOOK_KEY, BOOK_MOST, BOOK_TABLE, BOOK_VALUE};
+use hostpath::Owner::{One, Two};
+use hostpath::{book_2_size, book_size, Book, ClientId, Owner, Refusal, Table};
+use hostpath::{BOOK_2_HEAD, BOOK_2_SLOT, BOOK_ANSWER, BOOK_HEAD, BOOK_KEY, BOOK_MOST, BOOK_SLOT};
+use hostpath::{BOOK_TABLE, BOOK_VALUE};
 
 const LOOSE: &[u8] = b"clients/07-tendermint-4/consensusStates/007-+2";
 const EXACT: &[u8] = b"clients/07-tendermint-4/consensusStates/7-2";
@@ -10,45 +12,102 @@ fn clients() -> [ClientId<'static>; 2] {
     ["07-tendermint-4", "07-tendermint-5"].map(|id| ClientId::try_from(id).unwrap())
 }
 
-/// What the book holds under a text.
-fn held(book: &Book, text: &[u8]) -> Result<Vec<u8>, Refusal> {
-    book.lookup(text, &mut [0xa5; BOOK_VALUE]).map(<[u8]>::to_vec)
+/// What the book holds under a text of an owner's.
+fn held(book: &Book, owner: Owner, text: &[u8]) -> Result<Vec<u8>, Refusal> {
+    book.lookup(owner, text, &mut [0xa5; BOOK_VALUE]).map(<[u8]>::to_vec)
 }
 
 #[test]
 fn calls() {
     let mut buffer = [0xa5; book_size(2)];
-    let mut book = Book::new(&mut buffer).unwrap();
-    assert_eq!(held(&book, EXACT), Err(Refusal::Absent));
-    assert!(book.write_lenient(LOOSE, [1; BOOK_VALUE]).is_ok());
-    assert_eq!(book.write(EXACT, [2; 32]), Ok(()));
-    assert_eq!(book.write("ports/transfer", [3]), Ok(()));
-    assert_eq!(book.write(String::from("ports/icahost"), vec![4; 32]), Err(Refusal::Full));
-    assert_eq!(held(&book, EXACT), Ok(vec![2; 32]));
-    assert_eq!(clients().map(|id| book.oldest(id)), [Ok((7, 2)), Err(Refusal::Absent)]);
-    assert!(book.remove_lenient(LOOSE).is_ok());
-    assert_eq!(book.remove(EXACT), Err(Refusal::Absent));
-    assert_eq!(book.bytes()[..8], *b"HPB\0\x02\0\x01\0");
-    assert_eq!(held(&Book::open(&mut buffer), b"ports/transfer"), Ok(vec![3]));
+    let mut book = Book::new(&mut buffer, [2, 0]).unwrap();
+    assert_eq!(held(&book, One, EXACT), Err(Refusal::Absent));
+    assert!(book.write_lenient(One, LOOSE, [1; BOOK_VALUE]).is_ok());
+    assert_eq!(book.write(One, EXACT, [2; 32]), Ok(()));
+    assert_eq!(book.write(One, "ports/transfer", [3]), Ok(()));
+    assert_eq!(book.write(One, String::from("ports/icahost"), vec![4; 32]), Err(Refusal::Full));
+    assert_eq!(held(&book, One, EXACT), Ok(vec![2; 32]));
+    assert_eq!(clients().map(|id| book.oldest(One, id)), [Ok((7, 2)), Err(Refusal::Absent)]);
+    assert!(book.remove_lenient(One, LOOSE).is_ok());
+    assert_eq!(book.remove(One, EXACT), Err(Refusal::Absent));
+    assert_eq!(book.bytes()[..BOOK_HEAD], *b"HPB\0\x03\0\x01\0\0\x02\0\0");
+    assert_eq!(held(&Book::open(&mut buffer), One, b"ports/transfer"), Ok(vec![3]));
+}
+
+/// One text under two owners is two records, and neither owner's calls see or change the other's, nor take its slots.
+#[test]
+fn owners() {
+    let mut buffer = [0; book_size(4)];
+    let mut book = Book::new(&mut buffer, [2, 1]).unwrap();
+    assert_eq!(book.write(Two, EXACT, "of two"), Ok(()));
+    assert_eq!(book.write(Two, "ports/transfer", "of two"), Err(Refusal::Full));
+    assert_eq!(held(&book, One, EXACT), Err(Refusal::Absent));
+    assert_eq!(book.remove(One, EXACT), Err(Refusal::Absent));
+    assert_eq!(Owner::ALL.map(|owner| book.oldest(owner, clients()[0]).is_ok()), [false, true]);
+    assert_eq!(book.counts(), Ok([0, 1]));
+    for text in [EXACT, b"ports/transfer"] {
+        assert_eq!(book.write(One, text, "of one"), Ok(()));
+    }
+    assert_eq!(book.write(One, "ports/icahost", "of one"), Err(Refusal::Full)); // though a slot is free
+    assert_eq!((book.quotas(), book.counts()), (Ok([2, 1]), Ok([2, 1])));
+    assert_eq!(held(&book, Two, EXACT), Ok(b"of two".to_vec()));
+    assert_eq!(book.remove(Two, EXACT), Ok(()));
+    assert_eq!(held(&book, One, EXACT), Ok(b"of one".to_vec()));
+    assert_eq!(book.write(One, "ports/icahost", "of one"), Err(Refusal::Full));
+    assert_eq!((book.quotas(), book.counts()), (Ok([2, 1]), Ok([2, 0])));
+}
+
+/// Quotas sum to no more than the slots, in more than 16 bits; the buffer's size is looked at first.
+#[test]
+fn quotas() {
+    for quotas in [[0, 0], [0, 2], [1, 0], [1, 1], [2, 0]] {
+        let mut buffer = [0xa5; book_size(2)];
+        let book = Book::new(&mut buffer, quotas).unwrap();
+        assert_eq!((book.quotas(), book.counts()), (Ok(quotas), Ok([0, 0])));
+    }
+    for quotas in [[2, 1], [0, 3], [1, 65_535], [32_768, 32_768], [65_535, 3], [65_535, 65_535]] {
+        let mut buffer = [0xa5; book_size(2)];
+        assert_eq!(Book::new(&mut buffer, quotas).err(), Some(Refusal::Full), "{quotas:?}");
+        assert_eq!(buffer, [0xa5; book_size(2)]);
+        assert_eq!(Book::new(&mut buffer[1..], quotas).err(), Some(Refusal::BadBook));
+    }
+}
+
+/// A number that is no owner's, which no `Owner` has, comes behind the book and ahead of all else.
+#[test]
+fn bad_owners() {
+    use hostpath::raw::*;
+    let mut buffer = [0; book_size(1)];
+    Book::new(&mut buffer, [0, 1]).unwrap();
+    let (made, mut out, refusal) = (buffer, [0; BOOK_VALUE], Refusal::BadOwner.number());
+    for owner in [0, 3, 255] {
+        assert_eq!(book_write(&mut buffer, owner, b"x", b""), refusal);
+        assert_eq!(book_remove_lenient(&mut buffer, owner, b"x"), refusal);
+        assert_eq!(book_lookup(&buffer, owner, EXACT, &mut out).refusal, refusal);
+        assert_eq!(book_oldest(&buffer, owner, b"").refusal, refusal);
+        assert_eq!(book_lookup_many(&buffer, owner, b"", b"x", &mut []).refusal, refusal);
+        assert_eq!(book_write(&mut [], owner, b"x", b""), Refusal::BadBook.number());
+    }
+    assert_eq!(buffer, made);
 }
 
 /// A lenient call answers which key it worked on, also where the text is that key, or as long as a key can be.
 #[test]
 fn keys() {
     let mut buffer = [0; book_size(1)];
-    let mut book = Book::new(&mut buffer).unwrap();
+    let mut book = Book::new(&mut buffer, [1, 0]).unwrap();
     let long = "u".repeat(BOOK_KEY - "/5/upgradedClient".len()) + "/5/upgradedClient";
     let loose = long.replace("/5/", "/+05/");
     let exact = std::str::from_utf8(EXACT).unwrap();
     for (text, key) in [(LOOSE, exact), (EXACT, exact), (loose.as_bytes(), &long)] {
-        let written = book.write_lenient(text, "a digest").unwrap();
+        let written = book.write_lenient(One, text, "a digest").unwrap();
         assert_eq!(written.as_str(), key);
         let mut room = [0; BOOK_VALUE];
-        let held = book.lookup_lenient(text, &mut room).unwrap();
+        let held = book.lookup_lenient(One, text, &mut room).unwrap();
         assert_eq!((held.key, held.value), (written, &b"a digest"[..]));
-        let removed = book.remove_lenient(text).unwrap();
+        let removed = book.remove_lenient(One, text).unwrap();
         assert_eq!((removed, removed.to_string()), (written, key.into()));
-        assert_eq!(book.remove_lenient(text), Err(Refusal::Absent));
+        assert_eq!(book.remove_lenient(One, text), Err(Refusal::Absent));
     }
 }
 
@@ -56,32 +115,41 @@ fn keys() {
 #[test]
 fn loose() {
     let mut buffer = [0; book_size(1)];
-    let mut book = Book::new(&mut buffer).unwrap();
-    book.write(EXACT, [1; 32]).unwrap();
+    let mut book = Book::new(&mut buffer, [1, 0]).unwrap();
+    book.write(One, EXACT, [1; 32]).unwrap();
     let before = book.bytes().to_vec();
     let long = [&[b'u'; 300][..], b"/05/upgradedClient"].concat();
     for (text, lenient) in [(LOOSE, Ok(())), (&long, Err(Refusal::KeyTooLong))] {
-        assert_eq!(book.write(text, [2; BOOK_VALUE + 1]), Err(Refusal::Loose));
-        assert_eq!(book.remove(text), Err(Refusal::Loose));
-        assert_eq!(held(&book, text), Err(Refusal::Loose));
+        assert_eq!(book.write(One, text, [2; BOOK_VALUE + 1]), Err(Refusal::Loose));
+        assert_eq!(book.remove(One, text), Err(Refusal::Loose));
+        assert_eq!(held(&book, One, text), Err(Refusal::Loose));
         assert_eq!(book.bytes(), before);
-        assert_eq!(book.lookup_lenient(text, &mut [0; BOOK_VALUE]).map(|_| ()), lenient);
+        assert_eq!(book.lookup_lenient(One, text, &mut [0; BOOK_VALUE]).map(|_| ()), lenient);
     }
-    assert_eq!(book.remove(b"clients/07-tendermint-4/consensusStates/007"), Err(Refusal::NotAPath));
+    assert_eq!(
+        book.remove(One, b"clients/07-tendermint-4/consensusStates/007"),
+        Err(Refusal::NotAPath)
+    );
 }
 
 #[test]
 fn no_book() {
     for size in [0, 1, book_size(0), book_size(1) + 1, book_size(BOOK_MOST + 1)] {
-        assert_eq!(Book::new(&mut vec![0; size]).map(|_| ()), Err(Refusal::BadBook), "{size}");
+        assert_eq!(
+            Book::new(&mut vec![0; size], [0, 0]).map(|_| ()),
+            Err(Refusal::BadBook),
+            "{size}"
+        );
     }
     let mut buffer = [0; book_size(1)];
     let mut book = Book::open(&mut buffer);
-    assert_eq!(book.write(EXACT, [1; 32]), Err(Refusal::BadBook));
-    assert_eq!(book.remove(EXACT), Err(Refusal::BadBook));
-    assert_eq!(held(&book, EXACT), Err(Refusal::BadBook));
-    assert_eq!(book.oldest(clients()[0]), Err(Refusal::BadBook));
+    assert_eq!(book.write(One, EXACT, [1; 32]), Err(Refusal::BadBook));
+    assert_eq!(book.remove(One, EXACT), Err(Refusal::BadBook));
+    assert_eq!(held(&book, One, EXACT), Err(Refusal::BadBook));
+    assert_eq!(book.oldest(One, clients()[0]), Err(Refusal::BadBook));
+    assert_eq!((book.quotas(), book.counts()), (Err(Refusal::BadBook), Err(Refusal::BadBook)));
     assert_eq!(buffer, [0; book_size(1)]);
+    assert_eq!(Book::open(&mut []).quotas(), Err(Refusal::BadBook));
 }
 
 /// The sizes that tell, and what a lookup leaves of its room.
@@ -89,44 +157,74 @@ fn no_book() {
 fn sizes() {
     use hostpath::raw::{book_lookup, book_write, Written};
     let mut buffer = [0; book_size(BOOK_MOST)];
-    Book::new(&mut buffer).unwrap();
+    Book::new(&mut buffer, [199, 1]).unwrap();
     for length in [0, BOOK_VALUE + 1] {
         let value = vec![1; length];
-        assert_eq!(book_write(&mut buffer, EXACT, &value), Refusal::BadLength.number());
+        assert_eq!(book_write(&mut buffer, 2, EXACT, &value), Refusal::BadLength.number());
     }
     for length in [1, 31, 32, 33, 63, 64] {
-        assert_eq!(book_write(&mut buffer, EXACT, &vec![1; length]), 0);
+        assert_eq!(book_write(&mut buffer, 2, EXACT, &vec![1; length]), 0);
         let mut out = [b'.'; BOOK_VALUE + 1];
         let short = Written { refusal: Refusal::NoRoom.number(), length: 0 };
-        assert_eq!(book_lookup(&buffer, EXACT, &mut out[..BOOK_VALUE - 1]), short);
+        assert_eq!(book_lookup(&buffer, 2, EXACT, &mut out[..BOOK_VALUE - 1]), short);
         assert_eq!(out, [b'.'; BOOK_VALUE + 1]);
         let done = Written { refusal: 0, length: length as u64 };
-        assert_eq!(book_lookup(&buffer, EXACT, &mut out), done);
+        assert_eq!(book_lookup(&buffer, 2, EXACT, &mut out), done);
         let (value, rest) = out.split_at(length);
         assert!(value.iter().all(|byte| *byte == 1) && rest.iter().all(|byte| *byte == b'.'));
     }
 }
 
-/// A book of version 1 with one record, and what becomes of it.
+/// The bytes of a book of an older version with one record in two slots, whose value has 32 bytes.
+fn older(version: u8) -> Vec<u8> {
+    let field = [&[EXACT.len() as u8][..], EXACT, &vec![0; BOOK_KEY - EXACT.len()]].concat();
+    let value = if version == 1 { vec![7; 32] } else { [&[32][..], &[7; 32], &[0; 32]].concat() };
+    let slot = [field, value].concat();
+    let head = [b'H', b'P', b'B', 0, version, 0, 1, 0];
+    [&head[..], &slot, &vec![0; slot.len()]].concat()
+}
+
+/// What becomes of a book of either older version: all records are owner one's.
 #[test]
 fn converted() {
-    let slot = 1 + BOOK_KEY + 32;
-    let mut old = vec![0; BOOK_HEAD + 2 * slot];
-    old[..BOOK_HEAD].copy_from_slice(b"HPB\0\x01\0\x01\0");
-    old[BOOK_HEAD] = EXACT.len() as u8;
-    old[BOOK_HEAD + 1..][..EXACT.len()].copy_from_slice(EXACT);
-    old[BOOK_HEAD + 1 + BOOK_KEY..][..32].fill(7);
-    let mut new = [0xa5; book_size(2)];
-    let book = Book::convert(&old, &mut new).unwrap();
-    assert_eq!(held(&book, EXACT), Ok(vec![7; 32]));
-    assert_eq!(book.oldest(clients()[0]), Ok((7, 2)));
-    assert_eq!(held(&Book::open(&mut old), EXACT), Err(Refusal::BadBook));
-    let none = Book::convert(&new, &mut [0; book_size(2)]).map(|_| ());
-    assert_eq!(none, Err(Refusal::BadBook));
-    for size in [0, book_size(1), book_size(2) - 1, book_size(2) + 1, book_size(3)] {
-        let mut other = vec![0xa5; size];
-        assert_eq!(Book::convert(&old, &mut other).map(|_| ()), Err(Refusal::NoRoom), "{size}");
-        assert_eq!(other, vec![0xa5; size]);
+    let mut between = vec![0xa5; book_2_size(2)];
+    for version in [1, 2] {
+        let mut old = older(version);
+        for quotas in [[1, 0], [1, 1], [2, 0]] {
+            let mut new = [0xa5; book_size(2)];
+            let book = Book::convert(&old, &mut between, &mut new, quotas).unwrap();
+            assert_eq!(held(&book, One, EXACT), Ok(vec![7; 32]));
+            assert_eq!(held(&book, Two, EXACT), Err(Refusal::Absent));
+            assert_eq!(book.oldest(One, clients()[0]), Ok((7, 2)));
+            assert_eq!((book.quotas(), book.counts()), (Ok(quotas), Ok([1, 0])));
+        }
+        assert_eq!(between, older(2));
+        assert_eq!(held(&Book::open(&mut old), One, EXACT), Err(Refusal::BadBook));
+    }
+    assert_eq!((older(2).len(), BOOK_2_HEAD + 2 * BOOK_2_SLOT), (between.len(), between.len()));
+    assert_eq!((BOOK_HEAD - BOOK_2_HEAD, BOOK_SLOT - BOOK_2_SLOT), (4, 1));
+}
+
+/// A book of version 2 needs no room between, and a refusal leaves the buffer.
+#[test]
+fn conversions_refused() {
+    let refused = |old: &[u8], size, quotas| {
+        let mut new = vec![0xa5; size];
+        let answer = Book::convert(old, &mut [], &mut new, quotas).map(|_| ());
+        assert!(answer.is_ok() || new == vec![0xa5; size]);
+        answer
+    };
+    let (old, right) = (older(2), book_size(2));
+    assert_eq!(refused(&old, right, [1, 1]), Ok(()));
+    for size in [0, old.len(), book_size(1), right - 1, right + 1, book_size(3)] {
+        assert_eq!(refused(&old, size, [9, 9]), Err(Refusal::NoRoom), "{size}");
+    }
+    for quotas in [[0, 2], [0, 0], [2, 1], [1, 65_535], [65_535, 65_535]] {
+        assert_eq!(refused(&old, right, quotas), Err(Refusal::Full), "{quotas:?}");
+    }
+    assert_eq!(refused(&older(1), right, [1, 1]), Err(Refusal::NoRoom)); // none between
+    for none in [&old[..old.len() - 1], &older(1)[1..], &older(3), b""] {
+        assert_eq!(refused(none, 0, [9, 9]), Err(Refusal::BadBook));
     }
 }
 
@@ -134,10 +232,11 @@ fn converted() {
 #[test]
 fn many() {
     let mut buffer = [0; book_size(BOOK_MOST)];
-    let mut book = Book::new(&mut buffer).unwrap();
+    let mut book = Book::new(&mut buffer, [100, 100]).unwrap();
     let ports: Vec<String> = (0..BOOK_MOST).map(|port| format!("ports/transfer.{port}")).collect();
     for (port, at) in ports.iter().zip(1..) {
-        book.write(port, vec![at; 1 + usize::from(at) % BOOK_VALUE]).unwrap();
+        let owner = Owner::ALL[usize::from(at) % 2];
+        book.write(owner, port, vec![at; 1 + usize::from(at) % BOOK_VALUE]).unwrap();
     }
     let mut buckets = [0xa5; BOOK_TABLE];
     let mut table = Table::open(&mut buckets);
@@ -148,17 +247,22 @@ fn many() {
     let odd: [&[u8]; 8] =
         [b"", b"ports/\xff", b"ports/absent", b"x/5x/upgradedClient", LOOSE, &long, b"", EXACT];
     let texts: Vec<&[u8]> = ports.iter().map(String::as_bytes).chain(odd).collect();
-    for end in [&b""[..], b"\n"] {
+    for (owner, end) in [(One, &b""[..]), (Two, b"\n")] {
         let lines = [&texts.join(&b'\n'), end].concat();
         let mut room = vec![0xa5; BOOK_ANSWER * texts.len() + 1];
-        let answers = book.lookup_many(&table, &lines, &mut room).unwrap();
+        let answers = book.lookup_many(owner, &table, &lines, &mut room).unwrap();
         assert_eq!(answers.len(), texts.len());
         for (text, answer) in texts.iter().zip(answers) {
-            assert_eq!(answer.map(<[u8]>::to_vec), held(&book, text), "{}", text.escape_ascii());
+            assert_eq!(
+                answer.map(<[u8]>::to_vec),
+                held(&book, owner, text),
+                "{}",
+                text.escape_ascii()
+            );
         }
         assert_eq!(room.last(), Some(&0xa5));
         let short = &mut room[..BOOK_ANSWER * texts.len() - 1];
-        assert_eq!(book.lookup_many(&table, &lines, short).err(), Some(Refusal::NoRoom));
+        assert_eq!(book.lookup_many(owner, &table, &lines, short).err(), Some(Refusal::NoRoom));
     }
 }
 
@@ -166,25 +270,29 @@ fn many() {
 #[test]
 fn tables() {
     let mut buffer = [0; book_size(2)];
-    let mut book = Book::new(&mut buffer).unwrap();
+    let mut book = Book::new(&mut buffer, [1, 1]).unwrap();
     let mut buckets = [0; BOOK_TABLE];
     let mut table = Table::open(&mut buckets);
     let many = |book: &Book, table: &Table, texts: &[u8]| {
         let mut room = [0xa5; 2 * BOOK_ANSWER];
-        let answers = book.lookup_many(table, texts, &mut room).map(|answers| answers.len());
+        let answers = book.lookup_many(One, table, texts, &mut room).map(|answers| answers.len());
         assert!(answers.is_ok() || room == [0xa5; 2 * BOOK_ANSWER]);
         answers
     };
     assert_eq!(many(&book, &table, b""), Ok(0)); // no records, no buckets
     assert_eq!(many(&book, &table, b"\n\n"), Ok(2));
-    book.write(EXACT, b"a digest").unwrap();
+    book.write(One, EXACT, b"a digest").unwrap();
     assert_eq!(many(&book, &table, b"\n\n\n"), Err(Refusal::BadTable));
     book.fill(&mut table).unwrap();
     assert_eq!(many(&book, &table, b"\n\n\n"), Err(Refusal::NoRoom));
     assert_eq!(many(&book, &table, EXACT), Ok(1));
-    book.write(EXACT, b"another").unwrap(); // the same keys, so the same table
+    book.write(One, EXACT, b"another").unwrap(); // the same keys, so the same table
     assert_eq!(many(&book, &table, EXACT), Ok(1));
-    book.remove(EXACT).unwrap();
+    book.write(Two, EXACT, b"another").unwrap(); // either owner's makes it stale
+    assert_eq!(many(&book, &table, EXACT), Err(Refusal::BadTable));
+    book.remove(Two, EXACT).unwrap();
+    assert_eq!(many(&book, &table, EXACT), Ok(1));
+    book.remove(One, EXACT).unwrap();
     assert_eq!(many(&book, &table, EXACT), Err(Refusal::BadTable));
     let (mut none, before) = ([0; 8], *table.bytes());
     let none = Book::open(&mut none);
@@ -198,11 +306,11 @@ fn tables() {
 fn addresses() {
     let mut room = [0xa5; book_size(2) + 32];
     for at in 0..32 {
-        let mut book = Book::new(&mut room[at..at + book_size(2)]).unwrap();
-        assert_eq!(book.write("ports/transfer", [1; 33]), Ok(()));
-        assert_eq!(book.write(EXACT, [2; BOOK_VALUE]), Ok(()));
-        assert_eq!(held(&book, b"ports/transfer"), Ok(vec![1; 33]));
-        assert_eq!(book.remove(EXACT), Ok(()));
+        let mut book = Book::new(&mut room[at..at + book_size(2)], [1, 1]).unwrap();
+        assert_eq!(book.write(One, "ports/transfer", [1; 33]), Ok(()));
+        assert_eq!(book.write(Two, EXACT, [2; BOOK_VALUE]), Ok(()));
+        assert_eq!(held(&book, One, b"ports/transfer"), Ok(vec![1; 33]));
+        assert_eq!(book.remove(Two, EXACT), Ok(()));
         assert!(room[at + book_size(2)..].iter().all(|byte| *byte == 0xa5));
     }
 }

@@ -1,6 +1,6 @@
 //! What include/hostpath.h writes by hand stands here too: the kinds and the sizes. bin/interface makes
 //! the rest of both.
-use hostpath::{PacketKind, Path};
+use hostpath::{Owner, PacketKind, Path};
 
 const HEADER: &str = include_str!("../../../include/hostpath.h");
 
@@ -25,6 +25,8 @@ fn sizes() {
         ("PACKETS_PATH_MOST", hostpath::PACKETS_PATH_MOST),
         ("BOOK_HEAD", hostpath::BOOK_HEAD),
         ("BOOK_SLOT", hostpath::BOOK_SLOT),
+        ("BOOK_2_HEAD", hostpath::BOOK_2_HEAD),
+        ("BOOK_2_SLOT", hostpath::BOOK_2_SLOT),
         ("BOOK_KEY", hostpath::BOOK_KEY),
         ("BOOK_VALUE", hostpath::BOOK_VALUE),
         ("BOOK_MOST", hostpath::BOOK_MOST),
@@ -40,6 +42,14 @@ fn packet_kinds() {
     for kind in PacketKind::ALL {
         let name = format!("{kind:?}").to_uppercase();
         assert_eq!(number(&format!("PACKET_{name}")), Some(kind.marker().into()), "{name}");
+    }
+}
+
+#[test]
+fn owners() {
+    for owner in Owner::ALL {
+        let name = format!("OWNER_{owner:?}").to_uppercase();
+        assert_eq!(number(&name), Some(owner.number().into()), "{name}");
     }
 }
 

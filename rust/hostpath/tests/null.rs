@@ -95,22 +95,26 @@ fn books() {
     let (port, size) = (PORT.as_ptr(), PORT.len());
     let mut out = [0; BOOK_VALUE];
     unsafe {
-        assert_eq!(hp_book_new(null_mut(), 0), 9);
-        assert_eq!(hp_book_write(null_mut(), 0, port, size, out.as_ptr(), BOOK_VALUE), 9);
-        assert_eq!(hp_book_remove(null_mut(), 0, port, size), 9);
-        assert_eq!(hp_book_lookup(null(), 0, port, size, out.as_mut_ptr(), BOOK_VALUE), refused(9));
+        assert_eq!(hp_book_new(null_mut(), 0, 0, 0), 9);
+        assert_eq!(hp_book_write(null_mut(), 0, 1, port, size, out.as_ptr(), BOOK_VALUE), 9);
+        assert_eq!(hp_book_remove(null_mut(), 0, 1, port, size), 9);
+        assert_eq!(
+            hp_book_lookup(null(), 0, 1, port, size, out.as_mut_ptr(), BOOK_VALUE),
+            refused(9)
+        );
         let none = Pair { refusal: 9, number: 0, height: 0 };
-        assert_eq!(hp_book_oldest(null(), 0, port, size), none);
-        assert_eq!(hp_book_write(null_mut(), 0, null(), 0, null(), 0), 9);
-        assert_eq!(hp_book_remove(null_mut(), 0, null(), 0), 9);
-        assert_eq!(hp_book_lookup(null(), 0, null(), 0, null_mut(), 0), refused(9));
-        assert_eq!(hp_book_write_lenient(null_mut(), 0, null(), 0, null(), 0), 9);
-        assert_eq!(hp_book_remove_lenient(null_mut(), 0, null(), 0), 9);
-        assert_eq!(hp_book_lookup_lenient(null(), 0, null(), 0, null_mut(), 0), refused(9));
+        assert_eq!(hp_book_oldest(null(), 0, 1, port, size), none);
+        assert_eq!(hp_book_write(null_mut(), 0, 1, null(), 0, null(), 0), 9);
+        assert_eq!(hp_book_remove(null_mut(), 0, 1, null(), 0), 9);
+        assert_eq!(hp_book_lookup(null(), 0, 1, null(), 0, null_mut(), 0), refused(9));
+        assert_eq!(hp_book_write_lenient(null_mut(), 0, 1, null(), 0, null(), 0), 9);
+        assert_eq!(hp_book_remove_lenient(null_mut(), 0, 1, null(), 0), 9);
+        assert_eq!(hp_book_lookup_lenient(null(), 0, 1, null(), 0, null_mut(), 0), refused(9));
         assert_eq!(hp_book_convert(null(), 0, null_mut(), 0), 9);
-        assert_eq!(hp_book_oldest(null(), 0, null(), 0), none);
+        assert_eq!(hp_book_convert_owners(null(), 0, null_mut(), 0, 0, 0), 9);
+        assert_eq!(hp_book_oldest(null(), 0, 1, null(), 0), none);
         assert_eq!(hp_book_fill(null(), 0, null_mut(), 0), 9);
-        let many = hp_book_lookup_many(null(), 0, null(), 0, null(), 0, null_mut(), 0);
+        let many = hp_book_lookup_many(null(), 0, 1, null(), 0, null(), 0, null_mut(), 0);
         assert_eq!(many, refused(9));
     }
     assert_eq!(out, [0; BOOK_VALUE]);
@@ -119,27 +123,31 @@ fn books() {
 #[test]
 fn texts_values_and_rooms() {
     let mut buffer = [0; book_size(1)];
-    Book::new(&mut buffer).unwrap();
+    Book::new(&mut buffer, [1, 0]).unwrap();
     let made = buffer;
     let (port, size) = (PORT.as_ptr(), PORT.len());
     let (book, n) = (buffer.as_mut_ptr(), buffer.len());
     let mut out = [0; BOOK_VALUE];
     unsafe {
-        assert_eq!(hp_book_write(book, n, null(), 0, out.as_ptr(), BOOK_VALUE), 3);
-        assert_eq!(hp_book_write(book, n, port, size, null(), 0), 6);
-        assert_eq!(hp_book_remove(book, n, null(), 0), 3);
-        assert_eq!(hp_book_lookup(book, n, null(), 0, out.as_mut_ptr(), BOOK_VALUE), refused(3));
-        assert_eq!(hp_book_lookup(book, n, port, size, null_mut(), 0), refused(4));
+        assert_eq!(hp_book_write(book, n, 1, null(), 0, out.as_ptr(), BOOK_VALUE), 3);
+        assert_eq!(hp_book_write(book, n, 1, port, size, null(), 0), 6);
+        assert_eq!(hp_book_remove(book, n, 1, null(), 0), 3);
+        assert_eq!(hp_book_lookup(book, n, 1, null(), 0, out.as_mut_ptr(), BOOK_VALUE), refused(3));
+        assert_eq!(hp_book_lookup(book, n, 1, port, size, null_mut(), 0), refused(4));
+        assert_eq!(hp_book_write(book, n, 3, null(), 0, null(), 0), 23);
         let short = Pair { refusal: 6, number: 0, height: 0 };
-        assert_eq!(hp_book_oldest(book, n, null(), 0), short);
+        assert_eq!(hp_book_oldest(book, n, 1, null(), 0), short);
         assert_eq!(hp_book_fill(book, n, null_mut(), 0), 4);
-        let none = hp_book_lookup_many(book, n, null(), 0, null(), 0, null_mut(), 0);
+        let none = hp_book_lookup_many(book, n, 1, null(), 0, null(), 0, null_mut(), 0);
         assert_eq!(none, refused(22));
         let empty = [0; BOOK_TABLE];
         let (table, t) = (empty.as_ptr(), empty.len());
-        let nothing = hp_book_lookup_many(book, n, table, t, null(), 0, null_mut(), 0);
+        let nothing = hp_book_lookup_many(book, n, 1, table, t, null(), 0, null_mut(), 0);
         assert_eq!(nothing, Written { refusal: 0, length: 0 });
-        assert_eq!(hp_book_lookup_many(book, n, table, t, port, size, null_mut(), 0), refused(4));
+        assert_eq!(
+            hp_book_lookup_many(book, n, 1, table, t, port, size, null_mut(), 0),
+            refused(4)
+        );
     }
     assert_eq!(buffer, made);
 }

@@ -2,7 +2,7 @@
 #![cfg(feature = "alloc")]
 use std::collections::BTreeSet;
 
-use hostpath::{book_size, Book, Path, Refusal, BOOK_VALUE};
+use hostpath::{book_size, Book, Owner, Path, Refusal, BOOK_VALUE};
 use hostpath::{wide, OwnedChannelId, OwnedClientId, OwnedConnectionId, OwnedPath, OwnedPortId};
 
 /// What is owned outlives the text that it was read from.
@@ -28,10 +28,10 @@ fn kept() {
 #[test]
 fn in_a_book() {
     let mut buffer = [0; book_size(1)];
-    let mut book = Book::new(&mut buffer).unwrap();
+    let mut book = Book::new(&mut buffer, [0, 1]).unwrap();
     let path: OwnedPath = "clients/07-tendermint-4/consensusStates/007-2".parse().unwrap();
-    assert_eq!(book.write(&path, "a digest"), Ok(()));
-    assert_eq!(book.lookup(path, &mut [0; BOOK_VALUE]), Ok(&b"a digest"[..]));
+    assert_eq!(book.write(Owner::Two, &path, "a digest"), Ok(()));
+    assert_eq!(book.lookup(Owner::Two, path, &mut [0; BOOK_VALUE]), Ok(&b"a digest"[..]));
 }
 
 #[test]

@@ -3,7 +3,7 @@
 use hostpath::{
     book_size, key, validate_connection_identifier, validate_identifier_length,
     validate_named_u64_index, Book, ChannelId, ClientId, ConnectionId, Fault, IterationKey, Number,
-    Path, Place, PortId, Reading, Refusal, Sequence, CHANNEL_ID_MOST, CLIENT_ID_MOST,
+    Owner, Path, Place, PortId, Reading, Refusal, Sequence, CHANNEL_ID_MOST, CLIENT_ID_MOST,
 };
 
 #[test]
@@ -187,8 +187,8 @@ fn refusals_without_a_place() {
     let text = b"clients/07-tendermint-4/consensusStates/7-x";
     assert_eq!(key(text, &mut []), Err(Refusal::NotADigit));
     let mut buffer = [0; book_size(1)];
-    let book = Book::new(&mut buffer).unwrap();
-    assert_eq!(book.lookup(text, &mut [0; 64]), Err(Refusal::NotADigit));
+    let book = Book::new(&mut buffer, [1, 0]).unwrap();
+    assert_eq!(book.lookup(Owner::One, text, &mut [0; 64]), Err(Refusal::NotADigit));
 }
 
 #[test]

@@ -6,7 +6,7 @@ use hostpath::wide::{
     validate_prefix_length, ChannelId, ClientId, ConnectionId, Path, PortId, Reading,
     UpgradeConsensusStatePath,
 };
-use hostpath::{book_size, Book, Fault, Number, Place, Refusal};
+use hostpath::{book_size, Book, Fault, Number, Owner, Place, Refusal};
 use hostpath::{CHANNEL_ID_MOST, CLIENT_ID_MOST, PACKETS_PATH_MOST, PARENT_MOST, PATH_MOST};
 
 /// Identifiers are borrowed from the text as they were written, and the rendering is the key.
@@ -134,6 +134,9 @@ fn widened() {
 #[test]
 fn books_stay_ascii() {
     let mut buffer = [0; book_size(1)];
-    let mut book = Book::new(&mut buffer).unwrap();
-    assert_eq!(book.write("ports/πύλη".as_bytes(), b"a digest"), Err(Refusal::NotAscii));
+    let mut book = Book::new(&mut buffer, [1, 0]).unwrap();
+    assert_eq!(
+        book.write(Owner::One, "ports/πύλη".as_bytes(), b"a digest"),
+        Err(Refusal::NotAscii)
+    );
 }

@@ -1,88 +1,28 @@
 -- `book_form::compare_next` meets its contract.
 -- Assumes nothing.
-use mathlib.Core.Path.{_≡_, sym, ap, _∙_}
-use mathlib.Core.List.{List}
-use Prim.Native.Nat.{ℕ, _+_}
-use Rattle.text.specs.Order.{cmp}
-use Rattle.book_form.specs.Compare.{code}
-use Rattle.book_form.specs.Counted.{stored}
-use Rattle.book_form.specs.WordsLaws.{high-sum, next-lt, next-gt, next-same}
+use Rattle.book_form.specs.NextLaws.{next-room, next-owners, next-stored}
 use native.Mathlib.Omega.{arith}
 use borrow.Author.Needs.{needs}
 use Rattle.book_form.proofs.compare_next.Statement.{statement}
 use Rattle.book_form.proofs.compare_next.Tie as tie
 
 returns : tie.Need-returns
-returns c =
-    let a = c .before .before .before .before .before .before .before .args in
-    c .compare-key .ensures ∙ ap (λ (l : List ℕ). code (cmp l (stored (a .book .now) (a .at + a .by)))) (c .before .before .before .before .before .key-at .ensures .bytes)
+returns c = let a = c .before .before .before .args in next-owners (a .version) (a .book .now) (a .at) (c .before .before .before .pre) _ (c .before .compare-owners .ensures) (c .if1 .taken)
+
+compare-stored-requires : tie.Need-compare-stored-requires
+compare-stored-requires c κs = let a = c .before .before .before .before .before .args in omega (arith, c .before .lead .ensures, c .width .ensures, next-room (a .version) (a .book .now) (a .at) (c .before .before .before .before .before .pre))
 
 returns-2 : tie.Need-returns-2
-returns-2 c =
-    let a = c .before .before .before .before .before .before .before .before .before .before .args in
-    let s = a .book .now in
-    let k = c .before .before .before .before .before .before .before .before .key-at in
-    let n = c .before .before .before .before .before .least in
-    let i = c .before .before .before .apart in
-    let g = c .before .before .before .before .before .before .before .before .before .shared-slice-known .given in
-    let x = c .before .before .high-eight .ensures ∙ high-sum s (a .at + 1 + i .result) in
-    let y = c .before .high-eight2 .ensures ∙ high-sum s (a .at + a .by + 1 + i .result) in
-    next-lt s _ (a .at) (a .by) (n .result) (i .result) (omega arith) (λ j. omega (arith, g j)) (k .ensures .bytes) (n .ensures .0) (omega (arith, c .before .before .before .before .before .before .wide .ensures, n .ensures)) (omega (arith, i .ensures .within)) (i .ensures .alike) (rw (← x, ← y) (c .if2 .taken))
-
-returns-3 : tie.Need-returns-3
-returns-3 c =
-    let a = c .before .before .before .before .before .before .before .before .before .before .before .args in
-    let s = a .book .now in
-    let k = c .before .before .before .before .before .before .before .before .before .key-at in
-    let n = c .before .before .before .before .before .before .least in
-    let i = c .before .before .before .before .apart in
-    let g = c .before .before .before .before .before .before .before .before .before .before .shared-slice-known .given in
-    let x = c .before .before .before .high-eight .ensures ∙ high-sum s (a .at + 1 + i .result) in
-    let y = c .before .before .high-eight2 .ensures ∙ high-sum s (a .at + a .by + 1 + i .result) in
-    next-gt s _ (a .at) (a .by) (n .result) (i .result) (omega arith) (λ j. omega (arith, g j)) (k .ensures .bytes) (n .ensures .0) (omega (arith, c .before .before .before .before .before .before .before .wide .ensures, n .ensures)) (omega (arith, i .ensures .within)) (i .ensures .alike) (rw (← x, ← y) (c .if3 .taken))
-
-compare-from-requires : tie.Need-compare-from-requires
-compare-from-requires c κs =
-    let a = c .before .before .before .before .before .before .before .before .before .before .before .args in
-    let s = a .book .now in
-    let k = c .before .before .before .before .before .before .before .before .before .key-at in
-    let n = c .before .before .before .before .before .before .least in
-    let i = c .before .before .before .before .apart in
-    let g = c .before .before .before .before .before .before .before .before .before .before .shared-slice-known .given in
-    let x = c .before .before .before .high-eight .ensures ∙ high-sum s (a .at + 1 + i .result) in
-    let y = c .before .before .high-eight2 .ensures ∙ high-sum s (a .at + a .by + 1 + i .result) in
-    (omega arith, next-same s _ (a .at) (a .by) (n .result) (i .result) (omega arith) (λ j. omega (arith, g j)) (k .ensures .bytes) (n .ensures .0) (omega (arith, c .before .before .before .before .before .before .before .wide .ensures, n .ensures)) (omega (arith, i .ensures .within)) (i .ensures .alike) (i .ensures .last) (sym x ∙ (let e : c .before .before .before .high-eight .result ≡ c .before .before .high-eight2 .result = omega arith in e) ∙ y))
-
-returns-4 : tie.Need-returns-4
-returns-4 c =
-    let a = c .before .before .before .before .before .before .before .before .before .before .before .before .args in
-    c .compare-from .ensures ∙ ap (λ (l : List ℕ). code (cmp l (stored (a .book .now) (a .at + a .by)))) (c .before .before .before .before .before .before .before .before .before .before .key-at .ensures .bytes)
+returns-2 c = let a = c .before .before .before .before .before .before .args in next-stored (a .version) (a .book .now) (a .at) (c .before .before .before .before .before .before .pre) _ (c .before .before .before .before .compare-owners .ensures) (c .before .before .before .if1 .left) _ _ (c .before .before .lead .ensures) (c .before .width .ensures) _ (c .compare-stored .ensures)
 
 pub compare-next-spec : {M : Type 1} → statement M
 compare-next-spec =
     tie.close
     (tie.spec
     (λ c κs. search needs)
-    (λ c. search needs)
-    (λ c. search needs)
-    (λ c κs. search needs)
-    (λ c κs. search needs)
-    (λ c. search needs)
-    (λ c κs. search needs)
     returns
-    (λ c. search needs)
-    (λ c. search needs)
-    (λ c. search needs)
     (λ c κs. search needs)
     (λ c. search needs)
-    (λ c. search needs)
     (λ c κs. search needs)
-    (λ c. search needs)
-    (λ c. search needs)
-    (λ c. search needs)
-    (λ c κs. search needs)
-    returns-2
-    returns-3
-    (λ c. search needs)
-    compare-from-requires
-    returns-4)
+    compare-stored-requires
+    returns-2)

@@ -8,12 +8,13 @@ use Rattle.book_form.proofs.insert.Tie as tie
 
 returns : tie.Need-returns
 unfolding inserted
-returns c = cc (add-one (c .before .before .before .before .before .before .before .before .before .before .before .before .before .before .before .args .count))
+returns c = let q = c .before .before .before .before .before .before .before .before .before .before .before .before .quotas-of .ensures .0 in cc (q, add-one (c .before .before .before .before .before .before .before .before .before .before .before .before .before .before .before .before .before .args .count))
 
 pub insert-spec : {M : Type 1} → statement M
 insert-spec =
     tie.close
     (tie.spec
+    (λ c κs. search needs)
     (λ c. search needs)
     (λ c. search needs)
     (λ c. search needs)

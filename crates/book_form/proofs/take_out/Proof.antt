@@ -8,14 +8,14 @@ use Rattle.book_form.proofs.take_out.Tie as tie
 
 returns : tie.Need-returns
 unfolding removed
-returns c =
-    let a = c .before .before .before .before .before .before .before .before .before .before .before .before .before .args in
-    cc (add-one (a .place), add-one (a .count))
+returns c = let a = c .before .before .before .before .before .before .before .before .before .before .before .before .before .before .before .args in let q = c .before .before .before .before .before .before .before .before .before .before .before .before .quotas-of .ensures .0 in
+    cc (q, add-one (a .place), add-one (a .count))
 
 pub take-out-spec : {M : Type 1} → statement M
 take-out-spec =
     tie.close
     (tie.spec
+    (λ c κs. search needs)
     (λ c. search needs)
     (λ c. search needs)
     (λ c. search needs)

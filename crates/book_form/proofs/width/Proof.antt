@@ -13,5 +13,16 @@ returns c = ap (λ (v : Version). formOf v .width) (sym (c .enum-told .given .1)
 returns-2 : tie.Need-returns-2
 returns-2 c = ap (λ (v : Version). formOf v .width) (sym (c .enum-told2 .given .1))
 
+returns-3 : tie.Need-returns-3
+returns-3 c = ap (λ (v : Version). formOf v .width) (sym (c .enum-told3 .given .1))
+
 pub width-spec : {M : Type 1} → statement M
-width-spec = tie.close (tie.spec (λ c. search needs) (λ c. search needs) returns returns-2)
+width-spec =
+    tie.close
+    (tie.spec
+    (λ c. search needs)
+    (λ c. search needs)
+    (λ c. search needs)
+    returns
+    returns-2
+    returns-3)

@@ -1,5 +1,6 @@
 -- `book_table::probe` meets its contract.
 -- Assumes nothing.
+use mathlib.Core.List.{_∷_}
 use Prim.Native.Nat.{_-_, _≤_}
 use Rattle.book_form.specs.Form.{keyAt}
 use Rattle.book.specs.Book.{Current}
@@ -11,10 +12,10 @@ use Rattle.book_table.proofs.probe.Statement.{statement}
 use Rattle.book_table.proofs.probe.Tie as tie
 
 abbrev Inv-loop : tie.InvT-loop
-Inv-loop book n table key h d₀ d = (d ≤ 512) × Passed table (keyAt Current book) key d
+Inv-loop book n table owner key h d₀ d = (d ≤ 512) × Passed table (keyAt Current book) (owner ∷ key) d
 
 abbrev μ-loop : tie.MeasureT-loop
-μ-loop book n table key h d₀ d = 512 - d
+μ-loop book n table owner key h d₀ d = 512 - d
 
 loop-holds : tie.Need-loop-holds Inv-loop μ-loop
 loop-holds c = (omega arith, passed-start _ _ _ _ (c .before .before .before .before .pre))
@@ -26,7 +27,7 @@ returns : tie.Need-returns Inv-loop μ-loop
 returns c = ended-free _ _ _ _ (c .before .before .before .before .before .before .before .before .before .pre) _ (c .before .before .before .before .loop .d) _ (c .before .before .before .before .before .home .ensures .0) (c .before .wide .ensures .0) (c .before .before .before .before .loop .inv .1) (c .if1 .taken)
 
 compare-key-requires : tie.Need-compare-key-requires Inv-loop μ-loop
-compare-key-requires c κs = slot-there _ _ (c .before .before .before .before .before .before .before .before .before .args .key .now) _ (c .before .before .before .before .before .before .before .before .before .pre) _ (c .before .before .before .before .loop .d) _ (c .before .before .before .before .before .home .ensures .0) (c .before .wide .ensures .0) (c .if1 .left)
+compare-key-requires c κs = slot-there _ _ _ _ (c .before .before .before .before .before .before .before .before .before .pre) _ (c .before .before .before .before .loop .d) _ (c .before .before .before .before .before .home .ensures .0) (c .before .wide .ensures .0) (c .if1 .left)
 
 returns-2 : tie.Need-returns-2 Inv-loop μ-loop
 returns-2 c = ended-found _ _ _ _ (c .before .before .before .before .before .before .before .before .before .before .before .pre) _ (c .before .before .before .before .before .before .loop .d) _ (c .before .before .before .before .before .before .before .home .ensures .0) (c .before .before .before .wide .ensures .0) (c .before .before .if1 .left) _ (c .before .compare-key .ensures) (c .if2 .taken)

@@ -28,10 +28,18 @@ write-text-requires-5 c κs = rw (c .before .before .match .keys5) at (c .before
 
 write-text-requires-6 : tie.Need-write-text-requires-6
 unfolding sentence
-write-text-requires-6 c κs =
+write-text-requires-6 c κs = rw (c .before .before .match .keys6) at (c .before .before .before .before .pre .2)
+
+write-text-requires-7 : tie.Need-write-text-requires-7
+unfolding sentence
+write-text-requires-7 c κs = rw (c .before .before .match .keys7) at (c .before .before .before .before .pre .2)
+
+write-text-requires-8 : tie.Need-write-text-requires-8
+unfolding sentence
+write-text-requires-8 c κs =
     let x = c .before .before .before .before .args in
-    let l = past 17 5 (x .number) (c .before .before .match .rest) (omega arith) in
-    let e : x .number ≡ 22 = omega arith in
+    let l = past 17 7 (x .number) (c .before .before .match .rest) (omega arith) in
+    let e : x .number ≡ 24 = omega arith in
     rw e at (c .before .before .before .before .pre .2)
 
 returns : tie.Need-returns
@@ -56,11 +64,19 @@ returns-5 c = rw (c .before .before .before .before .before .match .keys5) (c .b
 
 returns-6 : tie.Need-returns-6
 unfolding sentence
-returns-6 c =
+returns-6 c = rw (c .before .before .before .before .before .match .keys6) (c .before .before .write-text6 .ensures)
+
+returns-7 : tie.Need-returns-7
+unfolding sentence
+returns-7 c = rw (c .before .before .before .before .before .match .keys7) (c .before .before .write-text7 .ensures)
+
+returns-8 : tie.Need-returns-8
+unfolding sentence
+returns-8 c =
     let x = c .before .before .before .before .before .before .before .args in
-    let l = past 17 5 (x .number) (c .before .before .before .before .before .match .rest) (omega arith) in
-    let e : x .number ≡ 22 = omega arith in
-    rw e (c .before .before .write-text6 .ensures)
+    let l = past 17 7 (x .number) (c .before .before .before .before .before .match .rest) (omega arith) in
+    let e : x .number ≡ 24 = omega arith in
+    rw e (c .before .before .write-text8 .ensures)
 
 pub write-of-numbers-spec : {M : Type 1} → statement M
 write-of-numbers-spec =
@@ -79,6 +95,10 @@ write-of-numbers-spec =
     (λ c. search needs)
     write-text-requires-6
     (λ c. search needs)
+    write-text-requires-7
+    (λ c. search needs)
+    write-text-requires-8
+    (λ c. search needs)
     returns
     (λ c. search needs)
     returns-2
@@ -89,4 +109,8 @@ write-of-numbers-spec =
     (λ c. search needs)
     returns-5
     (λ c. search needs)
-    returns-6)
+    returns-6
+    (λ c. search needs)
+    returns-7
+    (λ c. search needs)
+    returns-8)

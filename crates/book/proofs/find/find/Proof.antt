@@ -1,8 +1,7 @@
--- `book::find` meets its contract.
+-- `book::find::find` meets its contract.
 -- Assumes nothing.
 use Rattle.book.specs.Book.{Current}
-use Rattle.book.specs.BookLaws.{lawful}
-use Rattle.book.specs.BookLaws.{sizes}
+use Rattle.book.specs.BookLaws.{lawful, sizes}
 use Rattle.book.specs.FindLaws.{free-end, free-other, taken-here}
 use native.Mathlib.Omega.{arith}
 use borrow.Author.Needs.{needs}
@@ -12,8 +11,14 @@ use Rattle.book.proofs.find.find.Tie as tie
 returns : tie.Need-returns
 returns c = free-end Current _ _ _ _ (c .before .place .ensures) (c .if1 .taken)
 
+mul-compare-key : tie.Need-mul-compare-key
+mul-compare-key c = let z = sizes Current lawful _ _ (c .before .before .before .before .pre) in omega (arith, z .used, z .most, c .before .place .ensures .within)
+
+add-compare-key : tie.Need-add-compare-key
+add-compare-key c = let z = sizes Current lawful _ _ (c .before .before .before .before .pre) in omega (arith, z .used, z .most, c .before .place .ensures .within)
+
 compare-key-requires : tie.Need-compare-key-requires
-compare-key-requires c κs = omega (arith, sizes Current lawful _ _ (c .before .before .before .before .pre) .used, c .before .place .ensures .within)
+compare-key-requires c κs = let z = sizes Current lawful _ _ (c .before .before .before .before .pre) in omega (arith, z .used, z .most, c .before .place .ensures .within)
 
 returns-2 : tie.Need-returns-2
 returns-2 c = free-other Current _ _ _ _ _ (c .before .before .before .place .ensures) (c .before .compare-key .ensures) (c .if2 .taken)
@@ -27,8 +32,8 @@ find-spec =
     (tie.spec
     (λ c κs. search needs)
     returns
-    (λ c. search needs)
-    (λ c. search needs)
+    mul-compare-key
+    add-compare-key
     compare-key-requires
     returns-2
     returns-3)

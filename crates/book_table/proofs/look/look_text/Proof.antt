@@ -11,13 +11,13 @@ use Rattle.book_table.proofs.look.look_text.Statement.{statement}
 use Rattle.book_table.proofs.look.look_text.Tie as tie
 
 returns : tie.Need-returns
-returns c = looked-refused Current _ _ (c .before .before .before .before .before .before .pre .0 .0) _ _ (made-refuses _ _ _ (c .before .key-of .ensures) (c .if1 .taken) (to-look _)) _
+returns c = looked-refused Current _ _ (c .before .before .before .before .before .before .pre .0 .0) _ _ (made-refuses _ _ _ (c .before .key-of .ensures) (c .if1 .taken) _ (c .before .before .before .before .before .before .pre .1 .0) (to-look _)) _
 
 part-look-key-end : tie.Need-part-look-key-end
 part-look-key-end c = (made-keyed _ _ _ (c .before .before .before .before .key-of .ensures) (c .before .before .before .if1 .left)) .room
 
 returns-2 : tie.Need-returns-2
-returns-2 c = look-text _ _ _ _ _ (made-keyed _ _ _ (c .before .before .before .before .before .before .before .before .before .key-of .ensures) (c .before .before .before .before .before .before .before .before .if1 .left)) _ refl _ _ _ (c .before .before .before .before .before .before .before .before .before .before .before .before .before .before .pre .1) (c .before .before .look-key .ensures)
+returns-2 c = look-text _ _ _ (c .before .before .before .before .before .before .before .before .before .before .before .before .before .before .pre .1 .0) _ _ _ (made-keyed _ _ _ (c .before .before .before .before .before .before .before .before .before .key-of .ensures) (c .before .before .before .before .before .before .before .before .if1 .left)) _ refl _ _ _ (c .before .before .before .before .before .before .before .before .before .before .before .before .before .before .pre .1 .1) (c .before .before .look-key .ensures)
 
 pub look-text-spec : {M : Type 1} → statement M
 look-text-spec =
