@@ -1,4 +1,5 @@
 // Whether a buffer is a book.
+use book_form::BEFORE;
 use book_form::HEAD;
 use book_form::Quotas;
 use book_form::SLOT;
@@ -168,7 +169,7 @@ pub(crate) fn rising(book: &[u8], n: usize, version: Version) -> bool
 {
     let mut i = 0;
     while i + 1 < n {
-        if compare_next(book, slot_at(version, i), version) != 0 {
+        if compare_next(book, slot_at(version, i), version) != BEFORE {
             return false;
         }
         i += 1;

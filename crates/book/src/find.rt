@@ -1,5 +1,7 @@
 // Where a key stands in a book.
+use book_form::AFTER;
 use book_form::HEAD;
+use book_form::SAME;
 use book_form::SLOT;
 use book_form::compare_key;
 ghost use Prim.Native.Nat.{_+_, _*_, _<_};
@@ -22,7 +24,7 @@ pub fn place(book: &[u8], n: usize, owner: u8, key: &[u8]) -> usize
     let mut hi = n;
     while lo < hi {
         let mid = lo + (hi - lo) / 2;
-        if compare_key(book, HEAD + SLOT * mid, owner, key) == 2 {
+        if compare_key(book, HEAD + SLOT * mid, owner, key) == AFTER {
             lo = mid + 1;
         } else {
             hi = mid;
@@ -40,7 +42,7 @@ pub(crate) fn find(book: &[u8], n: usize, owner: u8, key: &[u8]) -> Spot
     if p == n {
         return Spot::Free(p);
     }
-    if compare_key(book, HEAD + SLOT * p, owner, key) != 1 {
+    if compare_key(book, HEAD + SLOT * p, owner, key) != SAME {
         return Spot::Free(p);
     }
     Spot::Taken(p)

@@ -238,7 +238,14 @@ pub fn take_out(book: &mut [u8], place: usize, count: usize)
     put_header(book, count, quotas);
 }
 
-// How `key` stands to the key behind its length at `at`, where the first `start` bytes are the same: 0 before it, 1 the same, 2 after it.
+// How a key, or what decides of it, stands to another: before it, the same, or after it.
+pub const BEFORE: u8 = 0;
+
+pub const SAME: u8 = 1;
+
+pub const AFTER: u8 = 2;
+
+// How `key` stands to the key behind its length at `at`, where the first `start` bytes are the same.
 fn compare_from(book: &[u8], at: usize, key: &[u8], start: usize) -> u8
     requires { do ⌜ at + 256 ≤ (← ⟦book.len()⟧) ⌝ }
     requires { ⌜ Agree (now key) (now book) at start ⌝ }
@@ -248,19 +255,19 @@ fn compare_from(book: &[u8], at: usize, key: &[u8], start: usize) -> u8
     let mut i = start;
     while i < key.len() {
         if i == n {
-            return 2;
+            return AFTER;
         }
         let x = key[i];
         let y = book[at + 1 + i];
         if x < y {
-            return 0;
+            return BEFORE;
         }
         if y < x {
-            return 2;
+            return AFTER;
         }
         i += 1;
     }
-    if i == n { 1 } else { 0 }
+    if i == n { SAME } else { BEFORE }
 }
 
 // How an owner's key stands to the key in the slot at `at`: the owner decides first.
@@ -270,10 +277,10 @@ pub fn compare_key(book: &[u8], at: usize, owner: u8, key: &[u8]) -> u8
 {
     let other = book[at];
     if owner < other {
-        return 0;
+        return BEFORE;
     }
     if other < owner {
-        return 2;
+        return AFTER;
     }
     compare_from(book, at + 1, key, 0)
 }
@@ -344,10 +351,10 @@ fn compare_stored(book: &[u8], at: usize, by: usize) -> u8
     let x = high_eight(book, at + 1 + i);
     let y = high_eight(book, at + by + 1 + i);
     if x < y {
-        return 0;
+        return BEFORE;
     }
     if y < x {
-        return 2;
+        return AFTER;
     }
     compare_from(book, at + by, key, n)
 }
@@ -357,12 +364,12 @@ fn order(x: u8, y: u8) -> u8
     ensures { λ r. ⌜ r ≡ code (cmp (x ∷ []) (y ∷ [])) ⌝ }
 {
     if x == y {
-        return 1;
+        return SAME;
     }
     if x < y {
-        return 0;
+        return BEFORE;
     }
-    2
+    AFTER
 }
 
 // How the owner of the slot at `at` stands to that of the next slot: before version 3 there is none.
@@ -371,8 +378,8 @@ fn compare_owners(book: &[u8], at: usize, version: Version) -> u8
     ensures { λ r. ⌜ r ≡ code (cmp (take (ownersOf version .lead) (drop at (now (book .entry)))) (take (ownersOf version .lead) (drop (at + formOf version .width) (now (book .entry))))) ⌝ }
 {
     match version {
-        Version::One => 1,
-        Version::Two => 1,
+        Version::One => SAME,
+        Version::Two => SAME,
         Version::Three => order(book[at], book[at + SLOT]),
     }
 }
@@ -383,7 +390,7 @@ pub fn compare_next(book: &[u8], at: usize, version: Version) -> u8
     ensures { λ r. ⌜ r ≡ code (cmp (formOf version .recordOf (drop at (now (book .entry))) .0) (formOf version .recordOf (drop (at + formOf version .width) (now (book .entry))) .0)) ⌝ }
 {
     let first = compare_owners(book, at, version);
-    if first != 1 {
+    if first != SAME {
         return first;
     }
     compare_stored(book, at + lead(version), width(version))

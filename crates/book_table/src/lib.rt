@@ -4,6 +4,7 @@ mod look;
 pub mod many;
 
 use book_form::HEAD;
+use book_form::SAME;
 use book_form::SLOT;
 use book_form::clear;
 use book_form::compare_key;
@@ -74,7 +75,7 @@ pub(crate) fn probe(book: &[u8], n: usize, table: &[u8], owner: u8, key: &[u8]) 
         if v == 0 {
             return Slot::Nowhere;
         }
-        if compare_key(book, HEAD + SLOT * (v - 1), owner, key) == 1 {
+        if compare_key(book, HEAD + SLOT * (v - 1), owner, key) == SAME {
             return Slot::At(v - 1);
         }
         d += 1;
