@@ -1,20 +1,20 @@
 -- Laws of forms: the bytes of a book tell its records, and what stands where in them.
 -- Assumes nothing.
 use mathlib.Core.Path.{_≡_, refl, sym, ap, _∙_}
-use mathlib.Core.List.{List, [], _∷_, _++_, append-assoc, head-eq-of-cons-eq, tail-eq-of-cons-eq}
+use mathlib.Core.List.{List, [], _∷_, _++_, append-assoc, append-nil, head-eq-of-cons-eq, tail-eq-of-cons-eq}
 use Prim.Native.Nat.{ℕ, zero, suc, _+_, _*_, _-_, _<_, _≤_}
 use native.Mathlib.Nat.{mul-le-mul-left}
 use native.Mathlib.Decide.{decLt}
 use native.Mathlib.Omega.{arith}
-use lib.Dec.{eqb, ltb}
-use borrow.Author.Tests.{eqb-true, eqb-false, lt-ltb, le-ltb}
+use lib.Dec.{eqb}
+use borrow.Author.Tests.{eqb-true}
 use mathlib.Core.Bool.{Bool, true, false, cond, _||_}
-use Rattle.text.specs.Part.{every, top}
-use Rattle.text.specs.PartLaws.{every-top, and-left, and-right}
-use lib.ListN.{getD, length, take, drop, set, length-append, length-take, length-drop, length-replicate, replicate-append-replicate, take-append-drop}
+use Rattle.text.specs.Part.{every}
+use Rattle.text.specs.PartLaws.{and-left, and-right}
+use lib.ListN.{getD, length, take, drop, set, length-append, length-take, length-drop, length-replicate, replicate-append-replicate, take-append-drop, drop-of-length-le}
 use lib.Seq.{drop-at, drop-drop, drop-append-add}
 use Rattle.text.specs.Put.{put}
-use Rattle.text.specs.PutLaws.{length-put}
+use Rattle.text.specs.PutLaws.{put-zero, length-put}
 use Rattle.book_records.specs.Records.{Key}
 use Rattle.book_records.specs.Act.{Rec, countBy}
 use Rattle.book_records.specs.Calls.{isOwner}
@@ -44,6 +44,13 @@ append-parts (c ∷ a) (d ∷ b) x y l e =
 pub length-zeros : (n : ℕ) → length (zeros n) ≡ n
 length-zeros n = length-replicate n 0
 
+-- zeros over all bytes
+pub zeros-over : (b : List ℕ) → put b 0 (zeros (length b)) ≡ zeros (length b)
+zeros-over b =
+    put-zero b (zeros (length b))
+    ∙ ap (λ (l : List ℕ). zeros (length b) ++ l) (drop-of-length-le b (let q : length b ≤ length (zeros (length b)) = omega (arith, length-zeros (length b)) in q))
+    ∙ append-nil (zeros (length b))
+
 -- a list of zeros, by its elements
 pub all-zero : (l : List ℕ) → ((i : ℕ) → i < length l → getD l i 0 ≡ 0) → l ≡ zeros (length l)
 all-zero [] h = refl
@@ -52,17 +59,7 @@ all-zero (x ∷ l) h =
     let b : l ≡ zeros (length l) = all-zero l (λ i k. h (suc i) (omega arith)) in
     λ i. a i ∷ b i
 
--- zeros, by one test over all bytes
-zero-test : (b : ℕ) → eqb b 0 ≡ ltb b 1
-zero-test b = go (eqb b 0) refl
-  where
-    go : (v : Bool) → eqb b 0 ≡ v → v ≡ ltb b 1
-    go true e = sym (lt-ltb b 1 (omega (arith, eqb-true b 0 e)))
-    go false e = sym (le-ltb b 1 (omega (arith, eqb-false b 0 e)))
-
-pub blank-top : (s : List ℕ) → every (λ b. eqb b 0) s ≡ ltb (top (λ b. b) 0 s) 1
-blank-top s = every-top (λ b. eqb b 0) (λ b. b) 1 zero-test (omega arith) s
-
+-- zeros, by a test of each byte
 pub blank-zeros : (s : List ℕ) → every (λ b. eqb b 0) s ≡ true → s ≡ zeros (length s)
 unfolding every
 blank-zeros [] h = refl

@@ -1,5 +1,4 @@
 // The book's bytes: movers, slots and the header.
-use text::part::largest;
 use text::put::write_byte;
 use text::put::write_text;
 ghost use mathlib.Core.Path.{_≡_};
@@ -428,11 +427,17 @@ pub fn key_at(book: &[u8], at: usize) -> &[u8]
     text_at(book, at)
 }
 
-// Whether each byte of `s` is zero, where `s` is short.
+// Whether each byte of `s` is zero, where `s` is short. The loop has no early exit, so that it can take many bytes at a time.
 fn blank(s: &[u8]) -> bool
     ensures { λ r. ⌜ r ≡ every (λ b. eqb b 0) (now (s .entry)) ⌝ }
 {
-    largest(s) < 1
+    let mut all: u8 = 0;
+    let mut i = 0;
+    while i < s.len() {
+        all = all | s[i];
+        i += 1;
+    }
+    all == 0
 }
 
 // Whether each byte of `s` is zero, by parts of 128 bytes: the last one may share bytes with the one before it.
