@@ -2,10 +2,10 @@
 -- Assumes nothing.
 use mathlib.Core.Path.{_≡_, refl, sym, ap, _∙_, subst}
 use mathlib.Core.Bool.{Bool, true, false}
-use mathlib.Core.List.{List, [], _∷_, _++_, append-nil}
+use mathlib.Core.List.{List, [], _∷_, _++_}
 use Prim.Native.Nat.{ℕ, _+_, _*_, _-_, _<_, _≤_, Ordering·eq}
 use native.Mathlib.Omega.{arith}
-use lib.ListN.{length, take, drop, getD, drop-of-length-le, replicate-append-replicate}
+use lib.ListN.{length, take, drop, getD, replicate-append-replicate}
 use lib.Seq.{drop-at, drop-drop}
 use Rattle.text.specs.Order.{cmp}
 use Rattle.text.specs.declared.Written.{Written}
@@ -17,7 +17,7 @@ use Rattle.book_records.specs.declared.Manner.{Manner}
 use Rattle.book_records.specs.Calls.{ValueFits, isOwner}
 use Rattle.book_records.specs.TextLaws.{Keyed, look-means, write-means, remove-means}
 use Rattle.book_form.specs.Form.{QuotasFit, layout, slots, inserted, removed, zeros, keyAt}
-use Rattle.book_form.specs.FormLaws.{length-zeros}
+use Rattle.book_form.specs.FormLaws.{length-zeros, zeros-over}
 use Rattle.book_form.specs.Counted.{countedIn, stored}
 use Rattle.book_form.specs.declared.Quotas.{Quotas}
 use Rattle.book_form.specs.declared.Version.the-variants.{Three}
@@ -162,11 +162,8 @@ module _ (b : List ℕ) (C : ℕ) (s : Slotted Current b C) (q : Quotas) where
 
     pub new-made : t ≡ true → (b₁ b₂ : List ℕ) → b₁ ≡ put b 0 (zeros (length b)) → b₂ ≡ put b₁ 0 (Current .header q 0) → Made Current q b 0 b₂
     unfolding layout slots
-    new-made h b₁ b₂ e f = o.Made.new-book C (s .some z) (fits .holds h) refl (f ∙ ap (λ (l : List ℕ). put l 0 (Current .header q 0)) (e ∙ blank) ∙ tail)
+    new-made h b₁ b₂ e f = o.Made.new-book C (s .some z) (fits .holds h) refl (f ∙ ap (λ (l : List ℕ). put l 0 (Current .header q 0)) (e ∙ zeros-over b) ∙ tail)
       where
-        blank : put b 0 (zeros (length b)) ≡ zeros (length b)
-        blank = put-zero b (zeros (length b)) ∙ ap (λ (l : List ℕ). zeros (length b) ++ l) (drop-of-length-le b (let q : length b ≤ length (zeros (length b)) = omega (arith, length-zeros (length b)) in q)) ∙ append-nil (zeros (length b))
-
         tail : put (zeros (length b)) 0 (Current .header q 0) ≡ layout Current C q []
         tail =
             put-zero (zeros (length b)) (Current .header q 0)

@@ -3,29 +3,22 @@
 use mathlib.Core.Path.{_≡_, refl, sym, ap, _∙_}
 use mathlib.Core.List.{List, [], _∷_, _++_, append-assoc, append-nil}
 use mathlib.Core.Option.{some}
-use Prim.Native.Nat.{ℕ, suc, _+_, _*_, _-_, _<_, _≤_}
+use Prim.Native.Nat.{ℕ, suc, _+_, _*_, _-_, _<_}
 use native.Mathlib.Omega.{arith}
-use lib.ListN.{length, take, drop, getElem?, replicate-append-replicate, drop-of-length-le}
+use lib.ListN.{length, take, drop, getElem?, replicate-append-replicate}
 use lib.Seq.{length-take-le, take-all, drop-at}
 use Rattle.text.specs.PlaceLaws.{at-lt, take-suc-at}
 use Rattle.text.specs.Put.{put}
 use Rattle.text.specs.PutLaws.{put-zero}
 use Rattle.book_records.specs.Act.{Rec}
 use Rattle.book_form.specs.Form.{Form, AllFit, zeros, slots, layout, place}
-use Rattle.book_form.specs.FormLaws.{Lawful, length-zeros, length-before, slots-append, fit-take}
+use Rattle.book_form.specs.FormLaws.{Lawful, length-zeros, zeros-over, length-before, slots-append, fit-take}
 use Rattle.book_form.specs.MovesLaws.{over-parts}
 use Rattle.book.specs.BookLaws.{fit-at}
 
 -- the bytes of a book with C slots, once the first i of its records are written
 unfoldable pub written : (F : Form) → ℕ → F .Extra → List Rec → ℕ → List ℕ
 written F C e s i = F .header e (length s) ++ (slots F (take i s) ++ zeros (F .width * (C - i)))
-
--- zeros over all bytes
-blank : (b : List ℕ) → put b 0 (zeros (length b)) ≡ zeros (length b)
-blank b =
-    put-zero b (zeros (length b))
-    ∙ ap (λ (l : List ℕ). zeros (length b) ++ l) (drop-of-length-le b (let q : length b ≤ length (zeros (length b)) = omega (arith, length-zeros (length b)) in q))
-    ∙ append-nil (zeros (length b))
 
 module _ (F : Form) (L : Lawful F) (C : ℕ) (e : F .Extra) (s : List Rec) where
   -- the header over zeros
@@ -35,7 +28,7 @@ module _ (F : Form) (L : Lawful F) (C : ℕ) (e : F .Extra) (s : List Rec) where
       let h : List ℕ = F .header e (length s) in
       let W = F .width in
       f
-      ∙ ap (λ (x : List ℕ). put x 0 h) (g ∙ blank b ∙ ap zeros l ∙ sym (replicate-append-replicate (F .head) (W * C) 0))
+      ∙ ap (λ (x : List ℕ). put x 0 h) (g ∙ zeros-over b ∙ ap zeros l ∙ sym (replicate-append-replicate (F .head) (W * C) 0))
       ∙ put-zero (zeros (F .head) ++ zeros (W * C)) h
       ∙ ap (λ (x : List ℕ). h ++ x) (drop-at (zeros (F .head)) (zeros (W * C)) (length h) (length-zeros (F .head) ∙ sym (L .header-length e (length s))))
       ∙ ap (λ (k : ℕ). h ++ zeros (W * k)) (let q : C ≡ C - 0 = omega arith in q)
