@@ -38,6 +38,7 @@ use Rattle.text.specs.declared.Fault.{Fault}
 use Rattle.text.specs.Fault.{hasPlace}
 use Rattle.path.specs.Number.{NumberWrong}
 use Rattle.path.specs.WrongLaws.{asRefusal, back-fault, wrong-why, why-wrong, wrong-unread, wrong-marks}
+use Rattle.packet.specs.KeyLaws.{clash}
 use Rattle.demands.specs.Written.{Done, Back, NoKind, WhenRead, NoNumber}
 
 -- ---- a call that writes a text, where there is room
@@ -127,9 +128,6 @@ pub reads-back : (k : ℕ) (v : Carried (List ℕ)) → Valid k v → (out : Lis
 reads-back k v valid = as-back (render (partsOf k) v) k (only (partsOf k) v) (rendered-back k v valid)
 
 -- ---- when reading is refused
-clash : {A : Type 0} → _≡_ {A = ℕ} 0 1 → A
-clash z = absurd (let y : ⊥ = omega (arith, z) in y)
-
 no-kind : (t : List ℕ) → readFirst kinds t ≡ Nothing → NoKind t
 no-kind t h e m = go (fitsKind e t) refl
   where

@@ -20,13 +20,11 @@ use Rattle.iteration.specs.ReadLaws.{read-written, written-read, key-counted}
 use Rattle.iteration.specs.Block.{rising, blockOf, scanned, Among, Nearest}
 use Rattle.iteration.specs.BlockLaws.{parts}
 use Rattle.iteration.specs.ScanLaws.{block-read, block-back, block-counted}
+use Rattle.packet.specs.KeyLaws.{clash}
 use Rattle.demands.specs.Demand2Laws.{iff-yes, iff-no}
 use Rattle.demands.specs.Scanned.{IsKey, WhenKey, Block, WhenScanned}
 use Rattle.demands.specs.Shape.{Listed, AllZero, Demand1}
 use Rattle.demands.specs.Written.{Done}
-
-clash : {A : Type 0} → _≡_ {A = ℕ} 0 1 → A
-clash z = absurd (let y : ⊥ = omega (arith, z) in y)
 
 number : {x y : Pair} → x ≡ y → x .refusal ≡ y .refusal
 number e = ap (λ (p : Pair). p .refusal) e

@@ -25,12 +25,10 @@ use Rattle.path.specs.Read.{fits, readPath, keyOf, renderPath, refusalOf, asFau
 use Rattle.path.specs.Reads.{Reads}
 use Rattle.path.specs.ReadLaws.{reads-is, reads-one}
 use Rattle.path.specs.BackLaws.{read-short, read-ascii, read-reads}
+use Rattle.packet.specs.KeyLaws.{clash}
 use Rattle.demands.specs.Written.{NoKind, WhenRead}
 use Rattle.demands.specs.Demand2Laws.{iff-yes, iff-no, when-read}
 use Rattle.demands.specs.Rendered.{WhenKeyedBy, WhenKeyed}
-
-clash : {A : Type 0} → _≡_ {A = ℕ} 0 1 → A
-clash z = absurd (let y : ⊥ = omega (arith, z) in y)
 
 -- 0 is no refusal of reading
 pub refusal-some : (r : Refusal) → refusalOf r ≡ 0 → ⊥

@@ -31,6 +31,7 @@ use Rattle.path.specs.Valid.{Valid, only, ReadsAs}
 use Rattle.path.specs.BackLaws.{read-reads, read-exact, rendered-back, read-again}
 use Rattle.iteration.specs.Key.{iterationKey}
 use Rattle.iteration.specs.KeyLaws.{key-length}
+use Rattle.packet.specs.KeyLaws.{clash}
 use Rattle.demands.specs.Told.{told, toldOf}
 use Rattle.demands.specs.ToldLaws.{bytes26, length26}
 use Rattle.demands.specs.Written.{Done, Back, Says, Leaves, readLength}
@@ -38,9 +39,6 @@ use Rattle.demands.specs.Demand2Laws.{iff-yes, iff-no, wrote, renders, a
 use Rattle.demands.specs.ModeLaws.{when-plain}
 use Rattle.demands.specs.KeyedLaws.{refusal-some, is-read, when-keyed}
 use Rattle.demands.specs.Cases.{Outcome, gives, cases-hold}
-
-clash : {A : Type 0} → _≡_ {A = ℕ} 0 1 → A
-clash z = absurd (let y : ⊥ = omega (arith, z) in y)
 
 -- ---- what a writing call leaves
 module _ (out : List ℕ) where

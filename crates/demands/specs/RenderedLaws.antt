@@ -24,11 +24,9 @@ use Rattle.path.specs.Read.{partsOf, render}
 use Rattle.path.specs.Reads.{kindAt}
 use Rattle.path.specs.ReadLaws.{has-both, kind-has, kind-parts, made-kind}
 use Rattle.path.specs.View.{kindOf}
+use Rattle.packet.specs.KeyLaws.{clash}
 use Rattle.demands.specs.Demand2Laws.{iff-yes, iff-no}
 use Rattle.demands.specs.Rendered.{IsKind, named, FirstOf, SecondOf, Slash, OfAName, FirstGets, SecondGets, FirstFine, SecondFine, Fine, WhenRenderedBy}
-
-clash : {A : Type 0} → _≡_ {A = ℕ} 0 1 → A
-clash z = absurd (let y : ⊥ = omega (arith, z) in y)
 
 -- ---- the identifiers of a kind
 abbrev faultAt : (Name → List ℕ → ℕ) → Option Name → List ℕ → ℕ

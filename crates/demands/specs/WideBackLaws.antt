@@ -4,27 +4,24 @@ use Prim.Native.Nat.{ℕ, _+_, _<_, _^_}
 use mathlib.Core.Path.{_≡_, refl, sym, ap, _∙_}
 use mathlib.Core.Bool.{Bool, true, false, not, _&&_}
 use mathlib.Core.List.{List, [], _∷_, _++_, map}
-use native.Mathlib.Numerals.{add-one}
 use native.Mathlib.Omega.{arith}
 use lib.Dec.{eqb, ltb}
-use lib.ListN.{length, drop, getD, drop-of-length-le}
-use lib.Seq.{drop-cons}
-use borrow.Author.Tests.{lt-ltb, le-ltb, ltb-true, ltb-false, le-leb, ne-eqb}
+use lib.ListN.{length, drop, getD}
+use borrow.Author.Tests.{lt-ltb, le-ltb, le-leb, ne-eqb}
 use Rattle.text.specs.Number.{decimal}
-use Rattle.text.specs.NumberLaws.{Digit, decimal-each, read-decimal}
+use Rattle.text.specs.NumberLaws.{Digit, read-decimal}
 use Rattle.text.specs.Part.{every, ascii}
 use Rattle.text.specs.PartLaws.{and-left, and-right}
 use Rattle.text.specs.Put.{text}
 use Rattle.identifiers.specs.Check.{unless, Rule, checkOf}
 use Rattle.identifiers.specs.Check as check
 use Rattle.identifiers.specs.CheckLaws.{first-zero, unless-zero, accepted-no-slash}
-use Rattle.path.specs.declared.Place.{Place}
 use Rattle.path.specs.declared.Path.{Path}
 use Rattle.path.specs.declared.Reading.the-variants.{Read}
 use Rattle.path.specs.declared.name.Name.{Name}
 use Rattle.path.specs.declared.name.Name.the-variants.{Client as client, Connection as connection, Port as port, Channel as channel, Upgrade as upgrade}
 use Rattle.path.specs.Kinds.{Part, word, name, count, pair, Carried, carried, nameIn, setName, kinds}
-use Rattle.path.specs.Text.{components, component, cutAt, joinBy, join, placesFrom, places, placeAt, partOf}
+use Rattle.path.specs.Text.{components, component, cutAt, joinBy, join, placesFrom, places, placeAt}
 use Rattle.path.specs.TextLaws.{part-component, without, allWithout, join-cut, cut-join, every-append, every-all}
 use Rattle.path.specs.Read.{nameFault, namesFault, adds, carriedFrom, show, shown, render, partsOf, textsOf, renderPath, readPath}
 use Rattle.path.specs.View.{kindOf, carriedOf}
@@ -32,7 +29,7 @@ use Rattle.path.specs.Valid.{Valid, setCount, setPair, only, ReadsAs}
 use Rattle.path.specs.Reads.{Reads}
 use Rattle.path.specs.ReadLaws.{has-both, kind-has, kind-parts, made-parts, made-carried}
 use Rattle.path.specs.ExactLaws.{name-set}
-use Rattle.path.specs.BackLaws.{rendered-back, rendered-cut, read-reads, read-valid, exact-renders}
+use Rattle.path.specs.BackLaws.{decimal-every, drop-step, texts-name, rendered-back, rendered-cut, read-reads, read-valid, exact-renders}
 use Rattle.letters.specs.Character.{utf8}
 use Rattle.letters.specs.CharacterLaws.{ascii-utf8}
 use Rattle.letters.specs.Narrow.{narrow}
@@ -76,9 +73,6 @@ name-accepted n c h =
     record { taken = u; whole = alike-without 47 refl (alike c) ∙ name-whole n (narrow c) f; pictured-fine = f }
 
 -- ---- digits
-decimal-every : (f : ℕ → Bool) → ((b : ℕ) → Digit b → f b ≡ true) → (n : ℕ) → every f (decimal n) ≡ true
-decimal-every f h n = every-all f (decimal n) (λ i l. h (getD (decimal n) i 0) (decimal-each n i l))
-
 digit-low : (b : ℕ) → Digit b → ltb b 128 ≡ true
 digit-low b d = lt-ltb b 128 (omega arith)
 
@@ -162,20 +156,6 @@ cut-shown [] v s h = let z : _≡_ {A = ℕ} 0 1 = cc in absurd (omega arith)
 cut-shown (p ∷ ps) v s h = cut-join 47 (show p v) (shown ps v) h
 
 -- ---- the identifiers of the text where the picture's stand
-drop-step : (cs : List (List ℕ)) (k : ℕ) (c : List ℕ) (rest : List (List ℕ)) → drop k cs ≡ c ∷ rest → (getD cs k [] ≡ c) × (drop (k + 1) cs ≡ rest)
-drop-step cs k c rest h = go (ltb k (length cs)) refl
-  where
-    go : (v : Bool) → ltb k (length cs) ≡ v → (getD cs k [] ≡ c) × (drop (k + 1) cs ≡ rest)
-    go true e = let d = drop-cons cs k [] (ltb-true k (length cs) e) in (cc, rw add-one cc)
-    go false e = let d = drop-of-length-le cs (ltb-false k (length cs) e) in let z : _≡_ {A = ℕ} 0 1 = cc in absurd (omega arith)
-
-texts-name : (n : Name) (t : List ℕ) (p : Place) (v : Carried Place) → textsOf t (setName n p v) ≡ setName n (partOf t p) (textsOf t v)
-texts-name client t p v = refl
-texts-name connection t p v = refl
-texts-name port t p v = refl
-texts-name channel t p v = refl
-texts-name upgrade t p v = refl
-
 module _ (t s : List ℕ) (alongside : places s ≡ places t) (v : Carried (List ℕ)) (a : v .a < 2 ^ 64) (b : v .b < 2 ^ 64) where
   texts-back : (k : ℕ) (ps : List Part) → drop k (components t) ≡ shown ps v → drop k (components s) ≡ shown ps (pictured v) → textsOf t (carriedFrom k ps s) ≡ only ps v
   unfolding show

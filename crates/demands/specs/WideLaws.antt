@@ -33,13 +33,11 @@ use Rattle.letters.specs.NarrowLaws.{length-narrow, narrow-ascii, every-narrow}
 use Rattle.wide.specs.Mode.{wide}
 use Rattle.wide.specs.Check.{charsIn, checkIn}
 use Rattle.wide.specs.Read.{readIn, readingBytesIn, readFaultIn}
+use Rattle.packet.specs.KeyLaws.{clash}
 use Rattle.demands.specs.Written.{WhenRead}
 use Rattle.demands.specs.WideWritten.{allowed, Fine, WideKind, WhenWideRead}
 use Rattle.demands.specs.WideAlikeLaws.{fits-itself, wrong-itself, wrong-picture}
 use Rattle.demands.specs.Demand2Laws.{when-read, iff-yes, iff-no}
-
-clash : {A : Type 0} → _≡_ {A = ℕ} 0 1 → A
-clash z = absurd (let y : ⊥ = omega (arith, z) in y)
 
 -- ---- the characters of an identifier
 seen-allowed : (c : Character) → identifierByte (seenAs c) ≡ allowed c

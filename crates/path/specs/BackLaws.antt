@@ -46,7 +46,7 @@ abbrev plain : ℕ → Bool
 plain b = ltb b 128 && not (eqb b 47)
 
 -- each digit of a number passes a test that digits pass
-decimal-every : (f : ℕ → Bool) → ((b : ℕ) → Digit b → f b ≡ true) → (n : ℕ) → every f (decimal n) ≡ true
+pub decimal-every : (f : ℕ → Bool) → ((b : ℕ) → Digit b → f b ≡ true) → (n : ℕ) → every f (decimal n) ≡ true
 decimal-every f h n = every-all f (decimal n) (λ i l. h (getD (decimal n) i 0) (decimal-each n i l))
 
 digit-plain : (b : ℕ) → Digit b → plain b ≡ true
@@ -124,14 +124,14 @@ shown-fits (count ∷ ps) v a b h = rw (read-decimal (v .a) a) (shown-fits ps v 
 shown-fits (pair ∷ ps) v a b h = rw (pair-back (v .a) (v .b), read-decimal (v .a) a, read-decimal (v .b) b) (shown-fits ps v a b h)
 
 -- ---- what is read of the components that are shown
-drop-step : (cs : List (List ℕ)) (k : ℕ) (c : List ℕ) (rest : List (List ℕ)) → drop k cs ≡ c ∷ rest → (getD cs k [] ≡ c) × (drop (k + 1) cs ≡ rest)
+pub drop-step : (cs : List (List ℕ)) (k : ℕ) (c : List ℕ) (rest : List (List ℕ)) → drop k cs ≡ c ∷ rest → (getD cs k [] ≡ c) × (drop (k + 1) cs ≡ rest)
 drop-step cs k c rest h = go (ltb k (length cs)) refl
   where
     go : (v : Bool) → ltb k (length cs) ≡ v → (getD cs k [] ≡ c) × (drop (k + 1) cs ≡ rest)
     go true e = let d = drop-cons cs k [] (ltb-true k (length cs) e) in (cc, rw add-one cc)
     go false e = let d = drop-of-length-le cs (ltb-false k (length cs) e) in let z : _≡_ {A = ℕ} 0 1 = cc in absurd (omega arith)
 
-texts-name : (n : Name) (t : List ℕ) (p : Place) (v : Carried Place) → textsOf t (setName n p v) ≡ setName n (partOf t p) (textsOf t v)
+pub texts-name : (n : Name) (t : List ℕ) (p : Place) (v : Carried Place) → textsOf t (setName n p v) ≡ setName n (partOf t p) (textsOf t v)
 texts-name client t p v = refl
 texts-name connection t p v = refl
 texts-name port t p v = refl
