@@ -1,6 +1,6 @@
 -- Tests on a text, which is the list of its bytes.
 -- Assumes nothing.
-use Prim.Native.Nat.{ℕ, max}
+use Prim.Native.Nat.{ℕ}
 use mathlib.Core.Bool.{Bool, true, false, _&&_}
 use mathlib.Core.List.{List, [], _∷_}
 use lib.Dec.{ltb, eqb}
@@ -26,8 +26,3 @@ same [] [] = true
 same [] (y ∷ ys) = false
 same (x ∷ xs) [] = false
 same (x ∷ xs) (y ∷ ys) = eqb x y && same xs ys
-
--- the largest value of g on the bytes, and at least v
-unfoldable pub top : (ℕ → ℕ) → ℕ → List ℕ → ℕ
-top g v [] = v
-top g v (b ∷ s) = top g (max v (g b)) s

@@ -1,17 +1,17 @@
--- Laws of `Part`: one turn of each loop, and how the largest value of a text answers a test on each of its bytes.
+-- Laws of `Part`: one turn of each loop.
 -- Assumes nothing.
 use mathlib.Core.Path.{_≡_, refl, sym, ap, _∙_}
 use mathlib.Core.Bool.{Bool, true, false, cond, _&&_, and-true, and-false, and-assoc}
-use Prim.Native.Nat.{ℕ, zero, suc, max, _+_, _-_, _≤_, _<_}
-use native.Mathlib.Nat.{add-zero, add-suc, le-refl}
+use Prim.Native.Nat.{ℕ, zero, suc, _+_, _-_, _≤_, _<_}
+use native.Mathlib.Nat.{add-suc, le-refl}
 use native.Mathlib.Numerals.{add-one}
 use native.Mathlib.Omega.{arith}
 use mathlib.Core.List.{List, [], _∷_, _++_}
 use lib.ListN.{length, take, drop, getD, length-drop, drop-of-length-le, take-append-drop}
 use lib.Seq.{drop-cons, take-all, take-take, take-add}
-use lib.Dec.{ltb, eqb}
-use borrow.Author.Tests.{lt-ltb, le-ltb, eq-eqb, ne-eqb, eqb-true, ltb-true, ltb-false}
-use Rattle.text.specs.Part.{every, ascii, startsWith, same, top}
+use lib.Dec.{eqb}
+use borrow.Author.Tests.{eq-eqb, ne-eqb, eqb-true}
+use Rattle.text.specs.Part.{every, ascii, startsWith, same}
 
 -- ---- both tests hold
 pub and-left : (a b : Bool) → (a && b) ≡ true → a ≡ true
@@ -33,43 +33,6 @@ pub every-append : (f : ℕ → Bool) (a b : List ℕ) → every f (a ++ b) ≡ 
 unfolding every
 every-append f [] b = refl
 every-append f (x ∷ a) b = rw (every-append f a b) (sym (and-assoc (f x) (every f a) (every f b)))
-
--- ---- the largest value of g on a text
-ltb-max : (v w n : ℕ) → ltb (max v w) n ≡ (ltb v n && ltb w n)
-ltb-max v w n = go (ltb v n) refl (ltb w n) refl
-  where
-    go : (p : Bool) → ltb v n ≡ p → (q : Bool) → ltb w n ≡ q → ltb (max v w) n ≡ (p && q)
-    go true e true f = lt-ltb (max v w) n (omega (arith, ltb-true v n e, ltb-true w n f))
-    go true e false f = le-ltb (max v w) n (omega (arith, ltb-false w n f))
-    go false e q f = le-ltb (max v w) n (omega (arith, ltb-false v n e))
-
--- a test that asks whether g is below n holds of each byte where the largest value is below n
-module _ (f : ℕ → Bool) (g : ℕ → ℕ) (n : ℕ) (rule : (b : ℕ) → f b ≡ ltb (g b) n) where
-  below : (v : ℕ) (s : List ℕ) → (ltb v n && every f s) ≡ ltb (top g v s) n
-  unfolding every top
-  below v [] = go (ltb v n)
-    where
-      go : (p : Bool) → (p && true) ≡ p
-      go true = refl
-      go false = refl
-  below v (b ∷ s) = rw (rule b) (go (ltb v n) (ltb (g b) n) (ltb-max v (g b) n) ∙ below (max v (g b)) s)
-    where
-      go : (p q : Bool) → ltb (max v (g b)) n ≡ (p && q) → (p && (q && every f s)) ≡ (ltb (max v (g b)) n && every f s)
-      go true q e = rw e
-      go false q e = rw e
-
-  pub every-top : 0 < n → (s : List ℕ) → every f s ≡ ltb (top g 0 s) n
-  every-top h s = rw (lt-ltb 0 n h) at (below 0 s)
-
--- one turn of a loop that keeps the largest value
-module _ (g : ℕ → ℕ) (v : ℕ) (s : List ℕ) (i : ℕ) where
-  pub top-none : length s ≤ i → top g v (drop i s) ≡ v
-  unfolding top
-  top-none h = rw (drop-of-length-le s h)
-
-  pub top-more : i < length s → top g v (drop i s) ≡ top g (max v (g (getD s i 0))) (drop (i + 1) s)
-  unfolding top
-  top-more h = rw (drop-cons s i 0 h, add-one)
 
 -- ---- the part of a text from n to its end, as the code takes it
 pub part-rest : (n : ℕ) (s : List ℕ) → take (length s - n) (drop n s) ≡ drop n s

@@ -1,31 +1,11 @@
 // Tests on a text.
 ghost use mathlib.Core.Path.{_≡_};
 ghost use mathlib.Core.Bool.{cond};
-ghost use Prim.Native.Nat.{_+_, _≤_, max};
+ghost use Prim.Native.Nat.{_+_, _≤_};
 ghost use lib.Dec.{eqb};
 ghost use lib.ListN.{length, take, drop};
 ghost use Rattle.text.specs.Number.{Bytes, little};
-ghost use Rattle.text.specs.Part.{ascii, startsWith, same, top};
-
-// The larger of two bytes.
-pub fn larger(a: u8, b: u8) -> u8
-    ensures { λ r. ⌜ r ≡ max a b ⌝ }
-{
-    if a < b { b } else { a }
-}
-
-// The largest byte of `s`, or 0. The loop has no early exit, so that it can take many bytes at a time.
-pub fn largest(s: &[u8]) -> u8
-    ensures { λ r. ⌜ r ≡ top (λ b. b) 0 (now (s .entry)) ⌝ }
-{
-    let mut most: u8 = 0;
-    let mut i = 0;
-    while i < s.len() {
-        most = larger(most, s[i]);
-        i += 1;
-    }
-    most
-}
+ghost use Rattle.text.specs.Part.{ascii, startsWith, same};
 
 // The eight bytes of `s` from `at` on as a number, the first lowest: one load.
 pub fn eight(s: &[u8], at: usize) -> u64
