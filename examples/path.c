@@ -125,6 +125,29 @@ static int keep_it(uint8_t *book, size_t size) {
     return look_up_many(book, size, owner, "clients/07-tendermint-4/consensusStates/7-2\nports/transfer\n");
 }
 
+/* Of a client's states the newest are kept, by their numbers and not by their texts, and the slots of the others are free. */
+static int clear_it(void) {
+    static const char *const states[] = {"clients/07-tendermint-4/consensusStates/7-2",
+                                         "clients/07-tendermint-4/consensusStates/7-2/processedTime",
+                                         "clients/07-tendermint-4/consensusStates/10-2"};
+    static uint8_t book[HP_BOOK_SIZE(3)];
+    uint8_t refusal = hp_book_new(book, sizeof book, 3, 0);
+    for (size_t i = 0; i < 3 && refusal == HP_DONE; i++) {
+        refusal = hp_book_write(book, sizeof book, HP_OWNER_ONE, TEXT(states[i]), TEXT("a digest"));
+    }
+    if (refusal != HP_DONE) {
+        return refused("write", refusal);
+    }
+    struct hp_count cleared = hp_book_clear(book, sizeof book, HP_OWNER_ONE, TEXT("07-tendermint-4"), 1);
+    if (cleared.refusal != HP_DONE) {
+        return refused("clear", cleared.refusal);
+    }
+    printf("cleared   %d records, all but the newest state\n", (int)cleared.count);
+    look_up(book, sizeof book, HP_OWNER_ONE, states[0]);
+    look_up(book, sizeof book, HP_OWNER_ONE, states[2]);
+    return 0;
+}
+
 /* Two networks in one book: neither sees or changes the other's records, nor takes a slot of the other's quota. */
 static int share_it(void) {
     static const char key[] = "clients/07-tendermint-4/consensusStates/7-2";
@@ -196,5 +219,5 @@ static int key_packet(void) {
 }
 
 int main(void) {
-    return read_it() || mend_it() || share_it() || convert_it() || read_greek() || key_packet();
+    return read_it() || mend_it() || share_it() || clear_it() || convert_it() || read_greek() || key_packet();
 }

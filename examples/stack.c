@@ -27,7 +27,7 @@ static const char *const texts[] = {
     "\360\237\230\200", "\316\264/5/upgradedClient"};
 static uint8_t longest[HP_PATH_MOST + 1];
 static uint8_t book[HP_BOOK_SIZE(SLOTS)], old[8 + 288 * SLOTS], newer[HP_BOOK_2_SIZE(SLOTS)], newest[HP_BOOK_SIZE(SLOTS)];
-static uint8_t table[HP_BOOK_TABLE], out[HP_PATH_MOST], many[SLOTS * HP_BOOK_ANSWER];
+static uint8_t states[HP_BOOK_SIZE(SLOTS)], table[HP_BOOK_TABLE], out[HP_PATH_MOST], many[SLOTS * HP_BOOK_ANSWER];
 static uint8_t key[HP_ITERATION_KEY], block[2 * HP_ITERATION_KEY];
 
 /* The calls on one text, or on two, that have a wide one of the same name. */
@@ -75,6 +75,7 @@ static void calls_on_books(const uint8_t *t, size_t n) {
         hp_book_lookup(book, sizeof book, owner, t, n, out, sizeof out);
         hp_book_lookup_lenient(book, sizeof book, owner, t, n, out, sizeof out);
         hp_book_oldest(book, sizeof book, owner, t, n);
+        hp_book_clear(book, sizeof book, owner, t, n, 1);
         hp_book_fill(book, sizeof book, table, sizeof table);
         hp_book_lookup_many(book, sizeof book, owner, table, sizeof table, t, n, many, sizeof many);
         if (n % 2) {
@@ -134,6 +135,17 @@ static void all_calls(void) {
         calls_on_books(longest, n);
     }
     other_calls();
+    hp_book_clear(states, sizeof states, HP_OWNER_ONE, (const uint8_t *)"07-tendermint-4", 15, SLOTS / 2);
+}
+
+/* The largest book, full of one client's states, whose order as texts is not that of their numbers. */
+static void fill_states(void) {
+    char state[64];
+    hp_book_new(states, sizeof states, SLOTS, 0);
+    for (int i = 0; i < SLOTS; i++) {
+        int n = snprintf(state, sizeof state, "clients/07-tendermint-4/consensusStates/%d-%d", i % 11, SLOTS - i);
+        hp_book_write(states, sizeof states, HP_OWNER_ONE, (const uint8_t *)state, (size_t)n, (const uint8_t *)"value", 5);
+    }
 }
 
 /* How much of a stack is used by this, with what a change of stacks takes. */
@@ -155,6 +167,7 @@ static size_t used_by(void (*what)(void)) {
 }
 
 int main(void) {
+    fill_states();
     size_t most = used_by(all_calls) - used_by(nothing);
     printf("%d\n", (int)most);
     return most > HP_STACK / 4 * 3;

@@ -202,6 +202,7 @@ struct hp_written { uint8_t refusal; uint64_t length; };
 struct hp_flag { uint8_t refusal; uint8_t value; };
 struct hp_pair { uint8_t refusal; uint64_t number; uint64_t height; };
 struct hp_packet { uint8_t refusal; uint8_t kind; uint64_t length; uint64_t sequence; };
+struct hp_count { uint8_t refusal; uint64_t count; };
 /* Above, made by bin/interface. */
 
 /* Below, made by bin/interface: calls in c. */
@@ -370,6 +371,11 @@ struct hp_written hp_book_lookup_lenient(const uint8_t *book, size_t book_len, u
 /* The smallest pair of revision number and height among the client's records `clients/C/consensusStates/R-h` of that owner: 9, 23,
  * the client's 2, 5, 6; then 12. */
 struct hp_pair hp_book_oldest(const uint8_t *book, size_t book_len, uint8_t owner, const uint8_t *client, size_t client_len);
+/* Of the client's records `clients/C/consensusStates/R-h` of that owner keeps as many as `keep` says, those with the greatest pairs of
+ * revision number and height, and removes the others, each with its processed time and height; then those times and heights that
+ * have no such record and a pair below every kept one. Without such a record it removes nothing. Answers how many records went:
+ * 9, 23, the client's 2, 5, 6. */
+struct hp_count hp_book_clear(uint8_t *book, size_t book_len, uint8_t owner, const uint8_t *client, size_t client_len, uint64_t keep);
 /* Makes the second buffer, whatever it holds, the book of version 2 that has the slots and the records of `old`, a book
  * of version 1: 9 where that is none, then 4 where the second buffer is not of that book's size. */
 uint8_t hp_book_convert(const uint8_t *old, size_t old_len, uint8_t *book, size_t book_len);

@@ -2,13 +2,13 @@
 -- Assumes nothing.
 use mathlib.Core.Path.{_≡_, refl, sym, ap, _∙_}
 use mathlib.Core.Bool.{true, false}
-use mathlib.Core.List.{List, _∷_, _++_}
+use mathlib.Core.List.{List, _∷_, _++_, append-assoc}
 use mathlib.Core.Option.{none, some}
-use Prim.Native.Nat.{ℕ, suc, _+_, _-_, _<_, _≤_, Ordering, Ordering·lt, Ordering·eq, Ordering·gt}
+use Prim.Native.Nat.{ℕ, suc, _+_, _*_, _-_, _<_, _≤_, Ordering, Ordering·lt, Ordering·eq, Ordering·gt}
 use native.Mathlib.Decide.{decLt}
 use native.Mathlib.Omega.{arith}
 use borrow.Author.Tests.{eqb-false}
-use lib.ListN.{length, take, drop, getElem?, length-append, take-append-drop, drop-of-length-le}
+use lib.ListN.{length, take, drop, getElem?, length-drop, take-append-drop, drop-of-length-le}
 use lib.Seq.{length-take-le}
 use Rattle.text.specs.Order.{cmp, Before}
 use Rattle.text.specs.OrderLaws.{cmp-flip, flip-gt, before-trans, Keys, key-lt, key-eq, key-gt, keys}
@@ -20,8 +20,8 @@ use Rattle.book_records.specs.Records as records
 use Rattle.book_records.specs.SplitLaws.{AllBefore, put-between, put-over, get-between, get-over, del-over, sorted-at, sorted-drop, after-head, before-take}
 use Rattle.book_records.specs.Act.{Meaning, refuses, writes, removes, looks, says, done, gives, Rec, countBy}
 use Rattle.book_records.specs.Calls.{isOwner}
-use Rattle.book_form.specs.Form.{Form, AllFit, layout, place, keyAt, inserted, removed}
-use Rattle.book_form.specs.FormLaws.{Lawful, fewer, layout-inserted, layout-replaced, layout-removed, fit-take, fit-drop}
+use Rattle.book_form.specs.Form.{Form, AllFit, slots, zeros, layout, place, keyAt, inserted, removed}
+use Rattle.book_form.specs.FormLaws.{Lawful, fewer, layout-inserted, layout-parted, layout-replaced, layout-removed, fit-take, fit-drop}
 use Rattle.book_form.specs.Compare.{code}
 use Rattle.book.specs.Book.{Book, Counts, fullIn}
 use Rattle.book.specs.BookLaws.{parted, few-records, sizes, record-is, key-is}
@@ -146,16 +146,23 @@ module _ (F : Form) (L : Lawful F) (b k : List ℕ) (x : Book F b) (p : ℕ) (pl
         ∙ sym (ap (layout F C (x .extra)) u) in
         record { answer = done; outcome = way-replaced x k v (y .1) b₁ held e₂; number = refl }
 
-    pub remove-done : (m : ℕ) (b₁ : List ℕ) → suc m ≡ length s → b₁ ≡ removed F (x .extra) p m b → Changed F b (removes k) 0 b₁
-    remove-done m b₁ em w =
+    pub remove-done : (b₁ : List ℕ) → b₁ ≡ removed F (x .extra) p (p + 1) (length s) b → Changed F b (removes k) 0 b₁
+    remove-done b₁ w =
         let C = x .slots in
+        let n : ℕ = length s in
         let d : List Rec = drop (suc p) s in
         let u : del s k ≡ take p s ++ d = ap (λ (l : List Rec). del l k) es ∙ del-over (take p s) y d k befores e₁ in
-        let bs : b ≡ layout F C (x .extra) (take p s ++ y ∷ d) = x .bytes ∙ ap (layout F C (x .extra)) es in
-        let lm : length (take p s ++ d) ≡ m = omega (arith, ap length es, length-append (take p s) (y ∷ d), length-append (take p s) d) in
-        let i : removed F (x .extra) p m (layout F C (x .extra) (take p s ++ y ∷ d)) ≡ layout F C (x .extra) (take p s ++ d) =
-        rw (lp, lm) at (layout-removed F L C (x .extra) (take p s) y d (fit-take F L p s (x .fit)) (fy .0) (fy .1) (omega (arith, lm, few-records F L b x))) in
-        record { answer = done; outcome = way-removed x k (y .1) b₁ held (w ∙ ap (removed F (x .extra) p m) bs ∙ i ∙ sym (ap (layout F C (x .extra)) u)); number = refl }
+        let rest : List ℕ = F .slot y ++ (slots F d ++ zeros (F .width * (C - n))) in
+        let bs : b ≡ F .header (x .extra) n ++ (slots F (take p s) ++ rest) =
+        x .bytes
+        ∙ ap (layout F C (x .extra)) es
+        ∙ layout-parted F L C (x .extra) (take p s) y d
+        ∙ ap (λ (m : ℕ). (F .header (x .extra) m ++ slots F (take p s)) ++ (F .slot y ++ (slots F d ++ zeros (F .width * (C - m))))) (sym (ap length es))
+        ∙ append-assoc (F .header (x .extra) n) (slots F (take p s)) rest in
+        let one : length (F .slot y) ≡ F .width * (p + 1 - p) = L .slot-length y (fy .0) ∙ omega arith ∙ ap (λ (m : ℕ). F .width * m) (let z : 1 ≡ p + 1 - p = omega arith in z) in
+        let i : removed F (x .extra) p (p + 1) n (F .header (x .extra) n ++ (slots F (take p s) ++ rest)) ≡ layout F C (x .extra) (take p s ++ d) =
+        layout-removed F L C (x .extra) (F .header (x .extra) n) (take p s) (F .slot y) d p (p + 1) n (L .header-length (x .extra) n) (fit-take F L p s (x .fit)) (fy .1) lp (omega arith) one (omega (arith, length-drop (suc p) s)) (few-records F L b x) in
+        record { answer = done; outcome = way-removed x k (y .1) b₁ held (w ∙ ap (removed F (x .extra) p (p + 1) n) bs ∙ i ∙ sym (ap (layout F C (x .extra)) u)); number = refl }
 
   -- the key stands nowhere
   module _ (n : p < length s → cmp k (keyAt F b p) ≡ Ordering·eq → ⊥) where

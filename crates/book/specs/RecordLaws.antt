@@ -103,8 +103,9 @@ module _ (b : List ℕ) (owner : ℕ) (key : List ℕ) (n p : ℕ) (h : Counts C
     pub write-taken : (v b₁ : List ℕ) → length key ≤ 255 → ValueFits v → b₁ ≡ put b (12 + 322 * p) (Current .slot (k, v)) → Changed Current b (writes k v) 0 b₁
     write-taken v b₁ hk hv w = write-replaced Current lawful b k x p (at-place (s .0)) (inside s) (s .2) v b₁ (fit v hk hv) w
 
-    pub remove-taken : (b₁ : List ℕ) → b₁ ≡ removed Current (quotasIn b) p (n - 1) b → Changed Current b (removes k) 0 b₁
-    remove-taken b₁ w = remove-done Current lawful b k x p (at-place (s .0)) (inside s) (s .2) (n - 1) b₁ (let l : p < n = s .1 in omega (arith, h .1)) (w ∙ ap (λ (e : Quotas). removed Current e p (n - 1) b) told)
+    pub remove-taken : (b₁ : List ℕ) → b₁ ≡ removed Current (quotasIn b) p (p + 1) n b → Changed Current b (removes k) 0 b₁
+    remove-taken b₁ w =
+        remove-done Current lawful b k x p (at-place (s .0)) (inside s) (s .2) b₁ (w ∙ ap (λ (e : Quotas). removed Current e p (p + 1) n b) told ∙ ap (λ (m : ℕ). removed Current (x .extra) p (p + 1) m b) (sym (h .1)))
 
   module _ (s : Spotted Current b k n (Free p)) where
     nowhere : p < length (x .records) → cmp k (keyAt Current b p) ≡ Ordering·eq → ⊥

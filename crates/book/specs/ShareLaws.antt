@@ -56,7 +56,7 @@ told-back q n tail =
     let y : 256 * (q .two / 256) + q .two % 256 ≡ q .two = omega arith in
     λ i. record { one = x i; two = y i }
 
-told-of : (v : Version) (e : ownersOf v .Extra) (n : ℕ) (tail : List ℕ) → ownersOf v .told (formOf v .header e n ++ tail) ≡ e
+pub told-of : (v : Version) (e : ownersOf v .Extra) (n : ℕ) (tail : List ℕ) → ownersOf v .told (formOf v .header e n ++ tail) ≡ e
 told-of One e n tail = refl
 told-of Two e n tail = refl
 told-of Three e n tail = told-back e n tail

@@ -5,10 +5,10 @@ use crate::find::find;
 use book_form::HEAD;
 use book_form::KEY;
 use book_form::SLOT;
+use book_form::close_gap;
 use book_form::insert;
 use book_form::put_slot;
 use book_form::quotas_of;
-use book_form::take_out;
 use book_form::text_at;
 use text::Written;
 use text::put::write_text;
@@ -108,6 +108,6 @@ pub(crate) fn take_record(book: &mut [u8], n: usize, owner: u8, key: &[u8]) -> u
     let Spot::Taken(p) = find(book, n, owner, key) else {
         return ABSENT;
     };
-    take_out(book, p, n - 1);
+    close_gap(book, p, p + 1, n);
     0
 }

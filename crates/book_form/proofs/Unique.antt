@@ -16,7 +16,8 @@ use Rattle.book_form.proofs.put_slot.Reads as put-slot
 use Rattle.book_form.proofs.put_front.Reads as put-front
 use Rattle.book_form.proofs.put_header.Reads as put-header
 use Rattle.book_form.proofs.insert.Reads as insert
-use Rattle.book_form.proofs.take_out.Reads as take-out
+use Rattle.book_form.proofs.lower_slot.Reads as lower-slot
+use Rattle.book_form.proofs.close_gap.Reads as close-gap
 use Rattle.book_form.proofs.compare_key.Reads as compare-key
 use Rattle.book_form.proofs.compare_next.Reads as compare-next
 use Rattle.book_form.proofs.count_of.Reads as count-of
@@ -57,8 +58,11 @@ one-put-header κs a r₁ r₂ s₁ s₂ p q = (refl, p ∙ sym q)
 pub one-insert : OneWith insert.Post (λ κs s. now (s .0))
 one-insert κs a r₁ r₂ s₁ s₂ p q = (refl, p ∙ sym q)
 
-pub one-take-out : OneWith take-out.Post (λ κs s. now (s .0))
-one-take-out κs a r₁ r₂ s₁ s₂ p q = (refl, p ∙ sym q)
+pub one-lower-slot : OneWith lower-slot.Post (λ κs s. now (s .0))
+one-lower-slot κs a r₁ r₂ s₁ s₂ p q = (refl, p ∙ sym q)
+
+pub one-close-gap : OneWith close-gap.Post (λ κs s. now (s .0))
+one-close-gap κs a r₁ r₂ s₁ s₂ p q = (refl, p ∙ sym q)
 
 pub one-compare-key : One compare-key.Post
 one-compare-key κs a r₁ r₂ s₁ s₂ p q = p ∙ sym q

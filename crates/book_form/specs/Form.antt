@@ -2,7 +2,7 @@
 -- Assumes nothing.
 use mathlib.Core.Path.{_≡_}
 use mathlib.Core.List.{List, [], _∷_, _++_}
-use Prim.Native.Nat.{ℕ, suc, _+_, _*_, _-_, _≤_}
+use Prim.Native.Nat.{ℕ, suc, _+_, _*_, _-_, _<_, _≤_}
 use lib.ListN.{length, take, drop, replicate}
 use Rattle.text.specs.Put.{put}
 use Rattle.book_records.specs.Records.{Key}
@@ -71,7 +71,15 @@ module _ (F : Form) where
   unfoldable pub inserted : F .Extra → ℕ → ℕ → List ℕ → Rec → List ℕ
   inserted e p n b r = put (put (raised (place p) (place n) (F .width) b) (place p) (F .slot r)) 0 (F .header e (suc n))
 
-  -- The record of slot p taken out, so that n are left: the slots after it move down, the last slot is cleared, and the header is written
-  -- again.
-  unfoldable pub removed : F .Extra → ℕ → ℕ → List ℕ → List ℕ
-  removed e p n b = put (put (lowered (place (suc p)) (place (suc n)) (F .width) b) (place n) (zeros (F .width))) 0 (F .header e n)
+  -- The records of the slots from p up to q taken out of n: the slots behind them move down, as many at the end are cleared, and the header
+  -- is written again.
+  unfoldable pub removed : F .Extra → ℕ → ℕ → ℕ → List ℕ → List ℕ
+  removed e p q n b =
+      let w = F .width * (q - p) in
+      let left = n - (q - p) in
+      put (put (lowered (place q) (place n) w b) (place left) (zeros w)) 0 (F .header e left)
+
+  -- Slot i of n filled from g slots behind it, or cleared where there are no more.
+  pub record Filled (b : List ℕ) (i g n : ℕ) (b₁ : List ℕ) : Type 0 where
+    pub moved : i + g < n → b₁ ≡ lowered (place (i + g)) (place (i + g + 1)) (F .width * g) b
+    pub cleared : n ≤ i + g → b₁ ≡ put b (place i) (zeros (F .width))

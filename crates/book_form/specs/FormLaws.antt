@@ -81,6 +81,12 @@ clear-turn b f j h =
     ∙ over-join b f (zeros j) (0 ∷ []) (f + j) (omega arith) (omega arith)
     ∙ ap (λ (x : List ℕ). put b f x) (replicate-append-replicate j 1 0)
 
+-- zeros behind zeros
+pub zeros-more : (b : List ℕ) (f m g n k : ℕ) → f + m ≡ g → g ≤ length b → m + n ≡ k → put (put b f (zeros m)) g (zeros n) ≡ put b f (zeros k)
+zeros-more b f m g n k e h ek =
+    over-join b f (zeros m) (zeros n) g (omega (arith, length-zeros m)) h
+    ∙ ap (λ (x : List ℕ). put b f x) (replicate-append-replicate m n 0 ∙ ap zeros ek)
+
 -- ---- records by their owners
 one-of-two : (o n a b : ℕ) → isOwner o ≡ true → n ≡ a + b → suc n ≡ (cond (eqb o 1) 1 0 + a) + (cond (eqb o 2) 1 0 + b)
 one-of-two o n a b w e = go (eqb o 1) refl (eqb o 2) refl w
@@ -297,25 +303,21 @@ module _ (F : Form) (L : Lawful F) where
   fit-drop (suc n) [] h = tt
   fit-drop (suc n) (r ∷ a) h = fit-drop n a (h .1)
 
-  pub layout-removed : (C : ℕ) (e : F .Extra) (a : List Rec) (r : Rec) (b : List Rec) → AllFit F a → F .Fit r → AllFit F b → length (a ++ b) < C
-      → removed F e (length a) (length (a ++ b)) (layout F C e (a ++ r ∷ b)) ≡ layout F C e (a ++ b)
+  -- Records a, as many bytes as q - p slots have, whatever they are, and records b: with these bytes taken out, a book of both.
+  pub layout-removed : (C : ℕ) (e : F .Extra) (h : List ℕ) (a : List Rec) (gap : List ℕ) (b : List Rec) (p q n : ℕ) → length h ≡ F .head → AllFit F a → AllFit F b
+      → length a ≡ p → p ≤ q → length gap ≡ F .width * (q - p) → q + length b ≡ n → n ≤ C
+      → removed F e p q n (h ++ (slots F a ++ (gap ++ (slots F b ++ zeros (F .width * (C - n)))))) ≡ layout F C e (a ++ b)
   unfolding removed layout
-  layout-removed C e a r b ha hr hb room = two ∙ three
+  layout-removed C e h a gap b p q n lh ha hb lp pq lg ln room = two ∙ three
     where
       W : ℕ
       W = F .width
 
-      n : ℕ
-      n = length (a ++ b)
+      w : ℕ
+      w = W * (q - p)
 
-      m : ℕ
-      m = C - suc n
-
-      more : length (a ++ r ∷ b) ≡ suc n
-      more = omega (arith, length-append a (r ∷ b), length-append a b)
-
-      h : List ℕ
-      h = F .header e (length (a ++ r ∷ b))
+      left : ℕ
+      left = n - (q - p)
 
       sa : List ℕ
       sa = slots F a
@@ -324,64 +326,65 @@ module _ (F : Form) (L : Lawful F) where
       sb = slots F b
 
       zz : List ℕ
-      zz = zeros (W * m)
+      zz = zeros (W * (C - n))
 
       pre : List ℕ
       pre = h ++ sa
 
+      all : List ℕ
+      all = gap ++ (sb ++ zz)
+
       tail : List ℕ
-      tail = drop (length sb) (F .slot r ++ (sb ++ zz))
+      tail = drop (length sb) all
 
-      lr : length (F .slot r) ≡ W
-      lr = L .slot-length r hr
-
-      length-pre : length pre ≡ F .head + W * length a
-      length-pre = length-before e (length (a ++ r ∷ b)) a ha
+      length-pre : length pre ≡ place F p
+      length-pre = omega (arith, length-append h sa, lh, length-slots a ha, ap (λ (k : ℕ). W * k) lp)
 
       lsb : length sb ≡ W * length b
       lsb = length-slots b hb
 
-      parted : layout F C e (a ++ r ∷ b) ≡ pre ++ (F .slot r ++ (sb ++ zz))
-      parted = layout-parted C e a r b ∙ ap (λ (k : ℕ). pre ++ (F .slot r ++ (sb ++ zeros (W * (C - k))))) more
+      -- the places of slots q, n and left
+      at-q : W * q ≡ W * p + w
+      at-q = ap (λ (k : ℕ). W * k) (let z : q ≡ p + (q - p) = omega arith in z) ∙ omega arith
 
-      one : lowered (F .head + W * suc (length a)) (F .head + W * suc n) W (layout F C e (a ++ r ∷ b)) ≡ pre ++ (sb ++ tail)
-      one =
-          ap (λ (l : List ℕ). lowered (F .head + W * suc (length a)) (F .head + W * suc n) W l) parted
-          ∙ lowered-parts pre (F .slot r) sb zz (F .head + W * suc (length a)) (F .head + W * suc n) W (omega (arith, length-pre)) lr (omega (arith, lsb, ap (λ (k : ℕ). W * k) (length-append a b)))
+      at-n : W * n ≡ W * q + W * length b
+      at-n = ap (λ (k : ℕ). W * k) (sym ln) ∙ omega arith
 
-      -- what is left behind the slots F that moved down: one slot's bytes, and then zeros
-      rest : drop W tail ≡ zz
+      at-left : W * left ≡ W * p + W * length b
+      at-left = ap (λ (k : ℕ). W * k) (let z : left ≡ p + length b = omega arith in z) ∙ omega arith
+
+      one : lowered (place F q) (place F n) w (pre ++ all) ≡ pre ++ (sb ++ tail)
+      one = lowered-parts pre gap sb zz (place F q) (place F n) w (omega (arith, length-pre, at-q)) lg (omega (arith, lsb, at-n))
+
+      -- what is left behind the slots that moved down: as many bytes as went, and then zeros
+      rest : drop w tail ≡ zz
       rest =
-          drop-drop W (length sb) (F .slot r ++ (sb ++ zz))
-          ∙ ap (λ (k : ℕ). drop k (F .slot r ++ (sb ++ zz))) (let q : length sb + W ≡ length (F .slot r) + length sb = omega (arith, lr) in q)
-          ∙ drop-append-add (F .slot r) (sb ++ zz) (length sb)
+          drop-drop w (length sb) all
+          ∙ ap (λ (k : ℕ). drop k all) (let z : length sb + w ≡ length gap + length sb = omega (arith, lg) in z)
+          ∙ drop-append-add gap (sb ++ zz) (length sb)
           ∙ drop-at sb zz (length sb) refl
 
-      length-tail : length (take W tail) ≡ W
-      length-tail =
-          omega (
-            arith,
-            length-take W tail,
-            length-drop (length sb) (F .slot r ++ (sb ++ zz)),
-            length-append (F .slot r) (sb ++ zz),
-            length-append sb zz,
-            lr,
-          )
+      length-tail : length (take w tail) ≡ w
+      length-tail = omega (arith, length-take w tail, length-drop (length sb) all, length-append gap (sb ++ zz), length-append sb zz, lg)
 
-      two : removed F e (length a) n (layout F C e (a ++ r ∷ b)) ≡ F .header e n ++ (sa ++ (sb ++ (zeros W ++ zz)))
+      two : removed F e p q n (h ++ (sa ++ all)) ≡ F .header e left ++ (sa ++ (sb ++ (zeros w ++ zz)))
       two =
-          ap (λ (l : List ℕ). put (put l (F .head + W * n) (zeros W)) 0 (F .header e n)) (one ∙ ap (λ (l : List ℕ). pre ++ (sb ++ l)) (sym (take-append-drop W tail) ∙ ap (λ (l : List ℕ). take W tail ++ l) rest) ∙ sym (append-assoc pre sb (take W tail ++ zz)))
-          ∙ ap (λ (l : List ℕ). put l 0 (F .header e n)) (over-parts (pre ++ sb) (take W tail) zz (zeros W) (F .head + W * n) (omega (arith, length-append pre sb, length-pre, lsb, ap (λ (k : ℕ). W * k) (length-append a b))) (length-tail ∙ sym (length-zeros W)))
-          ∙ ap (λ (l : List ℕ). put l 0 (F .header e n)) (let q : (pre ++ sb) ++ (zeros W ++ zz) ≡ h ++ (sa ++ (sb ++ (zeros W ++ zz))) = simp append-assoc in q)
-          ∙ over-parts [] h (sa ++ (sb ++ (zeros W ++ zz))) (F .header e n) 0 refl (L .header-length e (length (a ++ r ∷ b)) ∙ sym (L .header-length e n))
+          ap (λ (l : List ℕ). put (put (lowered (place F q) (place F n) w l) (place F left) (zeros w)) 0 (F .header e left)) (sym (append-assoc h sa all))
+          ∙ ap (λ (l : List ℕ). put (put l (place F left) (zeros w)) 0 (F .header e left)) (one ∙ ap (λ (l : List ℕ). pre ++ (sb ++ l)) (sym (take-append-drop w tail) ∙ ap (λ (l : List ℕ). take w tail ++ l) rest) ∙ sym (append-assoc pre sb (take w tail ++ zz)))
+          ∙ ap (λ (l : List ℕ). put l 0 (F .header e left)) (over-parts (pre ++ sb) (take w tail) zz (zeros w) (place F left) (omega (arith, length-append pre sb, length-pre, lsb, at-left)) (length-tail ∙ sym (length-zeros w)))
+          ∙ ap (λ (l : List ℕ). put l 0 (F .header e left)) (let z : (pre ++ sb) ++ (zeros w ++ zz) ≡ h ++ (sa ++ (sb ++ (zeros w ++ zz))) = simp append-assoc in z)
+          ∙ over-parts [] h (sa ++ (sb ++ (zeros w ++ zz))) (F .header e left) 0 refl (lh ∙ sym (L .header-length e left))
 
-      joined : zeros W ++ zz ≡ zeros (W * (C - n))
+      joined : zeros w ++ zz ≡ zeros (W * (C - left))
       joined =
-          replicate-append-replicate W (W * m) 0
-          ∙ ap zeros (let q : W + W * m ≡ W * suc m = omega arith in q)
-          ∙ ap (λ (k : ℕ). zeros (W * k)) (let q : suc m ≡ C - n = omega arith in q)
+          replicate-append-replicate w (W * (C - n)) 0
+          ∙ ap zeros (let z : w + W * (C - n) ≡ W * (q - p + (C - n)) = omega arith in z)
+          ∙ ap (λ (k : ℕ). zeros (W * k)) (let z : q - p + (C - n) ≡ C - left = omega arith in z)
 
-      three : F .header e n ++ (sa ++ (sb ++ (zeros W ++ zz))) ≡ layout F C e (a ++ b)
+      three : F .header e left ++ (sa ++ (sb ++ (zeros w ++ zz))) ≡ layout F C e (a ++ b)
       three =
-          ap (λ (l : List ℕ). F .header e n ++ (sa ++ (sb ++ l))) joined
-          ∙ sym (ap (λ (l : List ℕ). F .header e n ++ (l ++ zeros (W * (C - n)))) (slots-append a b) ∙ simp append-assoc)
+          ap (λ (l : List ℕ). F .header e left ++ (sa ++ (sb ++ l))) joined
+          ∙ sym
+          (ap (λ (k : ℕ). F .header e k ++ (slots F (a ++ b) ++ zeros (W * (C - k)))) (let z : length (a ++ b) ≡ left = omega (arith, length-append a b) in z)
+          ∙ ap (λ (l : List ℕ). F .header e left ++ (l ++ zeros (W * (C - left)))) (slots-append a b)
+          ∙ simp append-assoc)

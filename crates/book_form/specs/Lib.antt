@@ -7,6 +7,7 @@ pub mod Counted
 pub mod CountedLaws
 pub mod Version
 pub mod VersionLaws
+pub mod GapLaws
 pub mod Compare
 pub mod CompareLaws
 pub mod NextLaws

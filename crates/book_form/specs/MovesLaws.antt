@@ -9,7 +9,7 @@ use native.Mathlib.Omega.{arith}
 use lib.ListN.{length, take, drop, getD, set, length-append, length-take, length-drop, List·getD-append, take-append-drop}
 use Rattle.text.specs.Put.{put}
 use Rattle.book_form.specs.Moves.{raised, lowered}
-use lib.Seq.{slice, slice-empty, slice-cons, length-slice, take-suc, set-at, getD-take, append-snoc, length-take-le, take-at, drop-at, drop-append-add, take-append-add, drop-drop, set-split, drop-cons, getD-append-add, getD-drop, drop-append-le}
+use lib.Seq.{slice, slice-empty, slice-cons, length-slice, take-suc, set-at, getD-take, append-snoc, length-take-le, take-at, drop-at, drop-append-add, take-append-add, take-add, drop-drop, set-split, drop-cons, getD-append-add, getD-drop, drop-append-le}
 
 pub raised-none : (t w : ℕ) (b : List ℕ) → b ≡ raised t t w b
 unfolding raised
@@ -147,3 +147,72 @@ lowered-turn f t w b g h k =
     ∙ ap (λ (l : List ℕ). set l (t - w) x) whole
     ∙ set-at p y rest x (t - w) lp
     ∙ sym (ap (λ (n : ℕ). a ++ (slice f (t + 1) b ++ drop n b)) (let q : t + 1 - w ≡ suc (t - w) = omega arith in q) ∙ ap (λ (l : List ℕ). a ++ (l ++ rest)) more ∙ simp append-assoc)
+
+-- ---- parts in the middle
+pub slice-take : (f t : ℕ) (l : List ℕ) → f ≤ t → t ≤ length l → slice f t l ≡ take (t - f) (drop f l)
+slice-take f t l h k =
+    ap (λ (n : ℕ). drop f (take n l)) (let z : t ≡ f + (t - f) = omega arith in z)
+    ∙ ap (λ (s : List ℕ). drop f s) (take-add f (t - f) l)
+    ∙ drop-at (take f l) (take (t - f) (drop f l)) f (length-take-le f l (omega arith))
+
+slice-join : (f t u : ℕ) (l : List ℕ) → f ≤ t → t ≤ u → u ≤ length l → slice f t l ++ slice t u l ≡ slice f u l
+slice-join f t u l h k m =
+    ap (λ (s : List ℕ). slice f t l ++ s) (slice-take t u l k m)
+    ∙ sym (drop-append-le f (take t l) (take (u - t) (drop t l)) (omega (arith, length-take-le t l (omega arith))))
+    ∙ sym (ap (λ (n : ℕ). drop f (take n l)) (let z : u ≡ t + (u - t) = omega arith in z) ∙ ap (λ (s : List ℕ). drop f s) (take-add t (u - t) l))
+
+-- ---- what a move down leaves
+-- the bytes that moved, behind what stands before them
+abbrev moved : ℕ → ℕ → ℕ → List ℕ → List ℕ
+moved f t w b = take (f - w) b ++ slice f t b
+
+module _ (f t w : ℕ) (b : List ℕ) (g : w ≤ f) (h : f ≤ t) (k : t ≤ length b) where
+  length-moved : length (moved f t w b) ≡ t - w
+  length-moved = omega (arith, length-append (take (f - w) b) (slice f t b), length-take-le (f - w) b (omega arith), length-slice f t b k)
+
+  lowered-moved : lowered f t w b ≡ moved f t w b ++ drop (t - w) b
+  unfolding lowered
+  lowered-moved = sym (append-assoc (take (f - w) b) (slice f t b) (drop (t - w) b))
+
+  pub length-lowered : length (lowered f t w b) ≡ length b
+  length-lowered = ap length lowered-moved ∙ omega (arith, length-append (moved f t w b) (drop (t - w) b), length-moved, length-drop (t - w) b)
+
+  pub take-lowered : take (t - w) (lowered f t w b) ≡ take (f - w) b ++ slice f t b
+  take-lowered = ap (λ (l : List ℕ). take (t - w) l) lowered-moved ∙ take-at (moved f t w b) (drop (t - w) b) (t - w) length-moved
+
+  -- from t - w on nothing changed
+  pub drop-lowered : (u : ℕ) → t ≤ u + w → drop u (lowered f t w b) ≡ drop u b
+  drop-lowered u l =
+      ap (λ (s : List ℕ). drop u s) lowered-moved
+      ∙ ap (λ (n : ℕ). drop n (moved f t w b ++ drop (t - w) b)) (let z : u ≡ length (moved f t w b) + (u - (t - w)) = omega (arith, length-moved) in z)
+      ∙ drop-append-add (moved f t w b) (drop (t - w) b) (u - (t - w))
+      ∙ drop-drop (u - (t - w)) (t - w) b
+      ∙ ap (λ (n : ℕ). drop n b) (let z : t - w + (u - (t - w)) ≡ u = omega arith in z)
+
+  -- one move down after the other is one of both
+  pub lowered-join : (u : ℕ) → t ≤ u → u ≤ length b → lowered t u w (lowered f t w b) ≡ lowered f u w b
+  unfolding lowered
+  lowered-join u l m =
+      let c : List ℕ = lowered f t w b in
+      let lc : length c ≡ length b = length-lowered in
+      let mid : slice t u c ≡ slice t u b = slice-take t u c l (omega arith) ∙ ap (λ (s : List ℕ). take (u - t) s) (drop-lowered t (omega arith)) ∙ sym (slice-take t u b l m) in
+      ap (λ (s : List ℕ). s ++ (slice t u c ++ drop (u - w) c)) take-lowered
+      ∙ ap (λ (s : List ℕ). moved f t w b ++ (s ++ drop (u - w) c)) mid
+      ∙ ap (λ (s : List ℕ). moved f t w b ++ (slice t u b ++ s)) (drop-lowered (u - w) (omega arith))
+      ∙ append-assoc (take (f - w) b) (slice f t b) (slice t u b ++ drop (u - w) b)
+      ∙ ap (λ (s : List ℕ). take (f - w) b ++ s) (sym (append-assoc (slice f t b) (slice t u b) (drop (u - w) b)) ∙ ap (λ (s : List ℕ). s ++ drop (u - w) b) (slice-join f t u b h l m))
+
+-- a move down by nothing
+pub lowered-still : (f t : ℕ) (b : List ℕ) → f ≤ t → t ≤ length b → b ≡ lowered f t 0 b
+lowered-still f t b h k =
+    let c : List ℕ = lowered f t 0 b in
+    let front : take t c ≡ take t b =
+    ap (λ (n : ℕ). take n c) (let z : t ≡ t - 0 = omega arith in z)
+    ∙ take-lowered f t 0 b (omega arith) h k
+    ∙ ap (λ (n : ℕ). take n b ++ slice f t b) (let z : f - 0 ≡ f = omega arith in z)
+    ∙ ap (λ (l : List ℕ). take f b ++ l) (slice-take f t b h k)
+    ∙ sym (ap (λ (n : ℕ). take n b) (let z : t ≡ f + (t - f) = omega arith in z) ∙ take-add f (t - f) b) in
+    sym (take-append-drop t b)
+    ∙ ap (λ (l : List ℕ). l ++ drop t b) (sym front)
+    ∙ ap (λ (l : List ℕ). take t c ++ l) (sym (drop-lowered f t 0 b (omega arith) h k t (omega arith)))
+    ∙ take-append-drop t c

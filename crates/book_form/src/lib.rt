@@ -2,7 +2,7 @@
 use text::put::write_byte;
 use text::put::write_text;
 ghost use mathlib.Core.Path.{_≡_};
-ghost use Prim.Native.Nat.{_+_, _*_, _≤_, _<_};
+ghost use Prim.Native.Nat.{_+_, _*_, _-_, _≤_, _<_};
 ghost use lib.Dec.{eqb};
 ghost use lib.ListN.{length, getD, take, drop};
 ghost use Rattle.text.specs.Order.{cmp};
@@ -11,7 +11,7 @@ ghost use Rattle.text.specs.Put.{put};
 ghost use Rattle.text.specs.Stands.{Stands};
 ghost use Rattle.book_form.specs.Moves.{raised, lowered};
 ghost use mathlib.Core.List.{[], _∷_, _++_};
-ghost use Rattle.book_form.specs.Form.{zeros, place, inserted, removed, SlotOk};
+ghost use Rattle.book_form.specs.Form.{zeros, place, inserted, removed, Filled, SlotOk};
 ghost use Rattle.book_form.specs.Counted.{counted, stored, CountedOk};
 ghost use Rattle.book_form.specs.Version.{formOf, ownersOf, fieldOf, FieldOk, isPlain, numberOf, header, countIn, quotasIn, V3};
 ghost use Rattle.book_form.specs.declared.Version.the-variants.{Two};
@@ -219,22 +219,43 @@ pub fn insert(book: &mut [u8], place: usize, count: usize, owner: u8, key: &[u8]
     put_header(book, count + 1, quotas);
 }
 
-// Takes the record out of slot `place` of a book with one record more than `count`.
-pub fn take_out(book: &mut [u8], place: usize, count: usize)
-    requires { ⌜ place ≤ count ⌝ }
-    requires { ⌜ count < 200 ⌝ }
-    requires { do ⌜ 12 + 322 * (count + 1) ≤ (← ⟦book.len()⟧) ⌝ }
-    ensures { λ _. ⌜ now (book .exit) ≡ removed V3 (quotasIn (now (book .entry))) place count (now (book .entry)) ⌝ }
+// Moves slot i down by `by` slots.
+pub fn lower_slot(book: &mut [u8], i: usize, by: usize)
+    requires { ⌜ (by ≤ i) × (i < 200) ⌝ }
+    requires { do ⌜ 12 + 322 * (i + 1) ≤ (← ⟦book.len()⟧) ⌝ }
+    ensures { λ _. ⌜ now (book .exit) ≡ lowered (place V3 i) (place V3 (i + 1)) (322 * by) (now (book .entry)) ⌝ }
+{
+    lower(book, HEAD + SLOT * i, HEAD + SLOT * (i + 1), SLOT * by);
+}
+
+// Fills slot i of a book with `count` records from `gap` slots behind it, or clears it where no record stands there.
+fn fill_slot(book: &mut [u8], i: usize, gap: usize, count: usize)
+    requires { ⌜ (i < count) × (gap ≤ count) × (count ≤ 200) ⌝ }
+    requires { do ⌜ 12 + 322 * count ≤ (← ⟦book.len()⟧) ⌝ }
+    ensures { λ _. ⌜ Filled V3 (now (book .entry)) i gap count (now (book .exit)) ⌝ }
+{
+    if i + gap < count {
+        lower_slot(book, i + gap, gap);
+    } else {
+        clear(book, HEAD + SLOT * i, SLOT);
+    }
+}
+
+// Takes the records of the slots from `start` up to `end` out of a book with `count` records. One slot at a time: then none is moved
+// over itself, and zeros are not written as one long run.
+pub fn close_gap(book: &mut [u8], start: usize, end: usize, count: usize)
+    requires { ⌜ (start ≤ end) × (end ≤ count) × (count ≤ 200) ⌝ }
+    requires { do ⌜ 12 + 322 * count ≤ (← ⟦book.len()⟧) ⌝ }
+    ensures { λ _. ⌜ now (book .exit) ≡ removed V3 (quotasIn (now (book .entry))) start end count (now (book .entry)) ⌝ }
 {
     let quotas = quotas_of(book);
-    lower(
-        book,
-        HEAD + SLOT * (place + 1),
-        HEAD + SLOT * (count + 1),
-        SLOT,
-    );
-    clear(book, HEAD + SLOT * count, SLOT);
-    put_header(book, count, quotas);
+    let gap = end - start;
+    let mut i = start;
+    while i < count {
+        fill_slot(book, i, gap, count);
+        i += 1;
+    }
+    put_header(book, count - gap, quotas);
 }
 
 // How a key, or what decides of it, stands to another: before it, the same, or after it.

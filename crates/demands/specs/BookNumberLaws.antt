@@ -23,7 +23,7 @@ use Rattle.book_records.specs.declared.Manner.the-variants.{Plain, Lenient}
 use Rattle.book_records.specs.Calls.{Call, write, remove, look, isOwner, Spelled, meaning}
 use Rattle.book_records.specs.Refusals.{GoodWrite, GoodRemoval, GoodLookup, Declined, bad-owner, too-long, not-ascii, not-a-path, loose, key-too-long, bad-length, no-room}
 use Rattle.book_records.specs.CallLaws.{Means, declines, writing, removing, looking, means}
-use Rattle.book.specs.Book.{Current, fullIn}
+use Rattle.book.specs.Book.{Current, bytesWith, fullIn}
 use Rattle.book.specs.Outcome.{Outcome, no-book, this-book, Changed, Looked, Made, no-size, no-slots, new-book, quotas}
 use Rattle.book_convert.specs.Convert.{Converted, ConvertedOwners}
 use Rattle.book_convert.specs.Convert as convert
@@ -34,11 +34,16 @@ use Rattle.path.specs.declared.Pair.{Pair}
 use Rattle.path.specs.Pair.{pair}
 use Rattle.book_oldest.specs.Oldest.{oldestState, pairOf, checkedState, oldestIn, Oldest}
 use Rattle.book_oldest.specs.Oldest as oldest
+use Rattle.book_clear.specs.declared.Count.{Count}
+use Rattle.book_clear.specs.Clear.{gone, count, clearIn, Cleared}
+use Rattle.book_clear.specs.Clear as clear
+use Rattle.book_clear.specs.ClearLaws.{Way, way}
+use Rattle.book_clear.specs.ClearLaws as ways
 use Rattle.demands.specs.KeepsLaws.{made-keeps, changed-keeps, found-keeps, converted-keeps, owned-keeps}
 use Rattle.demands.specs.AnswerLaws.{written-number, written-zero}
 use Rattle.demands.specs.Shape.{oneOf, Listed, AllZero, Demand1}
 use Rattle.demands.specs.ShapeLaws.{plain-of}
-use Rattle.demands.specs.Numbers.{inManner, writeNumbers, removeNumbers, lookNumbers, newNumbers, convertNumbers, convertOwnersNumbers, oldestNumbers}
+use Rattle.demands.specs.Numbers.{inManner, writeNumbers, removeNumbers, lookNumbers, newNumbers, convertNumbers, convertOwnersNumbers, oldestNumbers, clearNumbers}
 
 -- ---- the number of an answer, for any property that 0 and the call's refusals have
 module _ (P : ℕ → Type 0) (zero : P 0) (c : Call) (own : (n : ℕ) → Declined c n → P n)
@@ -162,6 +167,28 @@ in-records o c s = whose (isOwner o)
     whose true = pick (eqb (checkOf check.client c) 0)
     whose false = record { listed = refl; zeros = λ n. (refl, (refl, tt)) }
 
+-- and of the count of a clearing, which changes no byte where it is refused
+record CountTold (b : List ℕ) (n : Count) (b₁ : List ℕ) : Type 0 where
+  listed : Listed clearNumbers (n .refusal)
+  zeros : (n .refusal ≡ 0 → ⊥) → AllZero (n .count ∷ [])
+  keeps : (n .refusal ≡ 0 → ⊥) → b₁ ≡ b
+
+count-told : {b : List ℕ} {o : ℕ} {c : List ℕ} {k : ℕ} {n : Count} {b₁ : List ℕ} → Cleared Current b o c k n b₁ → CountTold b n b₁
+count-told (clear.Cleared.no-book m e f) = rw e (record { listed = refl; zeros = λ z. (refl, tt); keeps = λ z. f })
+count-told {b} {o} {c} {k} {n} {b₁} (clear.Cleared.this-book x e f) = go (way o c k)
+  where
+    refused : (m : ℕ) → Listed clearNumbers m → clearIn o c k (x .records) ≡ (count m 0, x .records) → CountTold b n b₁
+    refused m l q =
+        let g : n ≡ count m 0 = e ∙ ap (λ (y : Count × List Rec). y .0) q in
+        rw g (record { listed = l; zeros = λ z. (refl, tt); keeps = λ z. f ∙ ap (λ (y : Count × List Rec). bytesWith x (y .1)) q ∙ sym (x .bytes) })
+
+    go : Way o c k → CountTold b n b₁
+    go (ways.Way.nobodys w q) = refused 23 refl (q (x .records))
+    go (ways.Way.refused w z q) = refused (checkOf check.client c) (plain-of (Listed clearNumbers) refl refl refl refl 9 64 c) (q (x .records))
+    go (ways.Way.done w z q) =
+        let g : n ≡ count 0 (gone o c k (x .records)) = e ∙ ap (λ (y : Count × List Rec). y .0) (q (x .records)) in
+        rw g (record { listed = refl; zeros = λ m. absurd (m refl); keeps = λ m. absurd (m refl) })
+
 flag-told : (k : ℕ) → Listed (14 ∷ []) (provableFlag k .refusal) × ((provableFlag k .refusal ≡ 0 → ⊥) → AllZero (provableFlag k .value ∷ []))
 unfolding provableFlag
 flag-told k = go (leb 1 k && leb k 19)
@@ -244,6 +271,12 @@ module _ {L : Type 0} {A R S : L → Type 0} {Pre : (κs : L) → A κs → Type
       go : {b : List ℕ} {o : ℕ} {c : List ℕ} {p : Pair} → Oldest Current b o c p → Told p
       go (oldest.Oldest.no-book n e) = rw e (record { listed = refl; zeros = λ m. (refl, (refl, tt)) })
       go {o = o} {c = c} (oldest.Oldest.this-book x e) = rw e (in-records o c (x .records))
+
+  pub cleared-demand : (counts : (κs : L) → R κs → Count) (before : (κs : L) → A κs → List ℕ) (after : (κs : L) → S κs → List ℕ) (owner : (κs : L) → A κs → ℕ) (client : (κs : L) → A κs → List ℕ) (keep : (κs : L) → A κs → ℕ)
+      → ((κs : L) (a : A κs) (r : R κs) (s : S κs) → Post κs a r s → Cleared Current (before κs a) (owner κs a) (client κs a) (keep κs a) (counts κs r) (after κs s))
+      → Demand1 Pre Post clearNumbers (λ κs r. counts κs r .refusal) (λ κs r. counts κs r .count ∷ []) before after
+  cleared-demand counts before after owner client keep says =
+      record { accepts = accepts; numbered = λ κs a r s p. count-told (says κs a r s p) .listed; nothing-else = λ κs a r s p. count-told (says κs a r s p) .zeros; keeps = λ κs a r s p. count-told (says κs a r s p) .keeps }
 
   pub provable-demand : (kind : (κs : L) → A κs → ℕ) (flag : (κs : L) → R κs → Flag)
       → ((κs : L) (a : A κs) (r : R κs) (s : S κs) → Post κs a r s → flag κs r ≡ provableFlag (kind κs a))

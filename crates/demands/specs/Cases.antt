@@ -28,10 +28,15 @@ use Rattle.book_oldest.specs.Oldest.{stateOf, ownState, oldestState, oldestIn}
 use Rattle.path.specs.Read.{nameFault, fits, fitsKind, suits, suitsKind, partFaults, kindFaults, faultsAs, whyNot, readKind, readFirst, readPath, show, render, partsOf, renderPath, namesFault, renderOf, keyOf}
 use Rattle.book_records.specs.declared.Manner.{Manner}
 use Rattle.book_records.specs.declared.Manner.the-variants.{Plain, Lenient}
+use Rattle.book_records.specs.Act.{Rec}
 use Rattle.book_records.specs.Calls.{keyFor, keyAnswer}
+use Rattle.runs.specs.Without.{without}
+use Rattle.book_clear.specs.declared.Count.{Count}
+use Rattle.book_clear.specs.Clear.{roleOf, ownRole, statesThat, goesAt, goes, count, clearIn}
 
 -- what is asked: to read a text, to check an identifier, for the oldest state of an owner's client in a book with these keys, for the key of a text
--- in a call on a book, whether one text stands above another, or to render by kind, identifiers and numbers into that much room
+-- in a call on a book, whether one text stands above another, to render by kind, identifiers and numbers into that much room, or to clear out all
+-- but so many states of an owner's client in a book with these keys
 pub data Question : Type 0 where
   reading : List ℕ → Question
   checking : Rule → List ℕ → Question
@@ -39,14 +44,17 @@ pub data Question : Type 0 where
   keying : Manner → List ℕ → Question
   standing : List ℕ → List ℕ → Question
   rendering : ℕ → Carried (List ℕ) → ℕ → Question
+  clearing : ℕ → List ℕ → ℕ → List (List ℕ) → Question
 
--- what is answered: a reading, a refusal and its place, a pair, whether it stands so, with the readings of both, or a refusal and a length
+-- what is answered: a reading, a refusal and its place, a pair, whether it stands so, with the readings of both, a refusal and a length, or a refusal
+-- and a count, with the keys that are left
 pub data Outcome : Type 0 where
   gives : Reading → Outcome
   says : Fault → Outcome
   finds : Pair → Outcome
   stands : Bool → Reading → Reading → Outcome
   writes : Written → Outcome
+  leaves : Count → List (List ℕ) → Outcome
 
 abbrev pub answerOf : Question → Outcome
 answerOf (reading t) = gives (readPath t)
@@ -55,6 +63,7 @@ answerOf (seeking o c ks) = finds (oldestIn o c (map (λ k. (k, [])) ks))
 answerOf (keying m t) = says (record { refusal = keyAnswer (keyFor m t) .refusal; place = 0 })
 answerOf (standing t u) = stands (startsWith (t ++ bytes "/") u) (readPath t) (readPath u)
 answerOf (rendering k v room) = writes (answer (renderOf k v) room)
+answerOf (clearing o c n ks) = leaves (clearIn o c n (map (λ k. (k, [])) ks) .0) (map (λ (r : Rec). r .0) (clearIn o c n (map (λ k. (k, [])) ks) .1))
 
 pub record Case : Type 0 where
   pub question : Question
@@ -83,6 +92,14 @@ above t p u q = record { question = standing t u; outcome = stands true (Read p 
 -- a rendering with the number a: its refusal, and its length
 abbrev shows : ℕ → List ℕ → List ℕ → ℕ → ℕ → ℕ → ℕ → Case
 shows k one two a room n l = record { question = rendering k (carried one two a 0) room; outcome = writes (record { refusal = n; length = l }) }
+
+-- a clearing that keeps so many states: its refusal, its count, and what is left
+abbrev clears : ℕ → List ℕ → ℕ → List (List ℕ) → ℕ → ℕ → List (List ℕ) → Case
+clears o c n ks r m ls = record { question = clearing o c n ks; outcome = leaves (count r m) ls }
+
+-- owner 1's key of the client `07-tendermint-4` that goes on so behind `consensusStates/`
+abbrev of4 : List ℕ → List ℕ
+of4 rest = 1 ∷ (bytes "clients/07-tendermint-4/consensusStates/" ++ rest)
 
 abbrev at : ℕ → ℕ → Place
 at s n = record { start = s; len = n }
@@ -200,8 +217,22 @@ cases =
     ∷ shows 18 (replicate 4079 117) (bytes "") 5 4096 0 4096
     ∷ shows 18 (replicate 4079 117) (bytes "") 5 4095 4 0
     ∷ shows 10 (bytes "ab") (bytes "/") 5 8 0 8
+    -- of `10-2`, `7-2` and `9-100` the first and the last are kept; with `7-2` goes its time, and of the heights that have no state the one below
+    -- every kept pair
+    ∷ clears 1 (bytes "07-tendermint-4") 2 (of4 (bytes "10-2") ∷ of4 (bytes "7-2") ∷ of4 (bytes "7-2/processedTime") ∷ of4 (bytes "9-100") ∷ of4 (bytes "9-200/processedHeight") ∷ of4 (bytes "9-3/processedHeight") ∷ []) 0 3 (of4 (bytes "10-2") ∷ of4 (bytes "9-100") ∷ of4 (bytes "9-200/processedHeight") ∷ [])
+    -- `7-2` stays alone, and goes where `10-2` was written before: a clearing does not move past a write on the same client
+    ∷ clears 1 (bytes "07-tendermint-4") 1 (of4 (bytes "7-2") ∷ []) 0 0 (of4 (bytes "7-2") ∷ [])
+    ∷ clears 1 (bytes "07-tendermint-4") 1 (of4 (bytes "10-2") ∷ of4 (bytes "7-2") ∷ []) 0 1 (of4 (bytes "10-2") ∷ [])
+    -- with none to keep a state and its time go; without a state nothing goes, and another client's is none
+    ∷ clears 1 (bytes "07-tendermint-4") 0 (of4 (bytes "7-2") ∷ of4 (bytes "7-2/processedTime") ∷ []) 0 2 []
+    ∷ clears 1 (bytes "07-tendermint-4") 0 (of4 (bytes "7-2/processedTime") ∷ []) 0 0 (of4 (bytes "7-2/processedTime") ∷ [])
+    ∷ clears 1 (bytes "07-tendermint-4") 0 ((1 ∷ bytes "clients/07-tendermint-40/consensusStates/7-2") ∷ []) 0 0 ((1 ∷ bytes "clients/07-tendermint-40/consensusStates/7-2") ∷ [])
+    ∷ clears 2 (bytes "07-tendermint-4") 0 (of4 (bytes "7-2") ∷ []) 0 0 (of4 (bytes "7-2") ∷ [])
+    -- 23 stands before the client's check
+    ∷ clears 3 (bytes "a b") 0 [] 23 0 []
+    ∷ clears 1 (bytes "a b") 0 [] 5 0 []
     ∷ []
 
 pub cases-hold : map (λ c. answerOf (c .question)) cases ≡ map (λ c. c .outcome) cases
-unfolding numeralOf digitsAt digitsFrom decimal digits width widthBy every ascii startsWith same among identifierByte charsOf within indexOf namedOf checkOf faultOf cutAt joinBy placesFrom kinds nameFault fits fitsKind suits suitsKind partFaults kindFaults faultsAs whyNot readKind readFirst readPath show render partsOf renderPath shownOf stateOf ownState oldestState oldestIn keyOf keyFor keyAnswer namesFault renderOf answer
+unfolding numeralOf digitsAt digitsFrom decimal digits width widthBy every ascii startsWith same among identifierByte charsOf within indexOf namedOf checkOf faultOf cutAt joinBy placesFrom kinds nameFault fits fitsKind suits suitsKind partFaults kindFaults faultsAs whyNot readKind readFirst readPath show render partsOf renderPath shownOf stateOf ownState oldestState oldestIn keyOf keyFor keyAnswer namesFault renderOf answer without roleOf ownRole statesThat goesAt goes clearIn
 cases-hold = refl

@@ -39,14 +39,14 @@ use Rattle.book_key.specs.Field.{madeKey}
 use Rattle.iteration.specs.Block.{blockOf, firstAbove, lastBelow, scanned}
 use Rattle.iteration.specs.Key.{iterationKey, keyRevision, answered, pairOf}
 use Rattle.packet.specs.Key.{packetWanted, packetOf}
-use Rattle.demands.specs.Numbers.{readings, renderings, clients, ends, wideReadings, wideRenderings, wideClients, wideEnds, packetReads, packetWrites, writeNumbers, removeNumbers, lookNumbers, newNumbers, convertNumbers, convertOwnersNumbers, oldestNumbers, fillNumbers, manyNumbers, named, indexes, wideNamed, wideIndexes, names, wideNames, unread, room, keyNumbers}
+use Rattle.demands.specs.Numbers.{readings, renderings, clients, ends, wideReadings, wideRenderings, wideClients, wideEnds, packetReads, packetWrites, writeNumbers, removeNumbers, lookNumbers, newNumbers, convertNumbers, convertOwnersNumbers, oldestNumbers, clearNumbers, fillNumbers, manyNumbers, named, indexes, wideNamed, wideIndexes, names, wideNames, unread, room, keyNumbers}
 use Rattle.demands.specs.Shape.{Listed, AllZero, Demand1}
 use Rattle.demands.specs.ShapeLaws.{writes, writes-number, checks, key-wants, reading-wants, render-wants, client-wants, channel-wants, leaf-wants, update-wants, parent-wants, packets-wants, plain-of, indexed-of, name-of, named-number, chars-number, length-number, prefix-number, named-index-number, bytes-wants, answer-listed}
 use Rattle.demands.specs.FunctionShapeLaws.{within-number, wide-chars-number, reading-number, shown-wants, written-listed, owned, key-listed, key-empty}
 use Rattle.demands.specs.WideShapeLaws as wides
 use Rattle.demands.specs.IterationLaws.{pairs, key-refuses, scan-refuses}
 use Rattle.demands.specs.PacketLaws.{packet-wants, packets}
-use Rattle.demands.specs.BookNumberLaws.{unread-of, in-plain, write-listed, remove-listed, provable-demand, made-demand, changed-demand, found-demand, converted-demand, owned-demand, oldest-demand}
+use Rattle.demands.specs.BookNumberLaws.{unread-of, in-plain, write-listed, remove-listed, provable-demand, made-demand, changed-demand, found-demand, converted-demand, owned-demand, oldest-demand, cleared-demand}
 use Rattle.demands.specs.TableNumberLaws.{filled-demand, looked-many-demand}
 use Rattle.hostpath.proofs.hp_client_id_new.Reads as hp-client-id-new
 use Rattle.hostpath.proofs.hp_channel_id_new.Reads as hp-channel-id-new
@@ -109,6 +109,7 @@ use Rattle.hostpath.proofs.hp_book_remove_lenient.Reads as hp-book-remove-lenie
 use Rattle.hostpath.proofs.hp_book_lookup.Reads as hp-book-lookup
 use Rattle.hostpath.proofs.hp_book_lookup_lenient.Reads as hp-book-lookup-lenient
 use Rattle.hostpath.proofs.hp_book_oldest.Reads as hp-book-oldest
+use Rattle.hostpath.proofs.hp_book_clear.Reads as hp-book-clear
 use Rattle.hostpath.proofs.hp_book_convert.Reads as hp-book-convert
 use Rattle.hostpath.proofs.hp_book_convert_owners.Reads as hp-book-convert-owners
 use Rattle.hostpath.proofs.hp_book_fill.Reads as hp-book-fill
@@ -192,6 +193,7 @@ use Rattle.book.proofs.write.Reads as book-write
 use Rattle.book.proofs.remove.Reads as book-remove
 use Rattle.book.proofs.lookup.Reads as book-lookup
 use Rattle.book_oldest.proofs.oldest.Reads as oldest
+use Rattle.book_clear.proofs.clear.Reads as clear
 use Rattle.book_convert.proofs.convert.Reads as convert
 use Rattle.book_convert.proofs.convert_owners.Reads as convert-owners
 use Rattle.book_table.proofs.many.fill.Reads as fill
@@ -330,6 +332,9 @@ hp-book-convert-owners-holds = owned-demand (λ κs a. tt) (λ κs r. r) (λ κs
 
 pub hp-book-oldest-holds : Demand1 hp-book-oldest.Pre hp-book-oldest.Post oldestNumbers (λ κs r. r .refusal) (λ κs r. r .number ∷ r .height ∷ []) (λ κs a. []) (λ κs s. [])
 hp-book-oldest-holds = oldest-demand (λ κs a. tt) (λ κs r. r) (λ κs a. now (a .0)) (λ κs a. a .1 .0) (λ κs a. now (a .1 .1 .0)) (λ κs a r s p. p)
+
+pub hp-book-clear-holds : Demand1 hp-book-clear.Pre hp-book-clear.Post clearNumbers (λ κs r. r .refusal) (λ κs r. r .count ∷ []) (λ κs a. now (a .0)) (λ κs s. now (s .0))
+hp-book-clear-holds = cleared-demand (λ κs a. tt) (λ κs r. r) (λ κs a. now (a .0)) (λ κs s. now (s .0)) (λ κs a. a .1 .0) (λ κs a. now (a .1 .1 .0)) (λ κs a. a .1 .1 .1 .0) (λ κs a r s p. p)
 
 pub hp-book-fill-holds : Demand1 hp-book-fill.Pre hp-book-fill.Post fillNumbers (λ κs r. r) (λ κs r. []) (λ κs a. now (a .1 .0)) (λ κs s. now (s .1 .0))
 hp-book-fill-holds = filled-demand (λ κs a. tt) (λ κs r. r) (λ κs a. now (a .0)) (λ κs a. now (a .1 .0)) (λ κs s. now (s .1 .0)) (λ κs a r s p. p)
@@ -671,6 +676,9 @@ book-lookup-holds = found-demand (λ κs a. tt) (lookNumbers Plain) (λ κs a. a
 
 pub oldest-holds : Demand1 oldest.Pre oldest.Post oldestNumbers (λ κs r. r .refusal) (λ κs r. r .number ∷ r .height ∷ []) (λ κs a. []) (λ κs s. [])
 oldest-holds = oldest-demand (λ κs a. tt) (λ κs r. r) (λ κs a. now (a .0)) (λ κs a. a .1 .0) (λ κs a. now (a .1 .1 .0)) (λ κs a r s p. p)
+
+pub clear-holds : Demand1 clear.Pre clear.Post clearNumbers (λ κs r. r .refusal) (λ κs r. r .count ∷ []) (λ κs a. now (a .0)) (λ κs s. now (s .0))
+clear-holds = cleared-demand (λ κs a. tt) (λ κs r. r) (λ κs a. now (a .0)) (λ κs s. now (s .0)) (λ κs a. a .1 .0) (λ κs a. now (a .1 .1 .0)) (λ κs a. a .1 .1 .1 .0) (λ κs a r s p. p)
 
 pub convert-holds : Demand1 convert.Pre convert.Post convertNumbers (λ κs r. r) (λ κs r. []) (λ κs a. now (a .1 .0)) (λ κs s. now (s .1 .0))
 convert-holds = converted-demand (λ κs a. tt) (λ κs r. r) (λ κs a. now (a .1 .0)) (λ κs s. now (s .1 .0)) (λ κs a. now (a .0)) (λ κs a r s p. p)

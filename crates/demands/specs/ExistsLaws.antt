@@ -1,7 +1,7 @@
 -- The generated contracts allow all that `Permitted` allows, so what `BookCalls` proves of them is not empty.
 -- Assumes nothing.
 use mathlib.Core.Path.{refl, sym, subst}
-use mathlib.Core.List.{List, [], _∷_}
+use mathlib.Core.List.{List, [], _∷_, _++_}
 use Prim.Native.Nat.{ℕ}
 use denote.Ref.{RefT}
 use Rattle.runs.specs.Runs.{Runs, stop, next}
@@ -11,18 +11,23 @@ use Rattle.book_records.specs.Act.{Seen}
 use Rattle.book_records.specs.declared.Manner.{Manner}
 use Rattle.book_records.specs.declared.Manner.the-variants.{Plain, Lenient}
 use Rattle.book_records.specs.Calls.{Asked, to-write, to-remove, to-look, Call, look, meaning}
-use Rattle.book.specs.Book.{Current}
+use Rattle.book.specs.Book.{Current, bytesWith}
 use Rattle.book.specs.Outcome.{Found, Recorded, Removed, Looked}
 use Rattle.book_oldest.specs.Oldest.{oldestIn}
 use Rattle.book_oldest.specs.Oldest as by-records
+use Rattle.book_clear.specs.Clear.{clearIn}
+use Rattle.book_clear.specs.Clear as by-clear
 use Rattle.demands.specs.Held.{Room, ProperBook}
 use Rattle.demands.specs.Permitted.{Permitted}
 use Rattle.demands.specs.PermittedLaws.{permitted-exists}
 use Rattle.demands.specs.Demand3.{Taken}
 use Rattle.demands.specs.Useless.{run-exists}
-use Rattle.demands.specs.MachineLaws.{keeps-book}
+use Rattle.demands.specs.MachineLaws.{good-of, book-of, keeps-book}
 use Rattle.demands.specs.OldestCall.{OldestCall}
-use Rattle.demands.specs.Isolation.{Event, call, oldest, Reply, seen, pair, isOf, Happens, called, found, Any, Alone}
+use Rattle.demands.specs.ClearCall.{ClearCall}
+use Rattle.demands.specs.ClearBookLaws.{good-clear}
+use Rattle.demands.specs.Isolation.{Event, call, oldest, clear, Reply, seen, pair, went, isOf, Happens, called, found, emptied, Any, Alone}
+use Rattle.demands.specs.ClearMoves.{AllApart, callsIn, Moved}
 use Rattle.demands.specs.BookCalls.{WritePost, RemovePost, LookPost, Writes, Removes, Looks, DoesTo, Does}
 
 abbrev lent : List ℕ → RefT (List ℕ)
@@ -109,7 +114,31 @@ finds b x o client =
       ensures = by-records.Oldest.this-book x refl;
     }
 
-events-run : (b : List ℕ) → ProperBook b → (es : List Event) → (rs : List Reply) × (b₁ : List ℕ) × Runs (Happens Does OldestCall) b es rs b₁
+left-by : {b : List ℕ} → ProperBook b → ℕ → List ℕ → ℕ → List ℕ
+left-by x o client keep = bytesWith x (clearIn o client keep (x .records) .1)
+
+clears : (b : List ℕ) (x : ProperBook b) (o : ℕ) (client : List ℕ) (keep : ℕ) → ClearCall b o client keep (clearIn o client keep (x .records) .0) (left-by x o client keep)
+unfolding left-by
+clears b x o client keep =
+    record {
+      lifetimes = ([], ([], tt));
+      args = (lent b, (o, (lent client, (keep, tt))));
+      result = clearIn o client keep (x .records) .0;
+      exits = (lent (bytesWith x (clearIn o client keep (x .records) .1)), (o, (lent client, (keep, tt))));
+      book-in = refl;
+      owner-in = refl;
+      client-in = refl;
+      keep-in = refl;
+      answer-out = refl;
+      book-out = refl;
+      ensures = by-clear.Cleared.this-book x refl refl;
+    }
+
+left-book : {b : List ℕ} (x : ProperBook b) (o : ℕ) (client : List ℕ) (keep : ℕ) → ProperBook (left-by x o client keep)
+unfolding left-by
+left-book x o client keep = book-of x (bytesWith x (clearIn o client keep (x .records) .1)) (clearIn o client keep (x .records) .1) (good-clear x o client keep (x .records) (good-of x)) refl
+
+events-run : (b : List ℕ) → ProperBook b → (es : List Event) → (rs : List Reply) × (b₁ : List ℕ) × Runs (Happens Does OldestCall ClearCall) b es rs b₁
 events-run b x [] = ([], b, stop)
 events-run b x (call c ∷ es) =
     let p = permitted-exists b c x in
@@ -118,9 +147,33 @@ events-run b x (call c ∷ es) =
 events-run b x (oldest o client ∷ es) =
     let r = events-run b x es in
     (pair (oldestIn o client (x .records)) ∷ r .0, r .1, next (found (finds b x o client)) (r .2))
+events-run b x (clear o client keep ∷ es) =
+    let r = events-run (left-by x o client keep) (left-book x o client keep) es in
+    (went (clearIn o client keep (x .records) .0) ∷ r .0, r .1, next (emptied (clears b x o client keep)) (r .2))
 
-pub any : (b : List ℕ) (x : ProperBook b) (es : List Event) → Any Does OldestCall
+pub any : (b : List ℕ) (x : ProperBook b) (es : List Event) → Any Does OldestCall ClearCall
 any b x es = let r = events-run b x es in record { events = es; start = b; book = x; replies = r .0; end = r .1; run = r .2 }
 
-pub alone : (x : Any Does OldestCall) (o : ℕ) → Alone Does OldestCall x o
+pub alone : (x : Any Does OldestCall ClearCall) (o : ℕ) → Alone Does OldestCall ClearCall x o
 alone x o = let r = events-run (x .start) (x .book) (without (isOf o) (x .events)) in record { replies = r .0; end = r .1; run = r .2 }
+
+-- and a clearing can be made ahead of any list that is apart from it, and behind it
+pub moved : (b : List ℕ) (x : ProperBook b) (owner : ℕ) (client : List ℕ) (keep : ℕ) (past rest : List Event) → AllApart owner client past → Room x (callsIn past) → Moved Does OldestCall ClearCall owner client keep
+moved b x owner client keep past rest a h =
+    let r = events-run (left-by x owner client keep) (left-book x owner client keep) (past ++ rest) in
+    let q = events-run b x (past ++ (clear owner client keep ∷ rest)) in
+    record {
+      past = past;
+      rest = rest;
+      start = b;
+      book = x;
+      apart = a;
+      room = h;
+      went = went (clearIn owner client keep (x .records) .0);
+      replies = r .0;
+      end = r .1;
+      ahead = next (emptied (clears b x owner client keep)) (r .2);
+      others = q .0;
+      last = q .1;
+      behind = q .2;
+    }

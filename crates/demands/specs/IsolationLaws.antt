@@ -1,11 +1,10 @@
--- Isolation holds of any functions that do only what `Permitted` and `Oldest` allow.
+-- Isolation holds of any functions that do only what `Permitted`, `Oldest` and `Cleared` allow.
 -- Assumes nothing.
 use Prim.Native.Nat.{ℕ}
 use mathlib.Core.Path.{_≡_, refl, sym, ap, _∙_}
-use mathlib.Core.Bool.{Bool, true, false, cond, not}
-use mathlib.Core.List.{List, [], _∷_}
+use mathlib.Core.Bool.{Bool, true, false, not}
+use mathlib.Core.List.{List}
 use mathlib.Core.Option.{Option, some}
-use native.Mathlib.Omega.{arith}
 use lib.Dec.{eqb}
 use borrow.Author.Tests.{ne-eqb}
 use Rattle.path.specs.declared.Pair.{Pair}
@@ -21,45 +20,21 @@ use Rattle.book_records.specs.Calls.{Call, ownerOf, meaning}
 use Rattle.book_records.specs.CallLaws.{means, path-owner}
 use Rattle.book.specs.Book.{Current, quotaIn, bytesWith, fullIn}
 use Rattle.book.specs.BookLaws.{lawful, one-book}
-use Rattle.book_oldest.specs.declared.StateAnswer.the-variants.{Nothing}
-use Rattle.book_oldest.specs.Oldest.{ownState, older, oldestState, oldestIn, Oldest}
-use Rattle.book_oldest.specs.Oldest as by-records
+use Rattle.book_oldest.specs.Oldest.{oldestIn, Oldest}
+use Rattle.book_clear.specs.declared.Count.{Count}
+use Rattle.book_clear.specs.Clear.{clearIn, Cleared}
+use Rattle.book_clear.specs.RankLaws.{clash}
+use Rattle.book_clear.specs.ClearLaws.{SameMine, same-count, same-held, sorted-in, other-in}
+use Rattle.demands.specs.RoleLaws.{elsewhere}
 use Rattle.demands.specs.Held.{Holds, ProperBook}
 use Rattle.demands.specs.HeldLaws.{holds-in}
 use Rattle.demands.specs.Permitted.{Permitted}
-use Rattle.demands.specs.MachineLaws.{Good, good-of, book-of, path-of-key, machine, sim}
-use Rattle.demands.specs.Isolation.{Event, call, oldest, Reply, seen, pair, isOf, Happens, called, found, Any, Alone, Isolation}
+use Rattle.demands.specs.MachineLaws.{Good, good-of, book-of, path-of-key}
+use Rattle.demands.specs.EventLaws.{oldest-only, only-same, own-of, step, good, does}
+use Rattle.demands.specs.Isolation.{Event, call, oldest, clear, Reply, seen, pair, went, isOf, Happens, Any, Alone, Isolation}
 
--- ---- the oldest state of an owner who is kept, among the records of those who are
-module _ (keep : ℕ → Bool) (o : ℕ) (client : List ℕ) (h : keep o ≡ true) where
-  none-of : (k : Key) → keep (ownerOf k) ≡ false → ownState o client k ≡ Nothing
-  unfolding ownState
-  none-of k e = rw (ne-eqb (ownerOf k) o (λ q. let z : _≡_ {A = ℕ} 0 1 = ap (λ (v : Bool). cond v 0 1) (sym h ∙ ap keep (sym q) ∙ e) in omega arith))
-
-  state-only : (s : List Rec) → oldestState o client (only ownerOf keep s) ≡ oldestState o client s
-  unfolding only oldestState
-  state-only [] = refl
-  state-only (r ∷ s) = go (keep (ownerOf (r .0))) refl (state-only s)
-    where
-      go : (v : Bool) → keep (ownerOf (r .0)) ≡ v → oldestState o client (only ownerOf keep s) ≡ oldestState o client s
-          → oldestState o client (cond v (r ∷ only ownerOf keep s) (only ownerOf keep s)) ≡ older (ownState o client (r .0)) (oldestState o client s)
-      go true e ih = ap (older (ownState o client (r .0))) ih
-      go false e ih = ih ∙ rw (none-of (r .0) e)
-
-  oldest-only : (s : List Rec) → oldestIn o client (only ownerOf keep s) ≡ oldestIn o client s
-  unfolding oldestIn
-  oldest-only s = rw (state-only s)
-
--- ---- the records of a book, and what an event does to them
+-- ---- the records of a book, seen by everybody but one owner
 module _ {b : List ℕ} (x : ProperBook b) where
-  abbrev step : List Rec → Event → Reply × List Rec
-  step s (call c) = (seen (act.seen (act (fullIn x) (meaning c) s .0)), act (fullIn x) (meaning c) s .1)
-  step s (oldest o client) = (pair (oldestIn o client s), s)
-
-  good : (s : List Rec) (e : Event) → Good x s → Good x (step s e .1)
-  good s (call c) g = machine x .good s c g
-  good s (oldest o client) g = g
-
   module _ (o : ℕ) where
     -- everybody but the owner o
     abbrev others : ℕ → Bool
@@ -71,7 +46,7 @@ module _ {b : List ℕ} (x : ProperBook b) where
     owner-of : (c : Call) (k : Key) → keyMeant (meaning c) ≡ some k → ownerOf k ≡ c .owner
     owner-of c k e = path-owner c k (path-of-key (means c) k e)
 
-    stays : (s t : List Rec) (e : Event) → isOf o e ≡ false → Good x s → Good x t → view s ≡ view t → (step s e .0 ≡ step t e .0) × (view (step s e .1) ≡ view (step t e .1))
+    stays : (s t : List Rec) (e : Event) → isOf o e ≡ false → Good x s → Good x t → view s ≡ view t → (step x s e .0 ≡ step x t e .0) × (view (step x s e .1) ≡ view (step x t e .1))
     unfolding view
     stays s t (call c) f g h v =
         let mine : Own ownerOf others (quotaIn x) (meaning c) = λ k e. rw (owner-of c k e, f) in
@@ -82,36 +57,39 @@ module _ {b : List ℕ} (x : ProperBook b) where
     stays s t (oldest p client) f g h v =
         let k : others p ≡ true = rw f in
         (ap pair (sym (oldest-only others p client k s) ∙ ap (oldestIn p client) v ∙ oldest-only others p client k t), v)
+    stays s t (clear p client keep) f g h v =
+        let k : others p ≡ true = rw f in
+        let held : (j : Key) → others (ownerOf j) ≡ true → get s j ≡ get t j = λ j e. sym (get-only ownerOf others s j e) ∙ ap (λ (u : List Rec). get u j) v ∙ get-only ownerOf others t j e in
+        let mine : SameMine p client s t = λ j n. held j (rw (own-of p client j n) k) in
+        let a = g .proper .sorted in
+        let b = h .proper .sorted in (
+          ap went (same-count p client keep s t a b mine),
+          only-same others (clearIn p client keep s .1) (clearIn p client keep t .1) (sorted-in p client keep s a) (sorted-in p client keep t b) (λ j e. same-held p client keep s t a b mine j (held j e)),
+        )
 
-    goes : (s : List Rec) (e : Event) → isOf o e ≡ true → Good x s → view (step s e .1) ≡ view s
+    goes : (s : List Rec) (e : Event) → isOf o e ≡ true → Good x s → view (step x s e .1) ≡ view s
     unfolding view
     goes s (call c) f g = other-act ownerOf others (quotaIn x) (meaning c) s (λ k e. rw (owner-of c k e, f))
     goes s (oldest p client) f g = refl
-
--- `oldest` on the bytes of good records
-finds-as : {b : List ℕ} (x : ProperBook b) (s : List Rec) (o : ℕ) (client : List ℕ) (p : Pair) → Good x s → Oldest Current (bytesWith x s) o client p → p ≡ oldestIn o client s
-unfolding book-of
-finds-as x s o client p g (by-records.Oldest.no-book n e) = absurd (n (book-of x (bytesWith x s) s g refl))
-finds-as x s o client p g (by-records.Oldest.this-book y e) = e ∙ ap (oldestIn o client) (one-book Current lawful (bytesWith x s) y (book-of x (bytesWith x s) s g refl) .2)
+    goes s (clear p client keep) f g =
+        only-same others (clearIn p client keep s .1) s (sorted-in p client keep s (g .proper .sorted)) (g .proper .sorted)
+        (λ j e. other-in p client keep s j (elsewhere p client j (λ q. let z : others p ≡ false = rw f in clash (others (ownerOf j)) e (ap others q ∙ z))))
 
 -- ---- a list of events
 module _
     (Does : List ℕ → Call → Seen → List ℕ → Type 0) (permits : (b : List ℕ) (c : Call) (a : Seen) (b₁ : List ℕ) → Does b c a b₁ → Permitted b c a b₁)
     (Finds : List ℕ → ℕ → List ℕ → Pair → Type 0) (finds : (b : List ℕ) (o : ℕ) (client : List ℕ) (p : Pair) → Finds b o client p → Oldest Current b o client p)
-    (x : Any Does Finds) (o : ℕ) where
-  does : (s : List Rec) (e : Event) (a : Reply) (b₁ : List ℕ) → Good (x .book) s → Happens Does Finds (bytesWith (x .book) s) e a b₁
-      → (a ≡ step (x .book) s e .0) × (b₁ ≡ bytesWith (x .book) (step (x .book) s e .1))
-  does s _ _ b₁ g (called {c = c} {a = a} d) =
-      let w = sim (x .book) s c a b₁ g (permits (bytesWith (x .book) s) c a b₁ d) in
-      (ap seen (w .0), w .1)
-  does s _ _ _ g (found {o = p} {client = client} {p = q} d) = (ap pair (finds-as (x .book) s p client q g (finds (bytesWith (x .book) s) p client q d)), refl)
+    (Clears : List ℕ → ℕ → List ℕ → ℕ → Count → List ℕ → Type 0) (clears : (b : List ℕ) (o : ℕ) (client : List ℕ) (keep : ℕ) (n : Count) (b₁ : List ℕ) → Clears b o client keep n b₁ → Cleared Current b o client keep n b₁)
+    (x : Any Does Finds Clears) (o : ℕ) where
+  abbrev by-step : (s : List Rec) (e : Event) (a : Reply) (b₁ : List ℕ) → Good (x .book) s → Happens Does Finds Clears (bytesWith (x .book) s) e a b₁ → (a ≡ step (x .book) s e .0) × (b₁ ≡ bytesWith (x .book) (step (x .book) s e .1))
+  by-step = does Does permits Finds finds Clears clears (x .book)
 
   abbrev Same : List ℕ → List ℕ → Type 0
-  Same b b′ = Alike (Happens Does Finds) (step (x .book)) (Good (x .book)) (bytesWith (x .book)) (good (x .book)) does (isOf o) (view (x .book) o) (stays (x .book) o) (goes (x .book) o) b b′
+  Same b b′ = Alike (Happens Does Finds Clears) (step (x .book)) (Good (x .book)) (bytesWith (x .book)) (good (x .book)) by-step (isOf o) (view (x .book) o) (stays (x .book) o) (goes (x .book) o) b b′
 
-  same : (y : Alone Does Finds x o) → (answersWithout (isOf o) (x .events) (x .replies) ≡ y .replies) × Same (x .end) (y .end)
+  same : (y : Alone Does Finds Clears x o) → (answersWithout (isOf o) (x .events) (x .replies) ≡ y .replies) × Same (x .end) (y .end)
   same y =
-      left-out (Happens Does Finds) (step (x .book)) (Good (x .book)) (bytesWith (x .book)) (good (x .book)) does (isOf o) (view (x .book) o) (stays (x .book) o) (goes (x .book) o)
+      left-out (Happens Does Finds Clears) (step (x .book)) (Good (x .book)) (bytesWith (x .book)) (good (x .book)) by-step (isOf o) (view (x .book) o) (stays (x .book) o) (goes (x .book) o)
       (record { state = x .book .records; other = x .book .records; good-state = good-of (x .book); good-other = good-of (x .book); bytes-are = x .book .bytes; other-are = x .book .bytes; seen = refl })
       (x .run) (y .run)
 
@@ -133,14 +111,14 @@ module _
   abbrev Kept : List ℕ → Type 0
   Kept b = (s : List Rec) × Good (x .book) s × (b ≡ bytesWith (x .book) s)
 
-  kept : (b : List ℕ) (e : Event) (a : Reply) (b₁ : List ℕ) → Happens Does Finds b e a b₁ → Kept b → Kept b₁
-  kept b e a b₁ d w = (step (x .book) (w .0) e .1, good (x .book) (w .0) e (w .1), does (w .0) e a b₁ (w .1) (rw (w .2) at d) .1)
+  kept : (b : List ℕ) (e : Event) (a : Reply) (b₁ : List ℕ) → Happens Does Finds Clears b e a b₁ → Kept b → Kept b₁
+  kept b e a b₁ d w = (step (x .book) (w .0) e .1, good (x .book) (w .0) e (w .1), by-step (w .0) e a b₁ (w .1) (rw (w .2) at d) .1)
 
   at-end : Kept (x .end)
   at-end = kept-end Kept kept (x .run) (x .book .records, good-of (x .book), x .book .bytes)
 
   -- THE THEOREM
-  pub isolation : Isolation Does Finds x o
+  pub isolation : Isolation Does Finds Clears x o
   unfolding book-of
   isolation =
       let book : ProperBook (x .end) = book-of (x .book) (x .end) (at-end .0) (at-end .1) (at-end .2) in

@@ -62,6 +62,9 @@ convertOwnersNumbers = 9 ∷ 4 ∷ 11 ∷ []
 abbrev pub oldestNumbers : List ℕ
 oldestNumbers = 9 ∷ 23 ∷ 2 ∷ 5 ∷ 6 ∷ 12 ∷ []
 
+abbrev pub clearNumbers : List ℕ
+clearNumbers = 9 ∷ 23 ∷ 2 ∷ 5 ∷ 6 ∷ []
+
 abbrev pub fillNumbers : List ℕ
 fillNumbers = 9 ∷ 4 ∷ []
 

@@ -16,6 +16,7 @@ use Rattle.text.specs.Put.{text}
 use Rattle.text.specs.declared.Fault.{Fault}
 use Rattle.text.specs.declared.Written.{Written}
 use Rattle.path.specs.declared.Pair.{Pair}
+use Rattle.book_clear.specs.declared.Count.{Count}
 use Rattle.path.specs.declared.Path.{Path}
 use Rattle.path.specs.declared.Path.the-variants.{Ports, UpgradeClientState}
 use Rattle.path.specs.declared.Reading.the-variants.{Read, Refused as Unread}
@@ -52,7 +53,7 @@ use Rattle.demands.specs.Told.{told}
 use Rattle.demands.specs.Rendered.{Fine}
 use Rattle.demands.specs.Demand2.{Demand2}
 use Rattle.demands.specs.Demand3.{Taken, AcceptedAt, Demand3}
-use Rattle.demands.specs.Isolation.{call, Reply, seen as reply, pair, called, Any, Alone, Isolation}
+use Rattle.demands.specs.Isolation.{call, Reply, seen as reply, pair, went, called, Any, Alone, Isolation}
 
 -- every list of calls on every book has a run
 pub run-exists : (b : List ℕ) → ProperBook b → (cs : List Call) → (rs : List Seen) × (b₁ : List ℕ) × Runs Permitted b cs rs b₁
@@ -359,11 +360,14 @@ own-slot : Takes one other (seen done) (layout Current 1 second ((2 ∷ port, va
 unfolding act get put
 own-slot = record { slots = 1; extra = second; records = []; bytes = refl; answered = rw other-means; left = rw other-means }
 
--- no call of `oldest` is made
+-- no call of `oldest` is made, and no clearing
 abbrev Silent : List ℕ → ℕ → List ℕ → Pair → Type 0
 Silent b o client p = ⊥
 
-abbrev shared : Any Takes Silent
+abbrev Idle : List ℕ → ℕ → List ℕ → ℕ → Count → List ℕ → Type 0
+Idle b o client keep n b₁ = ⊥
+
+abbrev shared : Any Takes Silent Idle
 shared =
     record {
       events = call W ∷ call other ∷ [];
@@ -374,7 +378,7 @@ shared =
       run = next (called takes-slot) (next (called no-slot-left) stop);
     }
 
-alone : Alone Takes Silent shared 1
+alone : Alone Takes Silent Idle shared 1
 unfolding without
 alone = record { replies = reply (seen done) ∷ []; end = layout Current 1 second ((2 ∷ port, value) ∷ []); run = next (called own-slot) stop }
 
@@ -382,8 +386,9 @@ firstNumber : List Reply → ℕ
 firstNumber [] = 0
 firstNumber (reply a ∷ rs) = a .number
 firstNumber (pair p ∷ rs) = 0
+firstNumber (went n ∷ rs) = n .refusal
 
-pub takes-refused : ((x : Any Takes Silent) (o : ℕ) → Isolation Takes Silent x o) → ⊥
+pub takes-refused : ((x : Any Takes Silent Idle) (o : ℕ) → Isolation Takes Silent Idle x o) → ⊥
 unfolding alone answersWithout firstNumber
 takes-refused h =
     let e : reply (seen (says 11)) ∷ [] ≡ reply (seen done) ∷ [] = h shared 1 .same-answers alone in

@@ -7,6 +7,7 @@ use Rattle.text.specs.OutcomeLaws.{agree}
 use Rattle.book.specs.Book.{Current}
 use Rattle.book.specs.BookLaws.{lawful}
 use Rattle.book.specs.OutcomeLaws.{one-changed, one-found, one-made}
+use Rattle.book_clear.specs.ClearLaws.{one-cleared}
 use Rattle.book_convert.specs.ConvertLaws.{one-converted}
 use Rattle.book_convert.specs.OwnersLaws.{one-owners}
 use Rattle.book_oldest.specs.OldestLaws.{one-oldest}
@@ -72,6 +73,7 @@ use Rattle.hostpath.proofs.hp_book_remove_lenient.Reads as hp-book-remo
 use Rattle.hostpath.proofs.hp_book_lookup.Reads as hp-book-lookup
 use Rattle.hostpath.proofs.hp_book_lookup_lenient.Reads as hp-book-lookup-lenient
 use Rattle.hostpath.proofs.hp_book_oldest.Reads as hp-book-oldest
+use Rattle.hostpath.proofs.hp_book_clear.Reads as hp-book-clear
 use Rattle.hostpath.proofs.hp_book_convert.Reads as hp-book-convert
 use Rattle.hostpath.proofs.hp_book_convert_owners.Reads as hp-book-convert-owners
 use Rattle.hostpath.proofs.hp_book_fill.Reads as hp-book-fill
@@ -260,6 +262,9 @@ one-hp-book-lookup-lenient κs a r₁ r₂ s₁ s₂ p q = one-found lawful p q
 
 pub one-hp-book-oldest : One hp-book-oldest.Post
 one-hp-book-oldest κs a r₁ r₂ s₁ s₂ p q = one-oldest Current lawful _ _ _ _ _ p q
+
+pub one-hp-book-clear : OneWith hp-book-clear.Post (λ κs s. now (s .0))
+one-hp-book-clear κs a r₁ r₂ s₁ s₂ p q = one-cleared Current lawful p q
 
 -- the second buffer
 pub one-hp-book-convert : OneWith hp-book-convert.Post (λ κs s. now (s .1 .0))

@@ -1,6 +1,7 @@
 // The C interface: what a program that is not Rattle's calls. Each function only hands its arguments on.
 // `bin/interface` makes of this file what declares and calls the interface elsewhere. The comment above a function says what
 // it gives and its refusals in the order in which they are looked for; a comment that stands alone heads what follows.
+use book_clear::Count;
 use book_records::Manner;
 use identifiers::channel_id::write_channel_id;
 use identifiers::client_id::write_client_id;
@@ -37,6 +38,7 @@ ghost use Rattle.wide.specs.Render.{renderIn, textIn};
 ghost use Rattle.book_records.specs.declared.Manner.the-variants.{Plain, Lenient};
 ghost use Rattle.book.specs.Book.{Current};
 ghost use Rattle.book.specs.Outcome.{Recorded, Removed, Looked, Made, quotas};
+ghost use Rattle.book_clear.specs.Clear.{Cleared};
 ghost use Rattle.book_convert.specs.Convert.{Converted, ConvertedOwners};
 ghost use Rattle.book_oldest.specs.Oldest.{Oldest};
 ghost use Rattle.book_table.specs.Many.{Fills, LooksMany};
@@ -620,6 +622,17 @@ pub extern "C" fn hp_book_oldest(book: &[u8], owner: u8, client: &[u8]) -> Pair
     ensures { λ r. ⌜ Oldest Current (now (book .entry)) owner (now (client .entry)) r ⌝ }
 {
     book_oldest::oldest(book, owner, client)
+}
+
+// Of the client's records `clients/C/consensusStates/R-h` of that owner keeps as many as `keep` says, those with the greatest pairs of
+// revision number and height, and removes the others, each with its processed time and height; then those times and heights that
+// have no such record and a pair below every kept one. Without such a record it removes nothing. Answers how many records went:
+// 9, 23, the client's 2, 5, 6.
+#[no_mangle]
+pub extern "C" fn hp_book_clear(book: &mut [u8], owner: u8, client: &[u8], keep: u64) -> Count
+    ensures { λ r. ⌜ Cleared Current (now (book .entry)) owner (now (client .entry)) keep r (now (book .exit)) ⌝ }
+{
+    book_clear::clear(book, owner, client, keep)
 }
 
 // Makes the second buffer, whatever it holds, the book of version 2 that has the slots and the records of `old`, a book

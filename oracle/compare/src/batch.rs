@@ -1,7 +1,7 @@
 //! Calls that wait to be answered together, and what document 01 expects of each.
 use std::fmt::{self, Display, Formatter};
 
-use hostpath::raw::{self, Flag, Packet, Pair, Written};
+use hostpath::raw::{self, Count, Flag, Packet, Pair, Written};
 use model::Fault;
 
 use crate::call::{Call, Function};
@@ -13,7 +13,7 @@ pub const GUARD: usize = 8;
 /// What stands in a reply before the lent buffers: the refusal and three numbers.
 pub const HEAD: usize = 25;
 
-/// What a call returns: refusal, and a length or value, or a pair of numbers, or the kind, length and
+/// What a call returns: refusal, and a length, value or count, or a pair of numbers, or the kind, length and
 /// sequence of a packet key; the place of a fault is the second.
 #[derive(Clone, Copy, Default)]
 pub struct Returned {
@@ -62,6 +62,12 @@ impl From<Flag> for Returned {
 impl From<Pair> for Returned {
     fn from(answer: Pair) -> Self {
         Self { refusal: answer.refusal, numbers: [answer.number, answer.height, 0] }
+    }
+}
+
+impl From<Count> for Returned {
+    fn from(answer: Count) -> Self {
+        Self::new(answer.refusal, answer.count)
     }
 }
 

@@ -89,6 +89,7 @@ fn asked(call: &Call) -> (call::Call<'_>, usize) {
             (by(*manner, Function::BookLookup, Function::BookLookupLenient), [text, b""], *room)
         }
         Call::Oldest(_, client) => (Function::BookOldest, [client, b""], 0),
+        Call::Clear(_, client, _) => (Function::BookClear, [client, b""], 0),
         Call::Convert(old) => (Function::BookConvert, [old, b""], 0),
         Call::ConvertOwners(old, _) => (Function::BookConvertOwners, [old, b""], 0),
         Call::Fill(room) => (Function::BookFill, [b"", b""], *room),
@@ -96,12 +97,13 @@ fn asked(call: &Call) -> (call::Call<'_>, usize) {
             (Function::BookLookupMany, [table, texts], *room)
         }
     };
-    let quotas = match call {
-        Call::New(quotas) | Call::ConvertOwners(_, quotas) => *quotas,
+    let numbers = match call {
+        Call::New(quotas) | Call::ConvertOwners(_, quotas) => quotas.map(u64::from),
+        Call::Clear(_, _, keep) => [*keep, 0],
         _ => [0, 0],
     };
     let kind = call.owner().unwrap_or_default();
-    (call::Call { function, kind, texts, numbers: quotas.map(u64::from) }, room)
+    (call::Call { function, kind, texts, numbers }, room)
 }
 
 /// The function of a call in its manner.
@@ -181,11 +183,21 @@ impl<'a> Chance<'a> {
         }
     }
 
-    fn oldest(&mut self, owner: u8) -> Call {
+    /// Mostly a client of these paths.
+    fn client(&mut self) -> Vec<u8> {
         let mut client = spelling::client(self.random).into_bytes();
         let times = usize::from(self.random.one_in(8));
         self.random.damage(&mut client, times);
-        Call::Oldest(owner, client)
+        client
+    }
+
+    fn oldest(&mut self, owner: u8) -> Call {
+        Call::Oldest(owner, self.client())
+    }
+
+    fn clear(&mut self, owner: u8) -> Call {
+        let few = self.random.below(4) as u64;
+        Call::Clear(owner, self.client(), self.random.of(&[few, few, few, u64::MAX]))
     }
 
     /// A new book, now and then with quotas that are none of it.
@@ -201,9 +213,10 @@ impl<'a> Chance<'a> {
     /// A call of an owner's.
     pub fn owned(&mut self) -> Call {
         let owner = self.owner();
-        match self.random.below(63) {
+        match self.random.below(66) {
             0..=7 => self.oldest(owner),
             8..=35 => self.write(owner),
+            36..=38 => self.clear(owner),
             _ => self.remove_or_lookup(owner),
         }
     }

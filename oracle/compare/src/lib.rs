@@ -6,6 +6,7 @@ pub mod batch;
 pub mod beside;
 pub mod books;
 pub mod call;
+pub mod clearings;
 pub mod conversions;
 #[rustfmt::skip]
 pub mod dispatch;
@@ -59,6 +60,7 @@ pub const FAMILIES: &[Sets] = &[
     books::SETS,
     owners::SETS,
     no_books::SETS,
+    clearings::SETS,
     conversions::SETS,
     many::SETS,
 ];

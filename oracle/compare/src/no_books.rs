@@ -34,6 +34,8 @@ fn probe(set: &mut Set, bytes: &[u8]) {
         Call::Remove(1, Plain, PADDED.to_vec()),
         Call::Remove(1, Lenient, PADDED.to_vec()),
         Call::Write(2, Plain, b"ports/transfer".to_vec(), vec![4; VALUE]),
+        Call::Clear(2, b"07-tendermint-4".to_vec(), 1),
+        Call::Clear(1, b"07-tendermint-4".to_vec(), 0),
         Call::Fill(BUCKETS),
         Call::New([1, 0]),
         Call::Write(1, Plain, b"ports/transfer".to_vec(), vec![5; VALUE]),

@@ -180,6 +180,7 @@ fn strangers(set: &mut Set, size: Size) {
             }
             for client in [&b""[..], b"\xff", b"07 tendermint", b"07-tendermint-4", &[b'c'; 65]] {
                 lent.check(set, &Call::Oldest(owner, client.to_vec()));
+                lent.check(set, &Call::Clear(owner, client.to_vec(), 1));
             }
             for table in [lent.table(), vec![7; BUCKETS], vec![]] {
                 for room in [0, 2 * ANSWER] {

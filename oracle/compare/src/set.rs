@@ -202,6 +202,7 @@ impl<'a> Set<'a> {
             Ok(Given::Value(value)) => (Returned::new(0, value.len() as u64), &value[..]),
             Ok(Given::Table(table)) => (Returned::default(), &table[..]),
             Ok(Given::Heights([a, b])) => (Returned { refusal: 0, numbers: [*a, *b, 0] }, &[][..]),
+            Ok(Given::Count(count)) => (Returned::new(0, *count), &[][..]),
             Err(refusal) => (Returned::new(*refusal, 0), &[][..]),
         };
         self.answers[usize::from(returned.refusal)] += 1;

@@ -1,6 +1,7 @@
-//! The section 'The book' of document 01, with requests L4, L6 and L10: a map from owners and renderings to values, and its
-//! bytes.
+//! The section 'The book' of document 01, with requests L4, L6, L10 and L13: a map from owners and renderings to values, and
+//! its bytes.
 use std::collections::BTreeMap;
+use std::ops::RangeInclusive;
 
 use crate::identifier::Identifier;
 use crate::many;
@@ -95,6 +96,9 @@ pub const SLOT: usize = Version::Three.slot();
 
 /// The kind of a consensus state.
 pub const STATE: u8 = 5;
+
+/// The kinds of a consensus state, its processed time and its processed height.
+pub const STATES: RangeInclusive<u8> = STATE..=STATE + 2;
 
 /// How a call takes its text: a plain one only where it is its own key, a lenient one in every spelling.
 #[derive(Clone, Copy, Debug, PartialEq, Eq)]
@@ -210,12 +214,32 @@ impl Book {
     pub fn oldest(&self, owner: u8, client: &[u8]) -> Result<[u64; 2], Refusal> {
         known(owner)?;
         Identifier::Client.check(Mode::Plain, client)?;
-        let heights = |(key, _): (&Vec<u8>, _)| {
-            let reading = path::read(Mode::Plain, key).expect("a key is a path");
-            let state = reading.kind == STATE && reading.first.of(key) == client;
-            state.then_some(reading.numbers)
-        };
-        self.records_of(owner).filter_map(heights).min().ok_or(ABSENT)
+        self.states(owner, client).into_iter().min().ok_or(ABSENT)
+    }
+
+    /// 23, client checks. The states that are to be kept are the last in rising order of their pairs, and the rest go, each with
+    /// its time and height. A time or height without a state goes where it is below every kept one. Where there is no
+    /// state, nothing does. How many records went.
+    pub fn clear(&mut self, owner: u8, client: &[u8], keep: u64) -> Result<u64, Refusal> {
+        known(owner)?;
+        Identifier::Client.check(Mode::Plain, client)?;
+        let mut states = self.states(owner, client);
+        states.sort();
+        let kept = usize::try_from(keep).map_or(states.len(), |keep| keep.min(states.len()));
+        let (rest, kept) = states.split_at(states.len() - kept);
+        let goes = |pair| rest.contains(&pair) || kept.iter().all(|one| pair < *one);
+        let before = self.records.len();
+        self.records.retain(|(of, key), _| {
+            let pair = pair_of(key, client, STATES).filter(|_| *of == owner && !states.is_empty());
+            !pair.is_some_and(goes)
+        });
+        Ok((before - self.records.len()) as u64)
+    }
+
+    /// The pairs of an owner's states of a client.
+    fn states(&self, owner: u8, client: &[u8]) -> Vec<[u64; 2]> {
+        let state = |(key, _): (&Vec<u8>, _)| pair_of(key, client, STATE..=STATE);
+        self.records_of(owner).filter_map(state).collect()
     }
 
     /// Header, a slot for each record in order of owner and key, and zeros.
@@ -261,6 +285,13 @@ impl Book {
         let slots = version.slots(bytes.len())?;
         Some(Self { slots, quotas, records: records.into_iter().map(record).collect() })
     }
+}
+
+/// The revision number and height of a key, where it is the client's and of these kinds.
+fn pair_of(key: &[u8], client: &[u8], kinds: RangeInclusive<u8>) -> Option<[u64; 2]> {
+    let reading = path::read(Mode::Plain, key).expect("a key is a path");
+    let of = kinds.contains(&reading.kind) && reading.first.of(key) == client;
+    of.then_some(reading.numbers)
 }
 
 /// Whether a buffer is a book.
@@ -314,6 +345,8 @@ pub enum Call {
     /// An owner, a text, and the room for what it holds.
     Lookup(u8, Manner, Vec<u8>, usize),
     Oldest(u8, Vec<u8>),
+    /// An owner, a client, and how many of its states are to be kept.
+    Clear(u8, Vec<u8>, u64),
     /// A book of version 1, to be turned into one of version 2 in the buffer that is lent.
     Convert(Vec<u8>),
     /// A book of version 2, to be turned into one of version 3.
@@ -332,6 +365,7 @@ impl Call {
             | Self::Remove(owner, ..)
             | Self::Lookup(owner, ..)
             | Self::Oldest(owner, _)
+            | Self::Clear(owner, ..)
             | Self::LookupMany(owner, ..) => Some(*owner),
             Self::New(_) | Self::Convert(_) | Self::ConvertOwners(..) | Self::Fill(_) => None,
         }
@@ -357,6 +391,8 @@ pub enum Given {
     Nothing,
     Value(Value),
     Heights([u64; 2]),
+    /// How many records went.
+    Count(u64),
     /// A table, of whose length nothing is said.
     Table(Vec<u8>),
 }
@@ -401,6 +437,9 @@ impl Buffer {
             }
             (Call::Oldest(owner, client), Self::Book(book)) => {
                 book.oldest(*owner, client).map(Given::Heights)
+            }
+            (Call::Clear(owner, client, keep), Self::Book(book)) => {
+                book.clear(*owner, client, *keep).map(Given::Count)
             }
             (Call::Fill(room), Self::Book(book)) => many::fill(book, *room).map(Given::Table),
             (Call::LookupMany(owner, table, texts, room), Self::Book(book)) => {

@@ -1,4 +1,4 @@
-//! Document 01's sentences on the book, and request L10's, asked of the model.
+//! Document 01's sentences on the book, and those of requests L10 and L13, asked of the model.
 use model::book::Manner::{Lenient, Plain};
 use model::book::{is_book, key, Book, Buffer, Call, Given, Manner, Version, HEAD, OWNERS, SLOT};
 use model::book::{Quotas, VALUE};
@@ -106,6 +106,96 @@ fn oldest_has_the_smallest_pair() {
     );
     assert_eq!(book.oldest(1, b"07-tendermint-4"), Ok([7, 2]));
     assert_eq!(book.oldest(1, b"07-tendermint-"), Err(ABSENT));
+}
+
+/// A book of these leaves below a client's states, and what is left of them after a clearing, with the number that it answers.
+fn cleared(leaves: &[&str], keep: u64) -> (Vec<String>, u64) {
+    let parent = "clients/07-tendermint-4/consensusStates/";
+    let mut book = Book::ones(16);
+    for leaf in leaves {
+        book.write(1, Plain, format!("{parent}{leaf}").as_bytes(), &ONE).unwrap();
+    }
+    let gone = book.clear(1, b"07-tendermint-4", keep).unwrap();
+    assert_eq!(book.free()[0], 16 - leaves.len() + gone as usize);
+    let left = book.keys().map(|(_, key)| String::from_utf8(key.clone()).unwrap());
+    (left.map(|key| key.strip_prefix(parent).unwrap().into()).collect(), gone)
+}
+
+/// Request L13: the greatest pairs stay, `10-2` among them, and the rest go, each with its time and height.
+#[test]
+fn clearing_keeps_the_greatest_pairs() {
+    let leaves = ["10-2", "7-2", "7-2/processedTime", "7-2/processedHeight", "9-100"];
+    for (keep, left) in [
+        (0, &[][..]),
+        (1, &["10-2"]),
+        (2, &["10-2", "9-100"]),
+        (3, &["10-2", "7-2", "7-2/processedHeight", "7-2/processedTime", "9-100"]),
+        (4, &["10-2", "7-2", "7-2/processedHeight", "7-2/processedTime", "9-100"]),
+        (u64::MAX, &["10-2", "7-2", "7-2/processedHeight", "7-2/processedTime", "9-100"]),
+    ] {
+        let gone = (leaves.len() - left.len()) as u64;
+        assert_eq!(
+            cleared(&leaves, keep),
+            (left.iter().map(|leaf| leaf.to_string()).collect(), gone)
+        );
+    }
+}
+
+/// A time or height without a state goes exactly where its pair is below every kept one; with 0 to be kept all of them go
+/// where there is a state, and where there is none nothing does.
+#[test]
+fn clearing_of_what_has_no_state() {
+    let orphans =
+        ["0-0/processedTime", "7-1/processedHeight", "7-3/processedTime", "99-0/processedHeight"];
+    let with = |state| [&orphans[..], &[state]].concat();
+    assert_eq!(cleared(&with("7-2"), 1).0, ["7-2", "7-3/processedTime", "99-0/processedHeight"]);
+    assert_eq!(cleared(&with("7-2"), 9).0, ["7-2", "7-3/processedTime", "99-0/processedHeight"]);
+    assert_eq!(
+        cleared(&with("0-0"), 1),
+        (
+            vec![
+                "0-0", "0-0/processedTime", "7-1/processedHeight", "7-3/processedTime",
+                "99-0/processedHeight"
+            ]
+            .into_iter()
+            .map(String::from)
+            .collect(),
+            0
+        )
+    );
+    assert_eq!(cleared(&with("7-2"), 0), (vec![], 5));
+    for keep in [0, 1, u64::MAX] {
+        assert_eq!(cleared(&orphans, keep).1, 0);
+    }
+}
+
+/// Other records stay: of the other owner, of a client whose name begins so, of other kinds.
+#[test]
+fn clearing_of_others() {
+    let mut book = Book::empty(6, [5, 1]);
+    for text in [
+        "4/clientState", "4/connections", "4/consensusStates/7-2", "40/consensusStates/7-2",
+        "/consensusStates/7-2",
+    ] {
+        book.write(1, Plain, format!("clients/07-tendermint-{text}").as_bytes(), &ONE).unwrap();
+    }
+    book.write(2, Plain, EXACT, &ONE).unwrap();
+    let whole = book.clone();
+    for (owner, client, refusal) in [
+        (3, &b"\xff"[..], BAD_OWNER),
+        (1, b"/\xff", NOT_ASCII),
+        (1, b"/", model::BAD_CHAR),
+        (1, b"short", BAD_LENGTH),
+    ] {
+        assert_eq!(book.clear(owner, client, 0), Err(refusal));
+        assert_eq!(book, whole);
+        let call = Call::Clear(owner, client.to_vec(), 0);
+        assert_eq!(Buffer::of(b"").act(&call), Err(BAD_BOOK));
+    }
+    assert_eq!(book.clear(1, b"07-tendermint-4", 0), Ok(1));
+    assert_eq!(book.lookup(1, Plain, EXACT, VALUE), Err(ABSENT));
+    assert_eq!(book.write(1, Plain, EXACT, &ONE), Ok(()));
+    assert_eq!(book, whole);
 }
 
 /// One text under two owners is two paths, and each owner sees its own records alone.

@@ -8,9 +8,11 @@
 //!
 //! For oracle/count: `speed count OPERATION RECORDS TIMES` runs one operation on a book so many times,
 //! `speed many fill|once|alone TEXTS TIMES` looks many texts up in a book of 200 records,
+//! `speed clear states|families|reversed check|copy|KEEP TIMES` clears a book of 200 records of one client's,
 //! `speed names` prints the families, `speed pass NAME upper|lower TIMES` runs one side of one, and
 //! `speed text CALL KIND TIMES` has one text of a kind read, rendered or keyed by both sides.
 mod books;
+mod clearings;
 mod family;
 mod identifiers;
 mod many;
@@ -33,6 +35,7 @@ fn main() {
         ["count", operation, records, times] => {
             books::count(operation, number(records), number(times));
         }
+        ["clear", records, what, times] => clearings::count(records, what, number(times)),
         ["many", operation, texts, times] => many::count(operation, number(texts), number(times)),
         ["names"] => families().for_each(|family| println!("{}", family.name)),
         ["pass", name, side, times] => {
@@ -40,7 +43,7 @@ fn main() {
             family.run(side == "upper", number(times) as u32);
         }
         ["text", call, kind, times] => texts::run(call, number(kind), number(times)),
-        _ => panic!("speed figures|count|many|names|pass|text .."),
+        _ => panic!("speed figures|count|many|clear|names|pass|text .."),
     }
 }
 

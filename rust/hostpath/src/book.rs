@@ -311,6 +311,38 @@ impl<'a> Book<'a> {
         pair(raw::book_oldest(self.0, owner.number(), client_id.as_bytes()))
     }
 
+    /// Keeps as many of an owner's consensus states of a client, those with the greatest pairs of revision number and height, and
+    /// removes the others, each with its processed time and height. A processed time or height that has no state goes where its
+    /// pair is below every kept one; where the client has no state at all, nothing goes. The answer is how many records went,
+    /// and so many slots of the owner's quota are free again.
+    ///
+    /// ```
+    /// use hostpath::{book_size, Book, ClientId, Owner, Refusal};
+    ///
+    /// let mut buffer = [0; book_size(4)];
+    /// let mut book = Book::new(&mut buffer, [4, 0])?;
+    /// for leaf in ["10-2", "7-2", "7-2/processedTime", "9-100"] {
+    ///     let key = format!("clients/07-tendermint-4/consensusStates/{leaf}");
+    ///     book.write(Owner::One, key, "a digest")?;
+    /// }
+    /// let client_id = ClientId::try_from("07-tendermint-4")?;
+    /// assert_eq!(book.clear(Owner::One, client_id, 2), Ok(2)); // 7-2 and its time, though 10-2 is the first as text
+    /// assert_eq!(book.oldest(Owner::One, client_id), Ok((9, 100)));
+    /// assert_eq!(book.counts()?, [2, 0]);
+    /// # Ok::<(), Refusal>(())
+    /// ```
+    #[doc = errors!(BadBook)]
+    pub fn clear(
+        &mut self,
+        owner: Owner,
+        client_id: ClientId<'_>,
+        keep: usize,
+    ) -> Result<usize, Refusal> {
+        let answer = raw::book_clear(self.0, owner.number(), client_id.as_bytes(), keep as u64);
+        done(answer.refusal)?;
+        Ok(answer.count as usize)
+    }
+
     /// Whether the buffer holds a book: every call looks at that first, and this one then refuses the client for its length.
     fn looked_at(&self) -> Result<(), Refusal> {
         match done(raw::book_oldest(self.0, Owner::One.number(), b"").refusal) {

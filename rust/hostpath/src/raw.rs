@@ -65,6 +65,17 @@ pub struct Packet {
     /// 0 where the call is refused.
     pub sequence: u64,
 }
+
+/// What a call answers.
+#[repr(C)]
+#[derive(Clone, Copy, Debug, PartialEq, Eq)]
+#[must_use]
+pub struct Count {
+    /// A refusal's number, or 0.
+    pub refusal: u8,
+    /// 0 where the call is refused.
+    pub count: u64,
+}
 // Above, made by bin/interface.
 
 /// The calls as C has them: a text or a buffer is a pointer and a count of bytes.
@@ -195,6 +206,8 @@ pub mod c {
         pub fn hp_book_lookup_lenient(book: *const u8, book_len: usize, owner: u8, text: *const u8, text_len: usize, out: *mut u8, out_len: usize) -> Written;
         /// [`book_oldest`] on pointers.
         pub fn hp_book_oldest(book: *const u8, book_len: usize, owner: u8, client: *const u8, client_len: usize) -> Pair;
+        /// [`book_clear`] on pointers.
+        pub fn hp_book_clear(book: *mut u8, book_len: usize, owner: u8, client: *const u8, client_len: usize, keep: u64) -> Count;
         /// [`book_convert`] on pointers.
         pub fn hp_book_convert(old: *const u8, old_len: usize, book: *mut u8, book_len: usize) -> u8;
         /// [`book_convert_owners`] on pointers.
@@ -596,6 +609,15 @@ pub fn book_lookup_lenient(book: &[u8], owner: u8, text: &[u8], out: &mut [u8]) 
 pub fn book_oldest(book: &[u8], owner: u8, client: &[u8]) -> Pair {
     // SAFETY: each pointer and count are those of one live slice.
     unsafe { c::hp_book_oldest(book.as_ptr(), book.len(), owner, client.as_ptr(), client.len()) }
+}
+
+/// Of the client's records `clients/C/consensusStates/R-h` of that owner keeps as many as `keep` says, those with the greatest pairs of
+/// revision number and height, and removes the others, each with its processed time and height; then those times and heights that
+/// have no such record and a pair below every kept one. Without such a record it removes nothing. Answers how many records went:
+/// [9](crate::Refusal::BadBook), [23](crate::Refusal::BadOwner), the client's [2](crate::Refusal::NotAscii), [5](crate::Refusal::BadChar), [6](crate::Refusal::BadLength).
+pub fn book_clear(book: &mut [u8], owner: u8, client: &[u8], keep: u64) -> Count {
+    // SAFETY: each pointer and count are those of one live slice.
+    unsafe { c::hp_book_clear(book.as_mut_ptr(), book.len(), owner, client.as_ptr(), client.len(), keep) }
 }
 
 /// Makes the second buffer, whatever it holds, the book of version 2 that has the slots and the records of `old`, a book

@@ -85,10 +85,56 @@ fn bad_owners() {
         assert_eq!(book_remove_lenient(&mut buffer, owner, b"x"), refusal);
         assert_eq!(book_lookup(&buffer, owner, EXACT, &mut out).refusal, refusal);
         assert_eq!(book_oldest(&buffer, owner, b"").refusal, refusal);
+        assert_eq!(book_clear(&mut buffer, owner, b"", 0).refusal, refusal);
         assert_eq!(book_lookup_many(&buffer, owner, b"", b"x", &mut []).refusal, refusal);
         assert_eq!(book_write(&mut [], owner, b"x", b""), Refusal::BadBook.number());
     }
     assert_eq!(buffer, made);
+}
+
+/// A clearing goes by pairs and not by texts, takes times and heights with their states, and those without one that are below
+/// all that is kept; the other owner, another client and other records of this one are left.
+#[test]
+fn clearings() {
+    let mut buffer = [0; book_size(12)];
+    let leaves = ["10-2", "7-2", "7-2/processedTime", "7-2/processedHeight", "9-100"];
+    let orphans = ["9-99/processedTime", "9-101/processedHeight"];
+    for (keep, gone, left) in
+        [(0, 7, 0), (1, 6, 1), (2, 4, 3), (3, 0, 7), (4, 0, 7), (usize::MAX, 0, 7)]
+    {
+        let mut book = Book::new(&mut buffer, [9, 2]).unwrap();
+        let key = |leaf| format!("clients/07-tendermint-4/consensusStates/{leaf}");
+        for leaf in leaves.into_iter().chain(orphans) {
+            book.write(One, key(leaf), leaf).unwrap();
+        }
+        book.write(One, "clients/07-tendermint-4/clientState", "a digest").unwrap();
+        book.write(One, "clients/07-tendermint-5/consensusStates/1-1", "a digest").unwrap();
+        book.write(Two, key("1-1"), "of two").unwrap();
+        assert_eq!(book.clear(One, clients()[0], keep), Ok(gone), "{keep}");
+        assert_eq!(book.counts(), Ok([left + 2, 1]), "{keep}");
+        assert_eq!(book.clear(One, clients()[0], keep), Ok(0), "{keep}");
+        for free in 0..gone {
+            assert_eq!(book.write(One, format!("ports/transfer.{free}"), "a digest"), Ok(()));
+        }
+        assert_eq!(book.write(One, "ports/transfer", "a digest"), Err(Refusal::Full));
+        assert_eq!(held(&book, Two, key("1-1").as_bytes()), Ok(b"of two".to_vec()));
+        let kept = book.lookup(One, key("9-101/processedHeight"), &mut [0; BOOK_VALUE]).is_ok();
+        assert_eq!(kept, [2, 3, 4, usize::MAX].contains(&keep));
+    }
+}
+
+/// Without a state nothing goes, whatever is to be kept.
+#[test]
+fn nothing_to_clear() {
+    let mut buffer = [0; book_size(1)];
+    let mut book = Book::new(&mut buffer, [1, 0]).unwrap();
+    book.write(One, [EXACT, b"/processedTime"].concat(), "a digest").unwrap();
+    for keep in [0, 1, usize::MAX] {
+        for owner in Owner::ALL {
+            assert_eq!(clients().map(|id| book.clear(owner, id, keep)), [Ok(0), Ok(0)]);
+        }
+    }
+    assert_eq!(book.counts(), Ok([1, 0]));
 }
 
 /// A lenient call answers which key it worked on, also where the text is that key, or as long as a key can be.
@@ -147,6 +193,7 @@ fn no_book() {
     assert_eq!(book.remove(One, EXACT), Err(Refusal::BadBook));
     assert_eq!(held(&book, One, EXACT), Err(Refusal::BadBook));
     assert_eq!(book.oldest(One, clients()[0]), Err(Refusal::BadBook));
+    assert_eq!(book.clear(One, clients()[0], 0), Err(Refusal::BadBook));
     assert_eq!((book.quotas(), book.counts()), (Err(Refusal::BadBook), Err(Refusal::BadBook)));
     assert_eq!(buffer, [0; book_size(1)]);
     assert_eq!(Book::open(&mut []).quotas(), Err(Refusal::BadBook));

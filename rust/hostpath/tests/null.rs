@@ -2,7 +2,7 @@
 use core::ptr::{null, null_mut};
 
 use hostpath::raw::c::*;
-use hostpath::raw::{Fault, Packet, Pair, Written};
+use hostpath::raw::{Count, Fault, Packet, Pair, Written};
 use hostpath::{book_size, Book, BOOK_TABLE, BOOK_VALUE};
 
 const PORT: &[u8] = b"ports/transfer";
@@ -113,6 +113,8 @@ fn books() {
         assert_eq!(hp_book_convert(null(), 0, null_mut(), 0), 9);
         assert_eq!(hp_book_convert_owners(null(), 0, null_mut(), 0, 0, 0), 9);
         assert_eq!(hp_book_oldest(null(), 0, 1, null(), 0), none);
+        let none = Count { refusal: 9, count: 0 };
+        assert_eq!(hp_book_clear(null_mut(), 0, 1, null(), 0, 0), none);
         assert_eq!(hp_book_fill(null(), 0, null_mut(), 0), 9);
         let many = hp_book_lookup_many(null(), 0, 1, null(), 0, null(), 0, null_mut(), 0);
         assert_eq!(many, refused(9));
@@ -137,6 +139,8 @@ fn texts_values_and_rooms() {
         assert_eq!(hp_book_write(book, n, 3, null(), 0, null(), 0), 23);
         let short = Pair { refusal: 6, number: 0, height: 0 };
         assert_eq!(hp_book_oldest(book, n, 1, null(), 0), short);
+        let short = Count { refusal: 6, count: 0 };
+        assert_eq!(hp_book_clear(book, n, 1, null(), 0, 0), short);
         assert_eq!(hp_book_fill(book, n, null_mut(), 0), 4);
         let none = hp_book_lookup_many(book, n, 1, null(), 0, null(), 0, null_mut(), 0);
         assert_eq!(none, refused(22));

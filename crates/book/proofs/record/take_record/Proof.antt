@@ -10,14 +10,14 @@ use Rattle.book.proofs.record.take_record.Tie as tie
 returns : tie.Need-returns
 returns c = remove-free _ _ _ _ _ (c .before .before .before .before .before .before .pre) (spotted _ _ _ _ _ (c .before .before .find .ensures) (c .enum-told .given .1))
 
-sub-take-out : tie.Need-sub-take-out
-sub-take-out c = omega (arith, room _ _ _ _ _ (c .before .before .before .before .before .before .before .before .pre) (spotted _ _ _ _ _ (c .before .before .before .before .find .ensures) (c .before .before .p .given .1)))
+add-close-gap : tie.Need-add-close-gap
+add-close-gap c = omega (arith, room _ _ _ _ _ (c .before .before .before .before .before .before .before .before .pre) (spotted _ _ _ _ _ (c .before .before .before .before .find .ensures) (c .before .before .p .given .1)))
 
-take-out-requires : tie.Need-take-out-requires
-take-out-requires c κs = omega (arith, room _ _ _ _ _ (c .before .before .before .before .before .before .before .before .pre) (spotted _ _ _ _ _ (c .before .before .before .before .find .ensures) (c .before .before .p .given .1)))
+close-gap-requires : tie.Need-close-gap-requires
+close-gap-requires c κs = omega (arith, room _ _ _ _ _ (c .before .before .before .before .before .before .before .before .pre) (spotted _ _ _ _ _ (c .before .before .before .before .find .ensures) (c .before .before .p .given .1)))
 
 returns-2 : tie.Need-returns-2
-returns-2 c = remove-taken _ _ _ _ _ (c .before .before .before .before .before .before .before .before .before .before .before .pre) (spotted _ _ _ _ _ (c .before .before .before .before .before .before .before .find .ensures) (c .before .before .before .before .before .p .given .1)) _ (c .before .before .take-out .ensures)
+returns-2 c = remove-taken _ _ _ _ _ (c .before .before .before .before .before .before .before .before .before .before .before .pre) (spotted _ _ _ _ _ (c .before .before .before .before .before .before .before .find .ensures) (c .before .before .before .before .before .p .given .1)) _ (c .before .before .close-gap .ensures)
 
 pub take-record-spec : {M : Type 1} → statement M
 take-record-spec =
@@ -28,7 +28,7 @@ take-record-spec =
     (λ c. search needs)
     (λ c. search needs)
     returns
-    sub-take-out
-    take-out-requires
+    add-close-gap
+    close-gap-requires
     (λ c. search needs)
     returns-2)

@@ -1,0 +1,2 @@
+-- `Unique`: the contract leaves one outcome.
+pub mod Unique
