@@ -189,7 +189,9 @@ enum hp_refusal {
     /* the owner is neither 1 nor 2: give the number of the network that the record belongs to */
     HP_BAD_OWNER = 23,
     /* the bytes are not a client, a marker of 1, 2 or 3 and 8 more, or the kind is not one of these: give a whole packet key */
-    HP_BAD_V2_KEY = 24
+    HP_BAD_V2_KEY = 24,
+    /* the path is of kind 8, which is written to books no more: derive a client's connections, and look up or remove such records */
+    HP_RETIRED = 25
     /* Above, made by bin/interface. */
 };
 
@@ -355,14 +357,16 @@ struct hp_written hp_wide_receipts_path(const uint8_t *port, size_t port_len, co
  * quota2; its size alone is looked at: 9, then 11 where the quotas sum to more than its slots. */
 uint8_t hp_book_new(uint8_t *book, size_t book_len, uint16_t quota1, uint16_t quota2);
 /* The owner's text, which is its own rendering, holds the value from now on, anew or in place of what it held:
- * 9, 23, 1, 2, 3 (17, 18, 19), 20, 10, 6, then 11 where it is new and the owner has as many records as its quota. */
+ * 9, 23, 1, 2, 3 (17, 18, 19), 20, 10, 25 where it is of kind 8, 6, then 11 where it is new and the owner has as many records as its
+ * quota. */
 uint8_t hp_book_write(uint8_t *book, size_t book_len, uint8_t owner, const uint8_t *text, size_t text_len, const uint8_t *value, size_t value_len);
 /* The owner's text, which is its own rendering, holds nothing from now on: 9, 23, 1, 2, 3 (17, 18, 19), 20, 10, 12. */
 uint8_t hp_book_remove(uint8_t *book, size_t book_len, uint8_t owner, const uint8_t *text, size_t text_len);
 /* What the owner's text, which is its own rendering, holds, 1 to 64 bytes; wants room for 64 whatever it holds:
  * 9, 23, 1, 2, 3 (17, 18, 19), 20, 10, 4, 12. */
 struct hp_written hp_book_lookup(const uint8_t *book, size_t book_len, uint8_t owner, const uint8_t *text, size_t text_len, uint8_t *out, size_t out_len);
-/* As hp_book_write, on the rendering of the text, for importers that pad their heights: 9, 23, 1, 2, 3 (17, 18, 19), 10, 6, 11. */
+/* As hp_book_write, on the rendering of the text, for importers that pad their heights:
+ * 9, 23, 1, 2, 3 (17, 18, 19), 10, 25, 6, 11. */
 uint8_t hp_book_write_lenient(uint8_t *book, size_t book_len, uint8_t owner, const uint8_t *text, size_t text_len, const uint8_t *value, size_t value_len);
 /* As hp_book_remove, on the rendering of the text, for importers that pad their heights: 9, 23, 1, 2, 3 (17, 18, 19), 10, 12. */
 uint8_t hp_book_remove_lenient(uint8_t *book, size_t book_len, uint8_t owner, const uint8_t *text, size_t text_len);

@@ -12,9 +12,9 @@ use Rattle.book_key.specs.Field.{madeKey}
 use Rattle.book.specs.declared.Opened.{Opened}
 use Rattle.book.specs.Book.{Current, Book, Counts}
 
--- the key, or its refusal
+-- the key and its kind, or its refusal
 abbrev pub keyMade : Opened → MadeKey
-keyMade o = record { refusal = o .refusal; key = o .key }
+keyMade o = record { refusal = o .refusal; kind = o .kind; key = o .key }
 
 -- the bytes b are no book; or o is no owner; or they are one with so many records, and the key is that of the text t
 pub data Opens (m : Manner) (b : List ℕ) (o : ℕ) (t : List ℕ) (r : Opened) : Type 0 where

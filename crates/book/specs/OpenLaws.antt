@@ -1,17 +1,18 @@
 -- What follows from the opening of a call: its refusal is the call's, on every buffer, and else there is a book and a key.
 -- Assumes nothing.
 use Prim.Native.Nat.{ℕ}
-use mathlib.Core.Path.{_≡_, refl}
+use mathlib.Core.Path.{_≡_, refl, sym, _∙_}
 use mathlib.Core.Bool.{true, false}
-use mathlib.Core.List.{List}
+use mathlib.Core.List.{List, _∷_}
 use lib.ListN.{length}
 use native.Mathlib.Omega.{arith}
+use borrow.Author.Tests.{eq-eqb, ne-eqb}
 use Rattle.text.specs.Put as buffer
 use Rattle.book_records.specs.declared.Manner.{Manner}
-use Rattle.book_records.specs.Calls.{Asked, Call, isOwner, meaning, keyFor}
+use Rattle.book_records.specs.Calls.{Asked, Call, isOwner, kindIn, isRetired, meaning, keyFor}
 use Rattle.book_records.specs.TextLaws.{Keyed, nobody-means}
 use Rattle.book_key.specs.Field.{madeKey}
-use Rattle.book_key.specs.MadeLaws.{made-refuses, made-keyed}
+use Rattle.book_key.specs.MadeLaws.{made-refuses, made-keyed, made-kind}
 use Rattle.book.specs.declared.Opened.{Opened}
 use Rattle.book.specs.declared.check.BookAnswer.{BookAnswer}
 use Rattle.book.specs.declared.check.BookAnswer.the-variants.{Count, Nothing}
@@ -77,3 +78,20 @@ module _ (m : Manner) (b : List ℕ) (owner : ℕ) (t : List ℕ) where
         go (no-book n e) = absurd (omega (arith, e, h))
         go (no-owner y w e) = absurd (omega (arith, e, h))
         go (this-book c w e) = made-keyed m t (keyMade o) e h
+
+    open-kind : (h : o .refusal ≡ 0) → o .kind ≡ kindIn (open-keyed h .key)
+    open-kind h = go x
+      where
+        go : Opens m b owner t o → o .kind ≡ kindIn (open-keyed h .key)
+        go (no-book n e) = absurd (omega (arith, e, h))
+        go (no-owner y w e) = absurd (omega (arith, e, h))
+        go (this-book c w e) = made-kind m t (keyMade o) e (o .key .bytes) (o .key .len) (open-keyed h)
+
+    -- its kind tells whether the key is retired
+    pub open-retired : (h : o .refusal ≡ 0) → o .kind ≡ 8 → isRetired (owner ∷ open-keyed h .key) ≡ true
+    unfolding isRetired
+    open-retired h e = eq-eqb (kindIn (open-keyed h .key)) 8 (sym (open-kind h) ∙ e)
+
+    pub open-live : (h : o .refusal ≡ 0) → (o .kind ≡ 8 → ⊥) → isRetired (owner ∷ open-keyed h .key) ≡ false
+    unfolding isRetired
+    open-live h n = ne-eqb (kindIn (open-keyed h .key)) 8 (λ e. n (open-kind h ∙ e))

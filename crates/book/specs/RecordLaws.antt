@@ -14,7 +14,7 @@ use Rattle.text.specs.Put as buffer
 use Rattle.text.specs.PutLaws.{put-zero}
 use Rattle.book_records.specs.Act.{Meaning, writes, removes, looks}
 use Rattle.book_records.specs.declared.Manner.{Manner}
-use Rattle.book_records.specs.Calls.{ValueFits, isOwner}
+use Rattle.book_records.specs.Calls.{ValueFits, isOwner, isRetired}
 use Rattle.book_records.specs.TextLaws.{Keyed, look-means, write-means, remove-means}
 use Rattle.book_form.specs.Form.{QuotasFit, layout, slots, inserted, removed, zeros, keyAt}
 use Rattle.book_form.specs.FormLaws.{length-zeros, zeros-over}
@@ -143,8 +143,8 @@ module _ (m : Manner) (b : List ℕ) (owner : ℕ) (w : isOwner owner ≡ true) 
   pub look-text : (out : List ℕ) (r : Written) (out₁ : List ℕ) → 64 ≤ length out → Found Current b (looks (owner ∷ key)) out r out₁ → Looked Current m b owner t out r out₁
   look-text out r out₁ h l = subst (λ (q : Meaning). Found Current b q out r out₁) (ap looks ek ∙ sym (look-means m owner w t field n k (length out) h)) l
 
-  pub write-text : (v : List ℕ) (r : ℕ) (b₁ : List ℕ) → ValueFits v → Changed Current b (writes (owner ∷ key) v) r b₁ → Recorded Current m b owner t v r b₁
-  write-text v r b₁ h l = subst (λ (q : Meaning). Changed Current b q r b₁) (ap (λ (j : List ℕ). writes j v) ek ∙ sym (write-means m owner w t field n k v h)) l
+  pub write-text : (v : List ℕ) (r : ℕ) (b₁ : List ℕ) → isRetired (owner ∷ k .key) ≡ false → ValueFits v → Changed Current b (writes (owner ∷ key) v) r b₁ → Recorded Current m b owner t v r b₁
+  write-text v r b₁ s h l = subst (λ (q : Meaning). Changed Current b q r b₁) (ap (λ (j : List ℕ). writes j v) ek ∙ sym (write-means m owner w t field n k v s h)) l
 
   pub remove-text : (r : ℕ) (b₁ : List ℕ) → Changed Current b (removes (owner ∷ key)) r b₁ → Removed Current m b owner t r b₁
   remove-text r b₁ l = subst (λ (q : Meaning). Changed Current b q r b₁) (ap removes ek ∙ sym (remove-means m owner w t field n k)) l

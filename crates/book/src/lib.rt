@@ -24,14 +24,16 @@ use text::refusal::BAD_LENGTH;
 use text::refusal::BAD_OWNER;
 use text::refusal::FULL;
 use text::refusal::NO_ROOM;
+use text::refusal::RETIRED;
 ghost use mathlib.Core.Path.{_≡_};
 ghost use Rattle.book.specs.Book.{Current};
 ghost use Rattle.book.specs.Outcome.{Recorded, Removed, Looked, Made, quotas};
 ghost use Rattle.book.specs.Open.{Opens};
 
-// What a call starts from: a refusal, or the number of the book's records and the key of the text.
+// What a call starts from: a refusal, or the number of the book's records and the key of the text with its kind.
 pub struct Opened {
     pub refusal: u8,
+    pub kind: u8,
     pub count: usize,
     pub key: Key,
 }
@@ -42,6 +44,7 @@ fn refused(refusal: u8) -> Opened
     let bytes = [0u8; 255];
     Opened {
         refusal,
+        kind: 0,
         count: 0,
         key: Key { bytes, len: 0 },
     }
@@ -61,6 +64,7 @@ pub(crate) fn open_call(manner: Manner, book: &[u8], owner: u8, text: &[u8]) -> 
     let key = made.key;
     Opened {
         refusal: made.refusal,
+        kind: made.kind,
         count,
         key,
     }
@@ -87,7 +91,7 @@ pub fn lookup(manner: Manner, book: &[u8], owner: u8, text: &[u8], out: &mut [u8
     look_record(book, opened.count, owner, &bytes[0..len], out)
 }
 
-// Adds or replaces what the path of a text holds: 9, 23, 1, 2, 3 (17, 18, 19), in a plain call 20, 10, 6, 11.
+// Adds or replaces what the path of a text holds: 9, 23, 1, 2, 3 (17, 18, 19), in a plain call 20, 10, 25 for kind 8, 6, 11.
 pub fn write(manner: Manner, book: &mut [u8], owner: u8, text: &[u8], value: &[u8]) -> u8
     ensures { λ r. ⌜ Recorded Current manner (now (book .entry)) owner (now (text .entry)) (now (value .entry)) r (now (book .exit)) ⌝ }
 {
@@ -95,6 +99,9 @@ pub fn write(manner: Manner, book: &mut [u8], owner: u8, text: &[u8], value: &[u
     let refusal = opened.refusal;
     if refusal != 0 {
         return refusal;
+    }
+    if opened.kind == 8 {
+        return RETIRED;
     }
     if value.len() < 1 {
         return BAD_LENGTH;

@@ -1,9 +1,13 @@
--- What the reading of a text tells of the key's field: the loose texts, and the answer of the writer of keys.
+-- What the reading of a text tells of the key's field: the loose texts, the answer of the writer of keys, and the key's kind.
 -- Assumes nothing.
 use Prim.Native.Nat.{ℕ}
 use mathlib.Core.Path.{_≡_, refl, sym, ap, _∙_}
-use mathlib.Core.Bool.{Bool, true, false, not}
+use mathlib.Core.Bool.{Bool, true, false, cond, not}
 use mathlib.Core.List.{List}
+use lib.Dec.{eqb, leb}
+use lib.ListN.{length}
+use borrow.Author.Tests.{eq-eqb, ne-eqb}
+use Rattle.text.specs.Put.{Wanted}
 use Rattle.text.specs.Put as buffer
 use Rattle.text.specs.Refusal as refusal
 use Rattle.text.specs.declared.Written.{Written}
@@ -17,10 +21,10 @@ use Rattle.path.specs.Read.{readPath, keyOf}
 use Rattle.path.specs.View.{viewOf, viewedBy}
 use Rattle.book_records.specs.declared.Manner.{Manner}
 use Rattle.book_records.specs.declared.Manner.the-variants.{Plain, Lenient}
-use Rattle.book_records.specs.Calls.{isLoose, keyFor, keyAnswer}
-use Rattle.book_records.specs.MannerLaws.{read-loose, read-taken}
-use Rattle.book_records.specs.TextLaws.{answer-long, answer-other}
-use Rattle.book_key.specs.Field.{looseBy}
+use Rattle.book_records.specs.Calls.{kindBy, kindIn, isLoose, keyFor, keyAnswer}
+use Rattle.book_records.specs.MannerLaws.{key-kind, KeyFor, unread, other, own, key-for, read-loose, read-taken}
+use Rattle.book_records.specs.TextLaws.{answer-long, answer-other, for-own}
+use Rattle.book_key.specs.Field.{looseBy, kindSeen, kindBeside, kindMade}
 
 -- ---- which flat readings are loose
 pub unread-taken : (m : Manner) (x : ViewAnswer) (w : Refusal) → x ≡ Unread w → false ≡ looseBy m x
@@ -65,3 +69,35 @@ module _ (m : Manner) (t : List ℕ) (x : ViewAnswer) (by : x ≡ viewedBy (read
 
     pub field-fits : (w .refusal ≡ 4 → ⊥) → w ≡ keyAnswer (keyFor m t)
     field-fits h = written ∙ sym (answer-other (keyFor m t) (λ q. h (ap (λ (v : Written). v .refusal) written ∙ q)))
+
+-- ---- the kind
+pub beside-refusal : (n : ℕ) (x : ViewAnswer) → (n ≡ 0 → ⊥) → 0 ≡ kindBeside n x
+beside-refusal n x h = rw (ne-eqb n 0 h)
+
+pub beside-unread : (n : ℕ) (x : ViewAnswer) (w : Refusal) → n ≡ 0 → x ≡ Unread w → 0 ≡ kindBeside n x
+beside-unread n x w h e = rw (eq-eqb n 0 h, e)
+
+pub beside-seen : (n : ℕ) (x : ViewAnswer) (v : PathView) → n ≡ 0 → x ≡ Seen v → v .kind ≡ kindBeside n x
+beside-seen n x v h e = rw (eq-eqb n 0 h, e)
+
+kind-read : (r : Reading) → kindSeen (viewedBy r) ≡ kindBy r
+unfolding viewedBy viewOf
+kind-read (Read p e) = refl
+kind-read (Refused w) = refl
+
+-- beside the field's refusal it is the key's
+pub kind-made : (m : Manner) (t : List ℕ) (x : ViewAnswer) → x ≡ viewedBy (readPath t) → (n : ℕ) → n ≡ keyAnswer (keyFor m t) .refusal → kindBeside n x ≡ kindMade (keyFor m t)
+unfolding kindMade keyAnswer kindIn
+kind-made m t x by n h = rw h (go (key-for m t) refl)
+  where
+    seen-kind : (k : List ℕ) → keyOf t ≡ buffer.text k → kindSeen x ≡ kindIn k
+    seen-kind k e = ap kindSeen by ∙ kind-read (readPath t) ∙ key-kind t k e
+
+    go : {w : Wanted} → KeyFor m t w → keyFor m t ≡ w → kindBeside (keyAnswer w .refusal) x ≡ kindMade w
+    go (unread {n = j} e) q = rw (ne-eqb j 0 (for-own m t j q .refused))
+    go (other e s) q = refl
+    go (own {k = k} e s) q = fits (leb (length k) 255)
+      where
+        fits : (v : Bool) → kindBeside ((cond v (buffer.done (length k)) (buffer.refusal refusal.keyTooLong)) .refusal) x ≡ cond v (kindIn k) 0
+        fits true = seen-kind k e
+        fits false = refl

@@ -10,8 +10,10 @@ use walk::walk_view;
 ghost use mathlib.Core.Path.{_≡_};
 ghost use lib.ListN.{length};
 ghost use Rattle.text.specs.Put.{left};
+ghost use Rattle.path.specs.Read.{readPath};
+ghost use Rattle.path.specs.View.{viewedBy};
 ghost use Rattle.book_records.specs.Calls.{keyFor, keyAnswer};
-ghost use Rattle.book_key.specs.Field.{looseBy, madeKey};
+ghost use Rattle.book_key.specs.Field.{looseBy, kindBeside, madeKey};
 
 // A key: its bytes, zero after the last, and their number.
 pub struct Key {
@@ -19,9 +21,10 @@ pub struct Key {
     pub len: usize,
 }
 
-// The key of a text, or a refusal number beside an empty one.
+// The key of a text and its kind, or a refusal number beside an empty one and 0.
 pub struct MadeKey {
     pub refusal: u8,
+    pub kind: u8,
     pub key: Key,
 }
 
@@ -38,13 +41,26 @@ fn is_loose(manner: Manner, read: ViewAnswer) -> bool
     }
 }
 
-// Writes the key of a text into a field of 255 bytes: 1, 2, 3, in a plain call 20, 10. A refusal leaves the field as it was.
-fn key_into(manner: Manner, text: &[u8], field: &mut [u8]) -> Written
-    requires { ⌜ length (now field) ≡ 255 ⌝ }
+// The kind of what was read; 0 beside a refusal.
+fn kind_beside(refusal: u8, read: ViewAnswer) -> u8
+    ensures { λ r. ⌜ r ≡ kindBeside refusal read ⌝ }
+{
+    if refusal != 0 {
+        return 0;
+    }
+    let ViewAnswer::Seen(v) = read else {
+        return 0;
+    };
+    v.kind
+}
+
+// Writes the key of a text, as it was read, into a field of 255 bytes: 1, 2, 3, in a plain call 20, 10. A refusal leaves the field as
+// it was.
+fn key_into(manner: Manner, text: &[u8], read: ViewAnswer, field: &mut [u8]) -> Written
+    requires { ⌜ (read ≡ viewedBy (readPath (now text))) × (length (now field) ≡ 255) ⌝ }
     ensures { λ r. ⌜ r ≡ keyAnswer (keyFor manner (now (text .entry))) ⌝ }
     ensures { λ _. ⌜ now (field .exit) ≡ left (keyFor manner (now (text .entry))) (now (field .entry)) ⌝ }
 {
-    let read = walk_view(text);
     if is_loose(manner, read) {
         return Written {
             refusal: LOOSE,
@@ -66,9 +82,13 @@ pub fn key_of(manner: Manner, text: &[u8]) -> MadeKey
     ensures { λ r. ⌜ r ≡ madeKey (keyFor manner (now (text .entry))) ⌝ }
 {
     let mut bytes = [0u8; 255];
-    let made = key_into(manner, text, &mut bytes);
+    let read = walk_view(text);
+    let made = key_into(manner, text, read, &mut bytes);
+    let refusal = made.refusal;
+    let kind = kind_beside(refusal, read);
     MadeKey {
-        refusal: made.refusal,
+        refusal,
+        kind,
         key: Key {
             bytes,
             len: made.length as usize,

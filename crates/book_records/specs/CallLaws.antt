@@ -20,8 +20,8 @@ use Rattle.path.specs.BackLaws.{key-exact}
 use Rattle.path.specs.Read.{readFirst, whyNot, refusalOf, readingOf, readPath, keyBy, keyOf}
 use Rattle.book_records.specs.Records.{Key}
 use Rattle.book_records.specs.Act.{Meaning, refuses, writes, removes, looks}
-use Rattle.book_records.specs.Calls.{keyed, keyFor, Asked, to-write, to-remove, to-look, Call, isOwner, ownerOf, Owned, under, meaning, PathOf, ValueFits}
-use Rattle.book_records.specs.Refusals.{HasKey, GoodWrite, GoodRemoval, GoodLookup, Declined, bad-owner, too-long, not-ascii, not-a-path, loose, key-too-long, bad-length, no-room}
+use Rattle.book_records.specs.Calls.{keyed, keyFor, Asked, to-write, to-remove, to-look, Call, isOwner, ownerOf, Owned, isRetired, under, meaning, PathOf, ValueFits}
+use Rattle.book_records.specs.Refusals.{HasKey, GoodWrite, GoodRemoval, GoodLookup, Declined, bad-owner, too-long, not-ascii, not-a-path, loose, key-too-long, retired, bad-length, no-room}
 use Rattle.book_records.specs.MannerLaws.{KeyFor, unread, other, own, key-for, for-unread, for-other, for-own}
 
 -- the path of a text that has a rendering
@@ -51,12 +51,16 @@ pub data Means (c : Call) : Meaning → Type 0 where
   looking : {k : Key} {room : ℕ} → GoodLookup c k room → Means c (looks k)
 
 under-means : (c : Call) (k : Key) → HasKey c k → (q : Asked) → c .asked ≡ q → Means c (under q k)
-under-means c k h (to-write v) p = go (leb 1 (length v)) refl (leb (length v) 64) refl
+under-means c k h (to-write v) p = kind (isRetired k) refl
   where
-    go : (a : Bool) → leb 1 (length v) ≡ a → (b : Bool) → leb (length v) 64 ≡ b → Means c (cond (a && b) (writes k v) (refuses 6))
-    go true e true f = writing (record { asked = p; key = h; size = record { least = leb-true 1 (length v) e; most = leb-true (length v) 64 f } })
-    go true e false f = declines (bad-length p h (λ s. omega (arith, leb-false (length v) 64 f, s .most)))
-    go false e b f = declines (bad-length p h (λ s. omega (arith, leb-false 1 (length v) e, s .least)))
+    go : isRetired k ≡ false → (a : Bool) → leb 1 (length v) ≡ a → (b : Bool) → leb (length v) 64 ≡ b → Means c (cond (a && b) (writes k v) (refuses 6))
+    go r true e true f = writing (record { asked = p; key = h; not-retired = r; size = record { least = leb-true 1 (length v) e; most = leb-true (length v) 64 f } })
+    go r true e false f = declines (bad-length p h r (λ s. omega (arith, leb-false (length v) 64 f, s .most)))
+    go r false e b f = declines (bad-length p h r (λ s. omega (arith, leb-false 1 (length v) e, s .least)))
+
+    kind : (b : Bool) → isRetired k ≡ b → Means c (cond b (refuses 25) (cond (leb 1 (length v) && leb (length v) 64) (writes k v) (refuses 6)))
+    kind true r = declines (retired p h r)
+    kind false r = go r (leb 1 (length v)) refl (leb (length v) 64) refl
 under-means c k h to-remove p = removing (record { asked = p; key = h })
 under-means c k h (to-look room) p = go (leb 64 room) refl
   where
@@ -93,8 +97,8 @@ keyed-fits c k h =
     let l : length (p .rendering) ≤ 255 = omega (arith, h .fits, ap length (p .is)) in
     rw (p .known, for-own (c .manner) (c .text) (h .spelled), p .renders, le-leb (length (p .rendering)) 255 l, p .is)
 
-not-sized : (k : Key) (v : List ℕ) → (ValueFits v → ⊥) → under (to-write v) k ≡ refuses 6
-not-sized k v n = go (leb 1 (length v)) refl (leb (length v) 64) refl
+not-sized : (k : Key) (v : List ℕ) → isRetired k ≡ false → (ValueFits v → ⊥) → under (to-write v) k ≡ refuses 6
+not-sized k v r n = rw r (go (leb 1 (length v)) refl (leb (length v) 64) refl)
   where
     go : (a : Bool) → leb 1 (length v) ≡ a → (b : Bool) → leb (length v) 64 ≡ b → cond (a && b) (writes k v) (refuses 6) ≡ refuses 6
     go true e true f = absurd (n (record { least = leb-true 1 (length v) e; most = leb-true (length v) 64 f }))
@@ -110,11 +114,12 @@ declined-means c (not-a-path w h a r) = keyed-refused c _ w (rw (le-ltb 4096 (le
 declined-means c (loose p s) = rw (p .known, for-other (c .manner) (c .text) (p .rendering) (p .renders) s)
 declined-means c (key-too-long p s l) =
     rw (p .known, for-own (c .manner) (c .text) s, p .renders, lt-leb (length (p .rendering)) 255 (omega (arith, l, ap length (p .is))))
-declined-means c (bad-length {k = k} {v = v} q h n) = keyed-fits c k h ∙ rw q (not-sized k v n)
+declined-means c (retired {k = k} q h r) = keyed-fits c k h ∙ rw (q, r)
+declined-means c (bad-length {k = k} {v = v} q h r n) = keyed-fits c k h ∙ rw q (not-sized k v r n)
 declined-means c (no-room {k = k} {room = room} q h l) = keyed-fits c k h ∙ rw (q, lt-leb 64 room l)
 
 pub writing-means : (c : Call) (k : Key) (v : List ℕ) → GoodWrite c k v → meaning c ≡ writes k v
-writing-means c k v ok = keyed-fits c k (ok .key) ∙ rw (ok .asked, le-leb 1 (length v) (ok .size .least), le-leb (length v) 64 (ok .size .most))
+writing-means c k v ok = keyed-fits c k (ok .key) ∙ rw (ok .asked, ok .not-retired, le-leb 1 (length v) (ok .size .least), le-leb (length v) 64 (ok .size .most))
 
 pub removing-means : (c : Call) (k : Key) → GoodRemoval c k → meaning c ≡ removes k
 removing-means c k ok = keyed-fits c k (ok .key) ∙ rw (ok .asked)
@@ -138,7 +143,8 @@ declined-not (not-ascii w h a) = (λ e. omega arith, λ e. omega arith, λ e. om
 declined-not {c} (not-a-path w h a r) = unread-not (whyNot (c .text))
 declined-not (loose p s) = (λ e. omega arith, λ e. omega arith, λ e. omega arith, λ e. omega arith)
 declined-not (key-too-long p s l) = (λ e. omega arith, λ e. omega arith, λ e. omega arith, λ e. omega arith)
-declined-not (bad-length q h n) = (λ e. omega arith, λ e. omega arith, λ e. omega arith, λ e. omega arith)
+declined-not (retired q h r) = (λ e. omega arith, λ e. omega arith, λ e. omega arith, λ e. omega arith)
+declined-not (bad-length q h r n) = (λ e. omega arith, λ e. omega arith, λ e. omega arith, λ e. omega arith)
 declined-not (no-room q h l) = (λ e. omega arith, λ e. omega arith, λ e. omega arith, λ e. omega arith)
 
 pub one-path : (c : Call) (j k : Key) → PathOf c j → PathOf c k → j ≡ k

@@ -7,13 +7,14 @@ use mathlib.Core.List.{List, [], _∷_}
 use lib.Dec.{eqb, leb}
 use lib.ListN.{length, getD}
 use Rattle.text.specs.Order.{cmp, Before}
-use Rattle.text.specs.Refusal.{noRoom, badLength, keyTooLong, loose, badOwner}
+use Rattle.text.specs.Refusal.{noRoom, badLength, keyTooLong, loose, badOwner, retired}
 use Rattle.text.specs.Put.{Wanted, refused, text}
 use Rattle.text.specs.Put as put
 use Rattle.text.specs.declared.Written.{Written}
 use Rattle.path.specs.declared.Reading.{Reading}
 use Rattle.path.specs.declared.Reading.the-variants.{Read, Refused}
 use Rattle.path.specs.Read.{readPath, keyOf}
+use Rattle.path.specs.View.{kindOf}
 use Rattle.book_records.specs.declared.Manner.{Manner}
 use Rattle.book_records.specs.declared.Manner.the-variants.{Plain, Lenient}
 use Rattle.book_records.specs.Records.{Key}
@@ -75,6 +76,20 @@ abbrev pub Owned : Key → Type 0
 Owned [] = ⊥
 Owned (o ∷ t) = (isOwner o ≡ true) × Exact t
 
+-- ---- kinds
+-- the kind of what a text reads as, 0 where it does not
+abbrev pub kindBy : Reading → ℕ
+kindBy (Read p exact) = kindOf p
+kindBy (Refused w) = 0
+
+unfoldable pub kindIn : List ℕ → ℕ
+kindIn t = kindBy (readPath t)
+
+-- a key of kind 8, which is retired: its record may be looked up and removed, and is never written
+unfoldable pub isRetired : Key → Bool
+isRetired [] = false
+isRetired (o ∷ t) = eqb (kindIn t) 8
+
 -- a text as a call of that manner takes it: a plain one takes exact texts only
 abbrev pub Spelled : Manner → List ℕ → Type 0
 Spelled Plain t = Exact t
@@ -101,9 +116,9 @@ pub record ValueFits (v : List ℕ) : Type 0 where
   pub least : 1 ≤ length v
   pub most : length v ≤ 64
 
--- what is asked of a key: to hold a value of those sizes; a lookup wants room for the longest, whatever it finds
+-- what is asked of a key: to hold a value of those sizes, where it is not retired; a lookup wants room for the longest, whatever it finds
 abbrev pub under : Asked → Key → Meaning
-under (to-write v) k = cond (leb 1 (length v) && leb (length v) 64) (writes k v) (refuses badLength)
+under (to-write v) k = cond (isRetired k) (refuses retired) (cond (leb 1 (length v) && leb (length v) 64) (writes k v) (refuses badLength))
 under to-remove k = removes k
 under (to-look room) k = cond (leb 64 room) (looks k) (refuses noRoom)
 
@@ -114,6 +129,10 @@ meaning c = cond (isOwner (c .owner)) (keyed (keyFor (c .manner) (c .text)) (λ 
 nobodys : (m : Manner) (t : List ℕ) (q : Asked) → meaning (record { manner = m; owner = 3; text = t; asked = q }) ≡ refuses badOwner
 unfolding meaning
 nobodys m t q = refl
+
+-- 25 comes before 6, whatever the value; nothing else that is asked looks at the kind
+retired-first : (k : Key) (v : List ℕ) → isRetired k ≡ true → under (to-write v) k ≡ refuses retired
+retired-first k v h = rw h
 
 -- what a key's field of 255 bytes answers: the refusals of its text, then 10
 unfoldable pub keyAnswer : Wanted → Written

@@ -14,13 +14,14 @@ use Rattle.path.specs.declared.Path.{Path}
 use Rattle.path.specs.declared.Refusal.{Refusal}
 use Rattle.path.specs.declared.Reading.{Reading}
 use Rattle.path.specs.declared.Reading.the-variants.{Read, Refused}
-use Rattle.path.specs.BackLaws.{read-exact, exact-renders}
+use Rattle.path.specs.BackLaws.{read-exact, exact-renders, read-again}
+use Rattle.path.specs.BackLaws as back
 use Rattle.path.specs.Read.{keyOf, keyBy, readPath, renderPath, refusalOf}
 use Rattle.book_records.specs.declared.Manner.{Manner}
 use Rattle.book_records.specs.declared.Manner.the-variants.{Plain, Lenient}
 use Rattle.book_records.specs.Records.{Key}
 use Rattle.book_records.specs.Act.{Meaning, refuses}
-use Rattle.book_records.specs.Calls.{Asked, Call, isOwner, Exact, Spelled, isLoose, keyFor, keyed, under, meaning}
+use Rattle.book_records.specs.Calls.{Asked, Call, isOwner, Exact, Spelled, kindBy, kindIn, isLoose, keyFor, keyed, under, meaning}
 
 -- ---- exact keys, by the mark of a reading
 pub key-read : (t : List ℕ) (p : Path) (e : Bool) → readPath t ≡ Read p e → keyOf t ≡ text (renderPath t p)
@@ -46,6 +47,14 @@ exact-refused t r h x =
     let q = key-refused t r h in
     let z : _≡_ {A = ℕ} 0 1 = cc in
     omega arith
+
+-- a key is of its text's kind
+pub key-kind : (t k : List ℕ) → keyOf t ≡ text k → kindIn t ≡ kindIn k
+unfolding kindIn
+key-kind t k h =
+    let r = back.key-read t k h in
+    let s = read-again t (r .0) (r .1) (r .2) in
+    ap kindBy (r .2) ∙ sym (s .kind) ∙ sym (ap kindBy (s .read)) ∙ sym (ap kindIn (r .3))
 
 -- ---- the key of a text in a call of that manner, by cases
 pub data KeyFor (m : Manner) (t : List ℕ) : Wanted → Type 0 where

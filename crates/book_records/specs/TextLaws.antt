@@ -19,9 +19,9 @@ use Rattle.path.specs.declared.Reading.the-variants.{Read, Refused}
 use Rattle.path.specs.Read.{keyOf, readPath, refusalOf}
 use Rattle.book_records.specs.declared.Manner.{Manner}
 use Rattle.book_records.specs.Act.{Meaning, refuses, writes, removes, looks}
-use Rattle.book_records.specs.Refusals.{HasKey, bad-owner, bad-length, no-room}
+use Rattle.book_records.specs.Refusals.{HasKey, bad-owner, retired, bad-length, no-room}
 use Rattle.book_records.specs.CallLaws.{declined-means, writing-means, removing-means, looking-means}
-use Rattle.book_records.specs.Calls.{Asked, to-write, to-remove, to-look, write, remove, look, isOwner, meaning, Spelled, keyFor, ValueFits, keyed, keyAnswer}
+use Rattle.book_records.specs.Calls.{Asked, to-write, to-remove, to-look, write, remove, look, isOwner, meaning, Spelled, keyFor, isRetired, ValueFits, keyed, keyAnswer}
 use Rattle.book_records.specs.MannerLaws.{key-read, key-refused, KeyFor, unread, other, own as keeps, key-for}
 
 -- ---- a refusal of a text is no success, and not the 4 of a short buffer
@@ -44,7 +44,7 @@ key-own t n h = go (readPath t) refl
     go (Read p e) q = let w = key-read t p e q in let z : _≡_ {A = ℕ} 0 1 = cc in absurd (let y : ⊥ = omega arith in y)
     go (Refused r) q = let w = key-refused t r q in let e : refusalOf r ≡ n = cc in rw e at (own r)
 
-for-own : (m : Manner) (t : List ℕ) (n : ℕ) → keyFor m t ≡ put.refused n → Own n
+pub for-own : (m : Manner) (t : List ℕ) (n : ℕ) → keyFor m t ≡ put.refused n → Own n
 for-own m t n h = go (key-for m t) h
   where
     go : {w : Wanted} → KeyFor m t w → w ≡ put.refused n → Own n
@@ -142,11 +142,14 @@ module _ (m : Manner) (o : ℕ) (w : isOwner o ≡ true) (t field : List ℕ) (n
   pub look-short : (room : ℕ) → room < 64 → meaning (look m o t room) ≡ refuses 4
   look-short room h = declined-means (look m o t room) (no-room refl (has (to-look room)) h)
 
-  pub write-means : (v : List ℕ) → ValueFits v → meaning (write m o t v) ≡ writes key v
-  write-means v h = writing-means (write m o t v) key v (record { asked = refl; key = has (to-write v); size = h })
+  pub write-retired : (v : List ℕ) → isRetired key ≡ true → meaning (write m o t v) ≡ refuses 25
+  write-retired v r = declined-means (write m o t v) (retired refl (has (to-write v)) r)
 
-  pub write-bad : (v : List ℕ) → (ValueFits v → ⊥) → meaning (write m o t v) ≡ refuses 6
-  write-bad v h = declined-means (write m o t v) (bad-length refl (has (to-write v)) h)
+  pub write-means : (v : List ℕ) → isRetired key ≡ false → ValueFits v → meaning (write m o t v) ≡ writes key v
+  write-means v r h = writing-means (write m o t v) key v (record { asked = refl; key = has (to-write v); not-retired = r; size = h })
+
+  pub write-bad : (v : List ℕ) → isRetired key ≡ false → (ValueFits v → ⊥) → meaning (write m o t v) ≡ refuses 6
+  write-bad v r h = declined-means (write m o t v) (bad-length refl (has (to-write v)) r h)
 
   pub remove-means : meaning (remove m o t) ≡ removes key
   remove-means = removing-means (remove m o t) key (record { asked = refl; key = has to-remove })

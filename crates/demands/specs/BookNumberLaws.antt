@@ -21,7 +21,7 @@ use Rattle.book_records.specs.Act.{Rec, Meaning, Answer, act, addTo, takeFrom, 
 use Rattle.book_records.specs.declared.Manner.{Manner}
 use Rattle.book_records.specs.declared.Manner.the-variants.{Plain, Lenient}
 use Rattle.book_records.specs.Calls.{Call, write, remove, look, isOwner, Spelled, meaning}
-use Rattle.book_records.specs.Refusals.{GoodWrite, GoodRemoval, GoodLookup, Declined, bad-owner, too-long, not-ascii, not-a-path, loose, key-too-long, bad-length, no-room}
+use Rattle.book_records.specs.Refusals.{GoodWrite, GoodRemoval, GoodLookup, Declined, bad-owner, too-long, not-ascii, not-a-path, loose, key-too-long, retired, bad-length, no-room}
 use Rattle.book_records.specs.CallLaws.{Means, declines, writing, removing, looking, means}
 use Rattle.book.specs.Book.{Current, bytesWith, fullIn}
 use Rattle.book.specs.Outcome.{Outcome, no-book, this-book, Changed, Looked, Made, no-size, no-slots, new-book, quotas}
@@ -101,17 +101,18 @@ loose-too Lenient t ns s = absurd (s tt)
 pub write-listed : (m : Manner) (o : ℕ) (t v : List ℕ) {b : List ℕ} {a : Answer} {b₁ : List ℕ} → Outcome Current (meaning (write m o t v)) b a b₁ → Listed (writeNumbers m) (seen a .number)
 write-listed m o t v = outcome-of (Listed (writeNumbers m)) (ok 0 refl) (write m o t v) own (λ k u good. ok 11 refl) (λ k good. absurd (let e = good .asked in let z : _≡_ {A = ℕ} 0 1 = cc in let y : ⊥ = omega arith in y)) (λ k room good. absurd (let e = good .asked in let z : _≡_ {A = ℕ} 0 1 = cc in let y : ⊥ = omega arith in y)) (ok 9 refl)
   where
-    ok : (n : ℕ) → Listed (9 ∷ 23 ∷ 1 ∷ 2 ∷ 3 ∷ 17 ∷ 18 ∷ 19 ∷ 10 ∷ 6 ∷ 11 ∷ []) n → Listed (writeNumbers m) n
-    ok = also m (9 ∷ 23 ∷ 1 ∷ 2 ∷ 3 ∷ 17 ∷ 18 ∷ 19 ∷ 10 ∷ 6 ∷ 11 ∷ [])
+    ok : (n : ℕ) → Listed (9 ∷ 23 ∷ 1 ∷ 2 ∷ 3 ∷ 17 ∷ 18 ∷ 19 ∷ 10 ∷ 25 ∷ 6 ∷ 11 ∷ []) n → Listed (writeNumbers m) n
+    ok = also m (9 ∷ 23 ∷ 1 ∷ 2 ∷ 3 ∷ 17 ∷ 18 ∷ 19 ∷ 10 ∷ 25 ∷ 6 ∷ 11 ∷ [])
 
     own : (n : ℕ) → Declined (write m o t v) n → Listed (writeNumbers m) n
     own n (bad-owner w) = ok 23 refl
     own n (too-long w h) = ok 1 refl
     own n (not-ascii w h e) = ok 2 refl
     own n (not-a-path w h e f) = unread-of (Listed (writeNumbers m)) (ok 1 refl) (ok 2 refl) (ok 3 refl) (ok 17 refl) (ok 18 refl) (ok 19 refl) (whyNot t)
-    own n (loose p s) = loose-too m t (9 ∷ 23 ∷ 1 ∷ 2 ∷ 3 ∷ 17 ∷ 18 ∷ 19 ∷ 10 ∷ 6 ∷ 11 ∷ []) s
+    own n (loose p s) = loose-too m t (9 ∷ 23 ∷ 1 ∷ 2 ∷ 3 ∷ 17 ∷ 18 ∷ 19 ∷ 10 ∷ 25 ∷ 6 ∷ 11 ∷ []) s
     own n (key-too-long p s l) = ok 10 refl
-    own n (bad-length q h f) = ok 6 refl
+    own n (retired q h r) = ok 25 refl
+    own n (bad-length q h r f) = ok 6 refl
     own n (no-room q h l) = absurd (let z : _≡_ {A = ℕ} 0 1 = cc in let y : ⊥ = omega arith in y)
 
 pub remove-listed : (m : Manner) (o : ℕ) (t : List ℕ) {b : List ℕ} {a : Answer} {b₁ : List ℕ} → Outcome Current (meaning (remove m o t)) b a b₁ → Listed (removeNumbers m) (seen a .number)
@@ -127,7 +128,8 @@ remove-listed m o t = outcome-of (Listed (removeNumbers m)) (ok 0 refl) (remove 
     own n (not-a-path w h e f) = unread-of (Listed (removeNumbers m)) (ok 1 refl) (ok 2 refl) (ok 3 refl) (ok 17 refl) (ok 18 refl) (ok 19 refl) (whyNot t)
     own n (loose p s) = loose-too m t (9 ∷ 23 ∷ 1 ∷ 2 ∷ 3 ∷ 17 ∷ 18 ∷ 19 ∷ 10 ∷ 12 ∷ []) s
     own n (key-too-long p s l) = ok 10 refl
-    own n (bad-length q h f) = absurd (let z : _≡_ {A = ℕ} 0 1 = cc in let y : ⊥ = omega arith in y)
+    own n (retired q h r) = absurd (let z : _≡_ {A = ℕ} 0 1 = cc in let y : ⊥ = omega arith in y)
+    own n (bad-length q h r f) = absurd (let z : _≡_ {A = ℕ} 0 1 = cc in let y : ⊥ = omega arith in y)
     own n (no-room q h l) = absurd (let z : _≡_ {A = ℕ} 0 1 = cc in let y : ⊥ = omega arith in y)
 
 pub look-listed : (m : Manner) (o : ℕ) (t : List ℕ) (room : ℕ) {b : List ℕ} {a : Answer} {b₁ : List ℕ} → Outcome Current (meaning (look m o t room)) b a b₁ → Listed (lookNumbers m) (seen a .number)
@@ -143,7 +145,8 @@ look-listed m o t room = outcome-of (Listed (lookNumbers m)) (ok 0 refl) (look m
     own n (not-a-path w h e f) = unread-of (Listed (lookNumbers m)) (ok 1 refl) (ok 2 refl) (ok 3 refl) (ok 17 refl) (ok 18 refl) (ok 19 refl) (whyNot t)
     own n (loose p s) = loose-too m t (9 ∷ 23 ∷ 1 ∷ 2 ∷ 3 ∷ 17 ∷ 18 ∷ 19 ∷ 10 ∷ 4 ∷ 12 ∷ []) s
     own n (key-too-long p s l) = ok 10 refl
-    own n (bad-length q h f) = absurd (let z : _≡_ {A = ℕ} 0 1 = cc in let y : ⊥ = omega arith in y)
+    own n (retired q h r) = absurd (let z : _≡_ {A = ℕ} 0 1 = cc in let y : ⊥ = omega arith in y)
+    own n (bad-length q h r f) = absurd (let z : _≡_ {A = ℕ} 0 1 = cc in let y : ⊥ = omega arith in y)
     own n (no-room q h l) = ok 4 refl
 
 -- what is said of a pair

@@ -28,15 +28,16 @@ use Rattle.book_oldest.specs.Oldest.{stateOf, ownState, oldestState, oldestIn}
 use Rattle.path.specs.Read.{nameFault, fits, fitsKind, suits, suitsKind, partFaults, kindFaults, faultsAs, whyNot, readKind, readFirst, readPath, show, render, partsOf, renderPath, namesFault, renderOf, keyOf}
 use Rattle.book_records.specs.declared.Manner.{Manner}
 use Rattle.book_records.specs.declared.Manner.the-variants.{Plain, Lenient}
-use Rattle.book_records.specs.Act.{Rec}
-use Rattle.book_records.specs.Calls.{keyFor, keyAnswer}
+use Rattle.book_records.specs.Act.{Rec, Meaning, refuses, removes, looks}
+use Rattle.book_records.specs.Act as act
+use Rattle.book_records.specs.Calls.{Call, write, remove, look, kindIn, isRetired, keyFor, keyed, meaning, keyAnswer}
 use Rattle.runs.specs.Without.{without}
 use Rattle.book_clear.specs.declared.Count.{Count}
 use Rattle.book_clear.specs.Clear.{roleOf, ownRole, statesThat, goesAt, goes, count, clearIn}
 
 -- what is asked: to read a text, to check an identifier, for the oldest state of an owner's client in a book with these keys, for the key of a text
--- in a call on a book, whether one text stands above another, to render by kind, identifiers and numbers into that much room, or to clear out all
--- but so many states of an owner's client in a book with these keys
+-- in a call on a book, whether one text stands above another, to render by kind, identifiers and numbers into that much room, to clear out all but so
+-- many states of an owner's client in a book with these keys, or what a call on a book means
 pub data Question : Type 0 where
   reading : List ℕ → Question
   checking : Rule → List ℕ → Question
@@ -45,9 +46,10 @@ pub data Question : Type 0 where
   standing : List ℕ → List ℕ → Question
   rendering : ℕ → Carried (List ℕ) → ℕ → Question
   clearing : ℕ → List ℕ → ℕ → List (List ℕ) → Question
+  asking : Call → Question
 
--- what is answered: a reading, a refusal and its place, a pair, whether it stands so, with the readings of both, a refusal and a length, or a refusal
--- and a count, with the keys that are left
+-- what is answered: a reading, a refusal and its place, a pair, whether it stands so, with the readings of both, a refusal and a length, a refusal
+-- and a count, with the keys that are left, or a meaning
 pub data Outcome : Type 0 where
   gives : Reading → Outcome
   says : Fault → Outcome
@@ -55,6 +57,7 @@ pub data Outcome : Type 0 where
   stands : Bool → Reading → Reading → Outcome
   writes : Written → Outcome
   leaves : Count → List (List ℕ) → Outcome
+  means : Meaning → Outcome
 
 abbrev pub answerOf : Question → Outcome
 answerOf (reading t) = gives (readPath t)
@@ -64,6 +67,7 @@ answerOf (keying m t) = says (record { refusal = keyAnswer (keyFor m t) .refusal
 answerOf (standing t u) = stands (startsWith (t ++ bytes "/") u) (readPath t) (readPath u)
 answerOf (rendering k v room) = writes (answer (renderOf k v) room)
 answerOf (clearing o c n ks) = leaves (clearIn o c n (map (λ k. (k, [])) ks) .0) (map (λ (r : Rec). r .0) (clearIn o c n (map (λ k. (k, [])) ks) .1))
+answerOf (asking c) = means (meaning c)
 
 pub record Case : Type 0 where
   pub question : Question
@@ -100,6 +104,10 @@ clears o c n ks r m ls = record { question = clearing o c n ks; outcome = leaves
 -- owner 1's key of the client `07-tendermint-4` that goes on so behind `consensusStates/`
 abbrev of4 : List ℕ → List ℕ
 of4 rest = 1 ∷ (bytes "clients/07-tendermint-4/consensusStates/" ++ rest)
+
+-- what a call of a book means
+abbrev asks : Call → Meaning → Case
+asks c m = record { question = asking c; outcome = means m }
 
 abbrev at : ℕ → ℕ → Place
 at s n = record { start = s; len = n }
@@ -231,8 +239,19 @@ cases =
     -- 23 stands before the client's check
     ∷ clears 3 (bytes "a b") 0 [] 23 0 []
     ∷ clears 1 (bytes "a b") 0 [] 5 0 []
+    -- kind 8 is retired: 25 before 6, in writes of both manners and after what is wrong with the text; removals and lookups are as they were,
+    -- and so are writes of kinds 4 and 9
+    ∷ asks (write Plain 1 (bytes "clients/07-tendermint-4/connections") []) (refuses 25)
+    ∷ asks (write Plain 2 (bytes "clients/07-tendermint-4/connections") (replicate 64 7)) (refuses 25)
+    ∷ asks (write Lenient 1 (bytes "clients/07-tendermint-4/connections") (replicate 65 7)) (refuses 25)
+    ∷ asks (write Plain 3 (bytes "clients/07-tendermint-4/connections") []) (refuses 23)
+    ∷ asks (write Plain 1 (bytes "clients/clientid/connections") []) (refuses 3)
+    ∷ asks (remove Plain 1 (bytes "clients/07-tendermint-4/connections")) (removes (1 ∷ bytes "clients/07-tendermint-4/connections"))
+    ∷ asks (look Plain 1 (bytes "clients/07-tendermint-4/connections") 64) (looks (1 ∷ bytes "clients/07-tendermint-4/connections"))
+    ∷ asks (write Plain 1 (bytes "clients/07-tendermint-4/clientState") []) (refuses 6)
+    ∷ asks (write Plain 2 (bytes "connections/connection-0") (replicate 64 7)) (act.writes (2 ∷ bytes "connections/connection-0") (replicate 64 7))
     ∷ []
 
 pub cases-hold : map (λ c. answerOf (c .question)) cases ≡ map (λ c. c .outcome) cases
-unfolding numeralOf digitsAt digitsFrom decimal digits width widthBy every ascii startsWith same among identifierByte charsOf within indexOf namedOf checkOf faultOf cutAt joinBy placesFrom kinds nameFault fits fitsKind suits suitsKind partFaults kindFaults faultsAs whyNot readKind readFirst readPath show render partsOf renderPath shownOf stateOf ownState oldestState oldestIn keyOf keyFor keyAnswer namesFault renderOf answer without roleOf ownRole statesThat goesAt goes clearIn
+unfolding numeralOf digitsAt digitsFrom decimal digits width widthBy every ascii startsWith same among identifierByte charsOf within indexOf namedOf checkOf faultOf cutAt joinBy placesFrom kinds nameFault fits fitsKind suits suitsKind partFaults kindFaults faultsAs whyNot readKind readFirst readPath show render partsOf renderPath shownOf stateOf ownState oldestState oldestIn keyOf keyFor keyAnswer namesFault renderOf answer without roleOf ownRole statesThat goesAt goes clearIn kindIn isRetired keyed meaning
 cases-hold = refl

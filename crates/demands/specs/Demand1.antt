@@ -601,13 +601,13 @@ pub wide-name-fault-holds : Demand1 wide-name-fault.Pre wide-name-fault.Post wid
 wide-name-fault-holds = checks wideNames (λ κs a. tt) (λ κs r. r) (λ κs a r s p. subst (Listed wideNames) (sym p) (wides.name-of (Listed wideNames) refl refl refl refl refl refl refl refl refl _ _))
 
 -- ---- owned identifiers: a refusal has length 0 and an array of zeros beside it
-pub key-of-holds : Demand1 key-of.Pre key-of.Post keyNumbers (λ κs r. r .refusal) (λ κs r. r .key .len ∷ r .key .bytes) (λ κs a. []) (λ κs s. [])
+pub key-of-holds : Demand1 key-of.Pre key-of.Post keyNumbers (λ κs r. r .refusal) (λ κs r. r .kind ∷ r .key .len ∷ r .key .bytes) (λ κs a. []) (λ κs s. [])
 unfolding madeKey
 key-of-holds =
     record {
       accepts = λ κs a. tt;
       numbered = λ κs a r s p. subst (λ (x : MadeKey). Listed keyNumbers (x .refusal)) (sym p) (key-listed (a .0) (now (a .1 .0)));
-      nothing-else = λ κs a r s p h. subst (λ (x : MadeKey). AllZero (x .key .len ∷ x .key .bytes)) (sym p) (key-empty (keyFor (a .0) (now (a .1 .0))) (λ z. h (ap (λ (x : MadeKey). x .refusal) p ∙ z)));
+      nothing-else = λ κs a r s p h. subst (λ (x : MadeKey). AllZero (x .kind ∷ x .key .len ∷ x .key .bytes)) (sym p) (key-empty (keyFor (a .0) (now (a .1 .0))) (λ z. h (ap (λ (x : MadeKey). x .refusal) p ∙ z)));
       keeps = λ κs a r s p h. refl;
     }
 

@@ -25,7 +25,8 @@ use Rattle.path.specs.View.{kindOf, carriedOf, viewOf}
 use Rattle.render.specs.Render.{short}
 use Rattle.key.specs.Key.{shownAt, shownBy}
 use Rattle.book_records.specs.declared.Manner.{Manner}
-use Rattle.book_records.specs.Calls.{isLoose, keyFor, keyAnswer}
+use Rattle.book_records.specs.Calls.{kindIn, isLoose, keyFor, keyAnswer}
+use Rattle.book_key.specs.Field.{kindMade}
 use Rattle.demands.specs.Numbers.{readings, keyNumbers}
 use Rattle.demands.specs.Shape.{Listed, AllZero, Demand1}
 use Rattle.demands.specs.ShapeLaws.{Wants, one-of, both-of, accepted-wants, reading-refusal, answer-zero}
@@ -99,9 +100,9 @@ key-listed m t = go (isLoose m (readPath t)) (readPath t)
     go false (Read p e) = fits (leb (length (renderPath t p)) 255) (length (renderPath t p))
     go false (Refused w) = unread-of (Listed keyNumbers) refl refl refl refl refl refl w
 
-pub key-empty : (w : Wanted) → (keyAnswer w .refusal ≡ 0 → ⊥) → AllZero (keyAnswer w .length ∷ left w (zeros 255))
-unfolding keyAnswer answer left
-key-empty (refused n) h = (refl, all-zero 255)
+pub key-empty : (w : Wanted) → (keyAnswer w .refusal ≡ 0 → ⊥) → AllZero (kindMade w ∷ keyAnswer w .length ∷ left w (zeros 255))
+unfolding keyAnswer kindMade answer left
+key-empty (refused n) h = (refl, (refl, all-zero 255))
 key-empty (text k) h = go (leb (length k) 255) refl h
   where
     short : leb (length k) 255 ≡ false → answer (text k) (length (zeros 255)) .refusal ≡ 0 → ⊥
@@ -111,6 +112,6 @@ key-empty (text k) h = go (leb (length k) 255) refl h
         let g : answer (text k) (length (zeros 255)) .refusal ≡ 4 = ap (λ (n : ℕ). answer (text k) n .refusal) l ∙ f in
         omega (arith, g, q)
 
-    go : (v : Bool) → leb (length k) 255 ≡ v → ((cond v (done (length k)) (refusal 10)) .refusal ≡ 0 → ⊥) → AllZero ((cond v (done (length k)) (refusal 10)) .length ∷ left (text k) (zeros 255))
+    go : (v : Bool) → leb (length k) 255 ≡ v → ((cond v (done (length k)) (refusal 10)) .refusal ≡ 0 → ⊥) → AllZero (cond v (kindIn k) 0 ∷ (cond v (done (length k)) (refusal 10)) .length ∷ left (text k) (zeros 255))
     go true e h = absurd (h refl)
-    go false e h = (refl, subst AllZero (sym (refusal-keeps (text k) (zeros 255) (short e))) (all-zero 255))
+    go false e h = (refl, (refl, subst AllZero (sym (refusal-keeps (text k) (zeros 255) (short e))) (all-zero 255)))

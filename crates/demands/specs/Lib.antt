@@ -4,7 +4,7 @@
 -- `Demand3`, in the words of `Held`, `Refusals` and `BookCalls`; what each call of a book does on all bytes is in `EachCall`, `NewCall`,
 -- `OldestCall`, `ConvertCall` and `ConvertOwnersCall`; the clearing of request L13 is in `ClearCall`, and what it may move past in `ClearMoves`; that
 -- no owner's calls change what another is answered or holds, request L10, is `Isolation`; both are of the generated contracts in `IsolatedCalls`;
--- what plain and lenient calls share, request L6, is in `Manners`; the wide calls of request L8 are in `Wide`, in the words of `WideCalls`,
+-- that kind 8 is retired, request L14, is `Retired`, and of the generated contracts `RetiredCalls`; what plain and lenient calls share, request L6, is in `Manners`; the wide calls of request L8 are in `Wide`, in the words of `WideCalls`,
 -- `WideWritten` and `WideRendered`; the packet keys of request L11 are in `Packets`, in the words of `PacketCalls` and `Packeted`; what lies below a
 -- path, request L12, is `Below`, in the words of `Above`; filling a table and many lookups, request L9, are in `ManyCall`; `Useless` and, of
 -- clearings, `UselessClearings` show which line each useless build breaks. Files that end in `Laws` may be skipped.
@@ -67,6 +67,9 @@ pub mod Useless
 pub mod EachCall
 pub mod EachCallLaws
 pub mod BookCalls
+pub mod Retired
+pub mod RetiredLaws
+pub mod RetiredCalls
 pub mod Manners
 pub mod PacketCalls
 pub mod Packeted

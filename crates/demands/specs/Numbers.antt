@@ -41,7 +41,7 @@ inManner Plain ns = 20 ∷ ns
 inManner Lenient ns = ns
 
 abbrev pub writeNumbers : Manner → List ℕ
-writeNumbers m = inManner m (9 ∷ 23 ∷ 1 ∷ 2 ∷ 3 ∷ 17 ∷ 18 ∷ 19 ∷ 10 ∷ 6 ∷ 11 ∷ [])
+writeNumbers m = inManner m (9 ∷ 23 ∷ 1 ∷ 2 ∷ 3 ∷ 17 ∷ 18 ∷ 19 ∷ 10 ∷ 25 ∷ 6 ∷ 11 ∷ [])
 
 abbrev pub removeNumbers : Manner → List ℕ
 removeNumbers m = inManner m (9 ∷ 23 ∷ 1 ∷ 2 ∷ 3 ∷ 17 ∷ 18 ∷ 19 ∷ 10 ∷ 12 ∷ [])

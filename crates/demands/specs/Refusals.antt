@@ -1,5 +1,5 @@
 -- The numbered refusals of the book's calls: each given exactly when. A row below has the refusals before it, in the order of the documents,
--- denied in its premises: write 9, 23, 1, 2, 3 (17, 18, 19), 20, 10, 6, 11; removal 9, 23, 1, 2, 3 (17, 18, 19), 20, 10, 12; lookup
+-- denied in its premises: write 9, 23, 1, 2, 3 (17, 18, 19), 20, 10, 25, 6, 11; removal 9, 23, 1, 2, 3 (17, 18, 19), 20, 10, 12; lookup
 -- 9, 23, 1, 2, 3 (17, 18, 19), 20, 10, 4, 12; a lenient call lacks 20. The rows of the call alone, between 9 and 11, stand in `book_records` (Refusals).
 -- Assumes nothing.
 use Prim.Native.Nat.{ℕ}

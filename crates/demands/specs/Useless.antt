@@ -39,7 +39,7 @@ use Rattle.text.specs.OrderLaws.{cmp-self}
 use Rattle.book_records.specs.Records.{Key, get, put}
 use Rattle.book_records.specs.Act.{Rec, writes, act, says, done, countBy, Seen, seen}
 use Rattle.book_records.specs.declared.Manner.the-variants.{Plain}
-use Rattle.book_records.specs.Calls.{Asked, to-write, to-remove, to-look, Call, write, remove, look, isOwner, ownerOf, PathOf, meaning, ValueFits}
+use Rattle.book_records.specs.Calls.{Asked, to-write, to-remove, to-look, Call, write, remove, look, isOwner, ownerOf, PathOf, meaning, ValueFits, kindIn, isRetired}
 use Rattle.book.specs.Book.{Current, acts}
 use Rattle.book.specs.Outcome.{quotas}
 use Rattle.demands.specs.Held.{Holds, isWrite, writesIn, free, Room, ProperBook}
@@ -117,8 +117,13 @@ sized = record { least = omega (arith, length-zeros 32); most = omega (arith, le
 own-path : (q : Asked) → PathOf (record { manner = Plain; owner = 1; text = port; asked = q }) own
 own-path q = record { rendering = port; known = refl; renders = port-key; is = refl }
 
+-- and it is not of kind 8
+port-live : (o : ℕ) → isRetired (o ∷ port) ≡ false
+unfolding isRetired kindIn
+port-live o = rw port-read
+
 write-means : meaning W ≡ writes own value
-write-means = writing-means W own value (record { asked = refl; key = record { path = own-path (to-write value); spelled = port-key; fits = omega arith }; size = sized })
+write-means = writing-means W own value (record { asked = refl; key = record { path = own-path (to-write value); spelled = port-key; fits = omega arith }; not-retired = port-live 1; size = sized })
 
 -- the write is accepted there, and the record then stands in the book
 abbrev filled : List ℕ
@@ -342,7 +347,7 @@ abbrev other : Call
 other = write Plain 2 port value
 
 other-means : meaning other ≡ writes (2 ∷ port) value
-other-means = writing-means other (2 ∷ port) value (record { asked = refl; key = record { path = record { rendering = port; known = refl; renders = port-key; is = refl }; spelled = port-key; fits = omega arith }; size = sized })
+other-means = writing-means other (2 ∷ port) value (record { asked = refl; key = record { path = record { rendering = port; known = refl; renders = port-key; is = refl }; spelled = port-key; fits = omega arith }; not-retired = port-live 2; size = sized })
 
 abbrev taken-slot : List ℕ
 taken-slot = layout Current 1 second ((own, value) ∷ [])

@@ -561,7 +561,8 @@ pub extern "C" fn hp_book_new(book: &mut [u8], quota1: u16, quota2: u16) -> u8
 }
 
 // The owner's text, which is its own rendering, holds the value from now on, anew or in place of what it held:
-// 9, 23, 1, 2, 3 (17, 18, 19), 20, 10, 6, then 11 where it is new and the owner has as many records as its quota.
+// 9, 23, 1, 2, 3 (17, 18, 19), 20, 10, 25 where it is of kind 8, 6, then 11 where it is new and the owner has as many records as its
+// quota.
 #[no_mangle]
 pub extern "C" fn hp_book_write(book: &mut [u8], owner: u8, text: &[u8], value: &[u8]) -> u8
     ensures { λ r. ⌜ Recorded Current Plain (now (book .entry)) owner (now (text .entry)) (now (value .entry)) r (now (book .exit)) ⌝ }
@@ -586,7 +587,8 @@ pub extern "C" fn hp_book_lookup(book: &[u8], owner: u8, text: &[u8], out: &mut 
     book::lookup(Manner::Plain, book, owner, text, out)
 }
 
-// As hp_book_write, on the rendering of the text, for importers that pad their heights: 9, 23, 1, 2, 3 (17, 18, 19), 10, 6, 11.
+// As hp_book_write, on the rendering of the text, for importers that pad their heights:
+// 9, 23, 1, 2, 3 (17, 18, 19), 10, 25, 6, 11.
 #[no_mangle]
 pub extern "C" fn hp_book_write_lenient(book: &mut [u8], owner: u8, text: &[u8], value: &[u8]) -> u8
     ensures { λ r. ⌜ Recorded Current Lenient (now (book .entry)) owner (now (text .entry)) (now (value .entry)) r (now (book .exit)) ⌝ }

@@ -14,21 +14,21 @@ use Rattle.text.specs.PutLaws.{put-nil, put-zero, length-put}
 use Rattle.text.specs.PartLaws.{and-left, and-right}
 use Rattle.text.specs.Refusal.{sentences, said, sentence}
 
--- ---- 8, and what is above 24, have none
+-- ---- 8, and what is above 25, have none
 pub sentence-eight : sentence 8 ≡ []
 unfolding sentence
 sentence-eight = refl
 
 abbrev allGiven : List (ℕ × List ℕ) → Bool
 allGiven [] = true
-allGiven (row ∷ rows) = leb (row .0) 24 && allGiven rows
+allGiven (row ∷ rows) = leb (row .0) 25 && allGiven rows
 
-module _ (n : ℕ) (l : 24 < n) where
+module _ (n : ℕ) (l : 25 < n) where
   none-said : (rows : List (ℕ × List ℕ)) → allGiven rows ≡ true → said n rows ≡ []
   none-said [] g = refl
   none-said (row ∷ rows) g =
-      let k : row .0 ≤ 24 = leb-true (row .0) 24 (and-left (leb (row .0) 24) (allGiven rows) g) in
-      rw (ne-eqb n (row .0) (λ e. omega arith)) (none-said rows (and-right (leb (row .0) 24) (allGiven rows) g))
+      let k : row .0 ≤ 25 = leb-true (row .0) 25 (and-left (leb (row .0) 25) (allGiven rows) g) in
+      rw (ne-eqb n (row .0) (λ e. omega arith)) (none-said rows (and-right (leb (row .0) 25) (allGiven rows) g))
 
   pub sentence-past : sentence n ≡ []
   unfolding sentence

@@ -24,6 +24,7 @@ use text::refusal::BAD_TABLE;
 use text::refusal::BAD_TABLE_SAYS;
 use text::refusal::BAD_UTF8;
 use text::refusal::BAD_UTF8_SAYS;
+use text::refusal::BAD_V2_KEY;
 use text::refusal::BAD_V2_KEY_SAYS;
 use text::refusal::DONE;
 use text::refusal::DONE_SAYS;
@@ -43,6 +44,7 @@ use text::refusal::NOT_A_PATH;
 use text::refusal::NOT_A_PATH_SAYS;
 use text::refusal::NOT_ASCII;
 use text::refusal::NOT_ASCII_SAYS;
+use text::refusal::RETIRED_SAYS;
 use text::refusal::TOO_LARGE;
 use text::refusal::TOO_LARGE_SAYS;
 use text::refusal::TOO_LONG;
@@ -89,9 +91,9 @@ fn write_of_books(out: &mut [u8], at: usize, number: u8) -> usize
     }
 }
 
-// 17 to 24: of numbers, and of what came later.
+// 17 to 25: of numbers, and of what came later.
 fn write_of_numbers(out: &mut [u8], at: usize, number: u8) -> usize
-    requires { ⌜ (17 ≤ number) × (number ≤ 24) × (at + length (sentence number) ≤ length (now out)) ⌝ }
+    requires { ⌜ (17 ≤ number) × (number ≤ 25) × (at + length (sentence number) ≤ length (now out)) ⌝ }
     ensures { λ r. ⌜ r ≡ at + length (sentence number) ⌝ }
     ensures { λ _. ⌜ now (out .exit) ≡ put (now (out .entry)) at (sentence number) ⌝ }
 {
@@ -103,7 +105,8 @@ fn write_of_numbers(out: &mut [u8], at: usize, number: u8) -> usize
         BAD_UTF8 => write_text(out, at, &BAD_UTF8_SAYS),
         BAD_TABLE => write_text(out, at, &BAD_TABLE_SAYS),
         BAD_OWNER => write_text(out, at, &BAD_OWNER_SAYS),
-        _ => write_text(out, at, &BAD_V2_KEY_SAYS),
+        BAD_V2_KEY => write_text(out, at, &BAD_V2_KEY_SAYS),
+        _ => write_text(out, at, &RETIRED_SAYS),
     }
 }
 
@@ -122,7 +125,7 @@ pub fn write_sentence(out: &mut [u8], at: usize, number: u8) -> usize
     if number < 17 {
         return write_of_books(out, at, number);
     }
-    if number < 25 {
+    if number < 26 {
         return write_of_numbers(out, at, number);
     }
     at

@@ -99,6 +99,10 @@ badOwner = 23
 abbrev pub badV2Key : ℕ
 badV2Key = 24
 
+-- a write of a record of kind 8, which books no longer take
+abbrev pub retired : ℕ
+retired = 25
+
 -- each number with the sentence that tells whoever asked what was wrong and what to do about it; 0 has one too
 abbrev pub sentences : List (ℕ × List ℕ)
 sentences =
@@ -126,6 +130,7 @@ sentences =
     ∷ (badTable, bytes "the table is not the 512 numbers that filling it from this book gives: fill it again")
     ∷ (badOwner, bytes "the owner is neither 1 nor 2: give the number of the network that the record belongs to")
     ∷ (badV2Key, bytes "the bytes are not a client, a marker of 1, 2 or 3 and 8 more, or the kind is not one of these: give a whole packet key")
+    ∷ (retired, bytes "the path is of kind 8, which is written to books no more: derive a client's connections, and look up or remove such records")
     ∷ []
 
 -- the sentence in the first row of a number, and nothing where there is none

@@ -120,3 +120,8 @@ pub const BAD_V2_KEY: u8 = 24;
 
 pub const BAD_V2_KEY_SAYS: [u8; 118] =
     *b"the bytes are not a client, a marker of 1, 2 or 3 and 8 more, or the kind is not one of these: give a whole packet key";
+
+pub const RETIRED: u8 = 25;
+
+pub const RETIRED_SAYS: [u8; 123] =
+    *b"the path is of kind 8, which is written to books no more: derive a client's connections, and look up or remove such records";

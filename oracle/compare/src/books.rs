@@ -138,8 +138,8 @@ impl<'a> Chance<'a> {
         for path in &self.paths[..used.min(self.paths.len())] {
             let value = vec![self.random.word() as u8; self.random.of(&SIZES)];
             let owner = self.random.of(&OWNERS);
-            let mut write = |owner| book.write(owner, Manner::Plain, &path.exact(), &value);
-            let _ = write(owner).or_else(|_| write(3 - owner));
+            let mut enter = |owner| book.enter(owner, &path.exact(), &value);
+            let _ = enter(owner).or_else(|_| enter(3 - owner));
         }
         book
     }
@@ -363,7 +363,7 @@ fn loose(set: &mut Set, size: Size) {
             let (path, owner) = (Spelt::of(kind, &mut random), random.of(&OWNERS));
             let without = Book::empty(2, [1, 1]);
             let mut with = without.clone();
-            let _ = with.write(random.of(&OWNERS), Manner::Plain, &path.exact(), &[1; 33]);
+            let _ = with.enter(random.of(&OWNERS), &path.exact(), &[1; 33]);
             for text in [path.exact(), path.loose(), path.spelling(&mut random)] {
                 for manner in Manner::BOTH {
                     each_call(set, &with.bytes(), owner, manner, &text);

@@ -2,7 +2,9 @@
 //! that are near each other, full books, lists with clearings among other calls, and what is refused.
 use std::collections::BTreeSet;
 
-use model::book::{Book, Call, Given, Manner, Version, MOST, OWNERS, STATE, STATES, VALUE};
+use model::book::{
+    kind_of, Book, Call, Given, Manner, Version, MOST, OWNERS, STATE, STATES, VALUE,
+};
 use model::path::{read, render};
 use model::pool::filled;
 use model::random::Random;
@@ -51,7 +53,7 @@ fn book_of(keys: &BTreeSet<(u8, Vec<u8>)>, more: usize) -> Book {
     let mut book = Book::empty(slots, quotas);
     for (at, (owner, key)) in keys.iter().enumerate() {
         let value = vec![at as u8; 1 + at % VALUE];
-        book.write(*owner, Manner::Plain, key, &value).expect("it has room");
+        book.enter(*owner, key, &value).expect("it has room");
     }
     book
 }
@@ -147,16 +149,12 @@ fn full(set: &mut Set, size: Size) {
         while keys.len() > MOST {
             keys.pop_last();
         }
-        let states = keys.iter().filter(|(_, key)| kind_of(key) == Some(STATE)).count();
+        let states = keys.iter().filter(|(_, key)| kind_of(key) == STATE).count();
         for keep in keeps(states) {
             let mut lent = Lent::new(set, &book_of(&keys, 0).bytes());
             clear(set, &mut lent, owner, CLIENT, keep);
         }
     }
-}
-
-fn kind_of(key: &[u8]) -> Option<u8> {
-    read(Mode::Plain, key).ok().map(|reading| reading.kind)
 }
 
 /// A client that may be a height.
@@ -268,7 +266,7 @@ impl Chance<'_> {
         let mut book = Book::empty(slots, quotas);
         for _ in 0..self.0.below(2 * slots) {
             let value = vec![self.0.word() as u8; 1 + self.0.below(VALUE)];
-            let _ = book.write(self.0.of(&OWNERS), Manner::Plain, &self.key(), &value);
+            let _ = book.enter(self.0.of(&OWNERS), &self.key(), &value);
         }
         book
     }

@@ -24,7 +24,7 @@ fn old(random: &mut Random, version: Version, used: usize, slots: usize) -> Book
     while slots - book.free()[0] < used {
         let length = if version == Version::One { 32 } else { random.of(&SIZES) };
         let value: Vec<u8> = (0..length).map(|_| random.word() as u8).collect();
-        book.write(1, Manner::Plain, &Spelt::chance(random).exact(), &value).expect("it has room");
+        book.enter(1, &Spelt::chance(random).exact(), &value).expect("it has room");
     }
     book
 }

@@ -21,6 +21,7 @@ pub mod packets;
 pub mod page;
 pub mod paths;
 pub mod renderings;
+pub mod retired;
 pub mod set;
 pub mod told;
 pub mod typed;
@@ -63,4 +64,5 @@ pub const FAMILIES: &[Sets] = &[
     clearings::SETS,
     conversions::SETS,
     many::SETS,
+    retired::SETS,
 ];

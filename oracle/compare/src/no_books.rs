@@ -78,7 +78,7 @@ fn full(slots: usize, random: &mut Random) -> Vec<u8> {
     while book.free() != [0, 0] {
         let value = vec![9; random.of(&SIZES)];
         for owner in OWNERS {
-            let _ = book.write(owner, Plain, &path.exact(), &value);
+            let _ = book.enter(owner, &path.exact(), &value);
         }
         path = Spelt::chance(random);
     }

@@ -1,5 +1,5 @@
-//! The section 'The book' of document 01, with requests L4, L6, L10 and L13: a map from owners and renderings to values, and
-//! its bytes.
+//! The section 'The book' of document 01, with requests L4, L6, L10, L13 and L14: a map from owners and renderings to values,
+//! and its bytes.
 use std::collections::BTreeMap;
 use std::ops::RangeInclusive;
 
@@ -8,7 +8,7 @@ use crate::many;
 use crate::path::{self, read_with_key};
 use crate::{
     hold, Mode, Refusal, ABSENT, BAD_BOOK, BAD_LENGTH, BAD_OWNER, FULL, KEY_TOO_LONG, LOOSE,
-    NO_ROOM,
+    NO_ROOM, RETIRED,
 };
 
 pub const KEY: usize = 255;
@@ -100,6 +100,9 @@ pub const STATE: u8 = 5;
 /// The kinds of a consensus state, its processed time and its processed height.
 pub const STATES: RangeInclusive<u8> = STATE..=STATE + 2;
 
+/// The kind of a client's connections, which is written no more.
+pub const CONNECTIONS: u8 = 8;
+
 /// How a call takes its text: a plain one only where it is its own key, a lenient one in every spelling.
 #[derive(Clone, Copy, Debug, PartialEq, Eq)]
 pub enum Manner {
@@ -176,7 +179,7 @@ impl Book {
         self.records.keys()
     }
 
-    /// 23, 1, 2, 3, in a plain call 20, 10, 6, 11.
+    /// 23, 1, 2, 3, in a plain call 20, 10, 25, 6, 11.
     pub fn write(
         &mut self,
         owner: u8,
@@ -184,8 +187,15 @@ impl Book {
         text: &[u8],
         value: &[u8],
     ) -> Result<(), Refusal> {
-        let place = place(owner, manner, text)?;
+        let (owner, key) = place(owner, manner, text)?;
+        hold(kind_of(&key) != CONNECTIONS, RETIRED)?;
         hold((1..=VALUE).contains(&value.len()), BAD_LENGTH)?;
+        self.enter(owner, &key, value)
+    }
+
+    /// A record of any kind, as an earlier release of the library wrote it too. 11.
+    pub fn enter(&mut self, owner: u8, key: &[u8], value: &[u8]) -> Result<(), Refusal> {
+        let place = (owner, key.to_vec());
         let full = self.free()[usize::from(owner) - 1] == 0;
         hold(!full || self.records.contains_key(&place), FULL)?;
         self.records.insert(place, value.to_vec());
@@ -292,6 +302,11 @@ fn pair_of(key: &[u8], client: &[u8], kinds: RangeInclusive<u8>) -> Option<[u64;
     let reading = path::read(Mode::Plain, key).expect("a key is a path");
     let of = kinds.contains(&reading.kind) && reading.first.of(key) == client;
     of.then_some(reading.numbers)
+}
+
+/// The kind of a key.
+pub fn kind_of(key: &[u8]) -> u8 {
+    path::read(Mode::Plain, key).expect("a key is a path").kind
 }
 
 /// Whether a buffer is a book.

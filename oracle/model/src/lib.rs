@@ -40,6 +40,7 @@ pub const BAD_UTF8: Refusal = 21;
 pub const BAD_TABLE: Refusal = 22;
 pub const BAD_OWNER: Refusal = 23;
 pub const BAD_V2_KEY: Refusal = 24;
+pub const RETIRED: Refusal = 25;
 
 /// What may be wrong with a number. The refusals that have a place.
 pub const NUMBER_FAULTS: RangeInclusive<Refusal> = NO_DIGITS..=TOO_LARGE;

@@ -1,4 +1,4 @@
-//! Document 01's sentences on the book, and those of requests L10 and L13, asked of the model.
+//! Document 01's sentences on the book, and those of requests L10, L13 and L14, asked of the model.
 use model::book::Manner::{Lenient, Plain};
 use model::book::{is_book, key, Book, Buffer, Call, Given, Manner, Version, HEAD, OWNERS, SLOT};
 use model::book::{Quotas, VALUE};
@@ -8,7 +8,7 @@ use model::spelling::{odd, Spelt};
 use model::{
     ABSENT, BAD_BOOK, BAD_LENGTH, BAD_OWNER, FULL, KEY_TOO_LONG, NOT_ASCII, NOT_A_DIGIT, NOT_A_PATH,
 };
-use model::{NO_DIGITS, NO_ROOM, TOO_LARGE, TOO_LONG};
+use model::{NO_DIGITS, NO_ROOM, RETIRED, TOO_LARGE, TOO_LONG};
 
 const LOOSE: &[u8] = b"clients/07-tendermint-4/consensusStates/007-+2";
 const EXACT: &[u8] = b"clients/07-tendermint-4/consensusStates/7-2";
@@ -177,7 +177,7 @@ fn clearing_of_others() {
         "4/clientState", "4/connections", "4/consensusStates/7-2", "40/consensusStates/7-2",
         "/consensusStates/7-2",
     ] {
-        book.write(1, Plain, format!("clients/07-tendermint-{text}").as_bytes(), &ONE).unwrap();
+        book.enter(1, format!("clients/07-tendermint-{text}").as_bytes(), &ONE).unwrap();
     }
     book.write(2, Plain, EXACT, &ONE).unwrap();
     let whole = book.clone();
@@ -196,6 +196,41 @@ fn clearing_of_others() {
     assert_eq!(book.lookup(1, Plain, EXACT, VALUE), Err(ABSENT));
     assert_eq!(book.write(1, Plain, EXACT, &ONE), Ok(()));
     assert_eq!(book, whole);
+}
+
+/// Request L14: no record of kind 8 is written and none replaced, 25 after 10 and before 6; those that a book holds are looked up,
+/// removed, converted and counted towards the quota.
+#[test]
+fn kind_8_is_retired() {
+    let connections = b"clients/07-tendermint-4/connections";
+    for version in [Version::One, Version::Two] {
+        let mut old = Book::ones(1);
+        old.enter(1, connections, &ONE).unwrap();
+        let mut buffer = Buffer::of(&[7; Version::Two.size(1)]);
+        let second = old.bytes_of(Version::Two);
+        if version == Version::One {
+            let call = Call::Convert(old.bytes_of(version));
+            assert_eq!(buffer.act(&call), Ok(Given::Nothing));
+            assert_eq!(buffer.bytes(), second);
+        }
+        let mut buffer = Buffer::of(&[7; HEAD + SLOT]);
+        assert_eq!(buffer.act(&Call::ConvertOwners(second, [1, 0])), Ok(Given::Nothing));
+        let mut book = Book::of(&buffer.bytes()).unwrap();
+        let whole = book.clone();
+        for manner in Manner::BOTH {
+            for length in [0, 1, VALUE, VALUE + 1] {
+                assert_eq!(book.write(1, manner, connections, &vec![2; length]), Err(RETIRED));
+                assert_eq!(book.write(2, manner, connections, &vec![2; length]), Err(RETIRED));
+                assert_eq!(book.write(3, manner, connections, &vec![2; length]), Err(BAD_OWNER));
+            }
+        }
+        assert_eq!(book, whole);
+        assert_eq!(book.write(1, Plain, b"connections/connection-0", &ONE), Err(FULL));
+        assert_eq!(book.lookup(1, Plain, connections, VALUE), Ok(ONE.to_vec()));
+        assert_eq!(book.remove(1, Plain, connections), Ok(()));
+        assert_eq!(book.write(1, Plain, connections, &ONE), Err(RETIRED));
+        assert_eq!(book.write(1, Plain, b"connections/connection-0", &ONE), Ok(()));
+    }
 }
 
 /// One text under two owners is two paths, and each owner sees its own records alone.

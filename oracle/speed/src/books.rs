@@ -12,11 +12,13 @@ use crate::family::{keep, Family};
 const RECORDS: [usize; 4] = [1, 10, 50, 200];
 
 /// The i-th key: the kinds in turn from 5 on, and for each turn another client, connection, port and
-/// channel. Kinds 1 to 3 have one key each, in whose place later turns take 5 to 7.
+/// channel. Kinds 1 to 3 have one key each, in whose place later turns take 5 to 7. In the place of 8, which the node derives and
+/// writes no more, stands one more of 18.
 fn key(i: usize) -> Vec<u8> {
     let turn = i / KINDS.len();
     let kind = match (i + 4) % KINDS.len() + 1 {
         kind @ 1..=3 if turn > 0 => kind + 4,
+        8 => 18,
         kind => kind,
     };
     let number = 4_200_000 + 37 * i as u64;

@@ -214,8 +214,10 @@ impl<'a> Book<'a> {
         Ok([ones, all - ones])
     }
 
-    /// Adds a record of an owner's, or replaces its value, which has from 1 to [`BOOK_VALUE`] bytes. The text is its own key.
-    #[doc = errors!(BadBook, path, Loose, KeyTooLong, BadLength, Full)]
+    /// Adds a record of an owner's, or replaces its value, which has from 1 to [`BOOK_VALUE`] bytes. The text is its own key, and no
+    /// [`ClientConnection`](crate::Path::ClientConnection): such records are looked up and removed like others, and written no
+    /// more.
+    #[doc = errors!(BadBook, path, Loose, KeyTooLong, Retired, BadLength, Full)]
     pub fn write(
         &mut self,
         owner: Owner,
@@ -245,7 +247,7 @@ impl<'a> Book<'a> {
     /// As [`write`](Self::write), under the key of the text however its numbers are spelled, which is the answer: for
     /// importers that pad their heights. Others use `write`, and learn by [`Loose`](Refusal::Loose) that their text is
     /// no key.
-    #[doc = errors!(BadBook, path, KeyTooLong, BadLength, Full)]
+    #[doc = errors!(BadBook, path, KeyTooLong, Retired, BadLength, Full)]
     pub fn write_lenient(
         &mut self,
         owner: Owner,

@@ -567,7 +567,8 @@ pub fn book_new(book: &mut [u8], quota1: u16, quota2: u16) -> u8 {
 }
 
 /// The owner's text, which is its own rendering, holds the value from now on, anew or in place of what it held:
-/// [9](crate::Refusal::BadBook), [23](crate::Refusal::BadOwner), [1](crate::Refusal::TooLong), [2](crate::Refusal::NotAscii), [3](crate::Refusal::NotAPath) ([17](crate::Refusal::NoDigits), [18](crate::Refusal::NotADigit), [19](crate::Refusal::TooLarge)), [20](crate::Refusal::Loose), [10](crate::Refusal::KeyTooLong), [6](crate::Refusal::BadLength), then [11](crate::Refusal::Full) where it is new and the owner has as many records as its quota.
+/// [9](crate::Refusal::BadBook), [23](crate::Refusal::BadOwner), [1](crate::Refusal::TooLong), [2](crate::Refusal::NotAscii), [3](crate::Refusal::NotAPath) ([17](crate::Refusal::NoDigits), [18](crate::Refusal::NotADigit), [19](crate::Refusal::TooLarge)), [20](crate::Refusal::Loose), [10](crate::Refusal::KeyTooLong), [25](crate::Refusal::Retired) where it is of kind 8, [6](crate::Refusal::BadLength), then [11](crate::Refusal::Full) where it is new and the owner has as many records as its
+/// quota.
 pub fn book_write(book: &mut [u8], owner: u8, text: &[u8], value: &[u8]) -> u8 {
     // SAFETY: each pointer and count are those of one live slice.
     unsafe { c::hp_book_write(book.as_mut_ptr(), book.len(), owner, text.as_ptr(), text.len(), value.as_ptr(), value.len()) }
@@ -586,7 +587,8 @@ pub fn book_lookup(book: &[u8], owner: u8, text: &[u8], out: &mut [u8]) -> Writt
     unsafe { c::hp_book_lookup(book.as_ptr(), book.len(), owner, text.as_ptr(), text.len(), out.as_mut_ptr(), out.len()) }
 }
 
-/// As hp_book_write, on the rendering of the text, for importers that pad their heights: [9](crate::Refusal::BadBook), [23](crate::Refusal::BadOwner), [1](crate::Refusal::TooLong), [2](crate::Refusal::NotAscii), [3](crate::Refusal::NotAPath) ([17](crate::Refusal::NoDigits), [18](crate::Refusal::NotADigit), [19](crate::Refusal::TooLarge)), [10](crate::Refusal::KeyTooLong), [6](crate::Refusal::BadLength), [11](crate::Refusal::Full).
+/// As hp_book_write, on the rendering of the text, for importers that pad their heights:
+/// [9](crate::Refusal::BadBook), [23](crate::Refusal::BadOwner), [1](crate::Refusal::TooLong), [2](crate::Refusal::NotAscii), [3](crate::Refusal::NotAPath) ([17](crate::Refusal::NoDigits), [18](crate::Refusal::NotADigit), [19](crate::Refusal::TooLarge)), [10](crate::Refusal::KeyTooLong), [25](crate::Refusal::Retired), [6](crate::Refusal::BadLength), [11](crate::Refusal::Full).
 pub fn book_write_lenient(book: &mut [u8], owner: u8, text: &[u8], value: &[u8]) -> u8 {
     // SAFETY: each pointer and count are those of one live slice.
     unsafe { c::hp_book_write_lenient(book.as_mut_ptr(), book.len(), owner, text.as_ptr(), text.len(), value.as_ptr(), value.len()) }

@@ -53,6 +53,8 @@ pub enum Refusal {
     BadOwner = 23,
     /// 24: the bytes are not a client, a marker of 1, 2 or 3 and 8 more, or the kind is not one of these: give a whole packet key.
     BadV2Key = 24,
+    /// 25: the path is of kind 8, which is written to books no more: derive a client's connections, and look up or remove such records.
+    Retired = 25,
     // Above, made by bin/interface.
 }
 
@@ -84,6 +86,7 @@ impl Refusal {
             22 => Self::BadTable,
             23 => Self::BadOwner,
             24 => Self::BadV2Key,
+            25 => Self::Retired,
             // Above, made by bin/interface.
             _ => return None,
         })
@@ -121,6 +124,7 @@ impl Refusal {
             Self::BadTable => "the table is not the 512 numbers that filling it from this book gives: fill it again",
             Self::BadOwner => "the owner is neither 1 nor 2: give the number of the network that the record belongs to",
             Self::BadV2Key => "the bytes are not a client, a marker of 1, 2 or 3 and 8 more, or the kind is not one of these: give a whole packet key",
+            Self::Retired => "the path is of kind 8, which is written to books no more: derive a client's connections, and look up or remove such records",
             // Above, made by bin/interface.
         }
     }

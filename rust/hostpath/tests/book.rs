@@ -252,6 +252,32 @@ fn converted() {
     assert_eq!((BOOK_HEAD - BOOK_2_HEAD, BOOK_SLOT - BOOK_2_SLOT), (4, 1));
 }
 
+/// What an older book holds of kind 8 stays until it is removed, and is not written again.
+#[test]
+fn retired() {
+    let connections = b"clients/07-tendermint-4/connections";
+    let (mut between, mut new) = (vec![0; book_2_size(2)], [0; book_size(2)]);
+    for version in [1, 2] {
+        let mut old = older(version);
+        old[8] = connections.len() as u8;
+        old[9..9 + BOOK_KEY].fill(0);
+        old[9..9 + connections.len()].copy_from_slice(connections);
+        let mut book = Book::convert(&old, &mut between, &mut new, [1, 1]).unwrap();
+        let before = book.bytes().to_vec();
+        for (owner, length) in [(One, 0), (One, 1), (One, 64), (One, 65), (Two, 0), (Two, 1)] {
+            let value = vec![1; length];
+            assert_eq!(book.write(owner, connections, &value), Err(Refusal::Retired));
+            assert_eq!(book.write_lenient(owner, connections, &value), Err(Refusal::Retired));
+        }
+        assert_eq!(book.write(One, "connections/connection-0", "a digest"), Err(Refusal::Full));
+        assert_eq!(book.bytes(), before);
+        assert_eq!(held(&book, One, connections), Ok(vec![7; 32]));
+        assert_eq!(book.remove(One, connections), Ok(()));
+        assert_eq!(book.write(One, connections, "a digest"), Err(Refusal::Retired));
+        assert_eq!(book.write(One, "connections/connection-0", "a digest"), Ok(()));
+    }
+}
+
 /// A book of version 2 needs no room between, and a refusal leaves the buffer.
 #[test]
 fn conversions_refused() {

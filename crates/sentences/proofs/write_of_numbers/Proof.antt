@@ -36,10 +36,14 @@ write-text-requires-7 c κs = rw (c .before .before .match .keys7) at (c .before
 
 write-text-requires-8 : tie.Need-write-text-requires-8
 unfolding sentence
-write-text-requires-8 c κs =
+write-text-requires-8 c κs = rw (c .before .before .match .keys8) at (c .before .before .before .before .pre .2)
+
+write-text-requires-9 : tie.Need-write-text-requires-9
+unfolding sentence
+write-text-requires-9 c κs =
     let x = c .before .before .before .before .args in
-    let l = past 17 7 (x .number) (c .before .before .match .rest) (omega arith) in
-    let e : x .number ≡ 24 = omega arith in
+    let l = past 17 8 (x .number) (c .before .before .match .rest) (omega arith) in
+    let e : x .number ≡ 25 = omega arith in
     rw e at (c .before .before .before .before .pre .2)
 
 returns : tie.Need-returns
@@ -72,11 +76,15 @@ returns-7 c = rw (c .before .before .before .before .before .match .keys7) (c .b
 
 returns-8 : tie.Need-returns-8
 unfolding sentence
-returns-8 c =
+returns-8 c = rw (c .before .before .before .before .before .match .keys8) (c .before .before .write-text8 .ensures)
+
+returns-9 : tie.Need-returns-9
+unfolding sentence
+returns-9 c =
     let x = c .before .before .before .before .before .before .before .args in
-    let l = past 17 7 (x .number) (c .before .before .before .before .before .match .rest) (omega arith) in
-    let e : x .number ≡ 24 = omega arith in
-    rw e (c .before .before .write-text8 .ensures)
+    let l = past 17 8 (x .number) (c .before .before .before .before .before .match .rest) (omega arith) in
+    let e : x .number ≡ 25 = omega arith in
+    rw e (c .before .before .write-text9 .ensures)
 
 pub write-of-numbers-spec : {M : Type 1} → statement M
 write-of-numbers-spec =
@@ -99,6 +107,8 @@ write-of-numbers-spec =
     (λ c. search needs)
     write-text-requires-8
     (λ c. search needs)
+    write-text-requires-9
+    (λ c. search needs)
     returns
     (λ c. search needs)
     returns-2
@@ -113,4 +123,6 @@ write-of-numbers-spec =
     (λ c. search needs)
     returns-7
     (λ c. search needs)
-    returns-8)
+    returns-8
+    (λ c. search needs)
+    returns-9)
