@@ -1,17 +1,18 @@
--- How many digits a number has, by what it is compared with, and its digits two at a time.
+-- How many digits a number has, by what it is compared with, and a number cut in two before its last digits.
 -- Assumes nothing.
-use mathlib.Core.Path.{_≡_, _∙_}
-use Prim.Native.Nat.{ℕ, suc, _+_, _*_, _/_, _%_, _^_, _≤_, _<_}
-use native.Mathlib.Nat.{pow-suc, pow-le-pow-right}
+use mathlib.Core.Path.{_≡_, sym, ap, _∙_}
+use Prim.Native.Nat.{ℕ, zero, suc, _+_, _*_, _/_, _%_, _^_, _≤_, _<_}
+use native.Mathlib.Nat.{add-zero, add-suc, div-one, div-div-eq-div-mul, pow-suc, pow-succ', pow-le-pow-right}
 use native.Mathlib.Decide.{decLt}
 use native.Mathlib.Omega.{arith}
-use mathlib.Core.List.{List, [], _∷_, _++_, append-assoc}
+use mathlib.Core.List.{List, [], _∷_, _++_, append-assoc, append-nil}
+use lib.Arith.{mod-mul}
 use lib.Pow.{pow-add}
-use lib.ListN.{length, take, drop, length-append}
-use lib.Seq.{take-append-le, drop-at, length-take-le, take-take}
+use lib.ListN.{length}
 use Rattle.text.specs.Number.{width, digits, decimal}
 use Rattle.text.specs.NumberLaws.{width-more, width-within, below-pow, length-digits, length-decimal}
 use Rattle.text.specs.Put.{put}
+use Rattle.text.specs.PutLaws.{put-then}
 
 -- a number has more than k digits where it is no less than the least number that does
 at-least : (k n : ℕ) → 10 ^ k ≤ n → Dec (k < width n) → k < width n
@@ -34,49 +35,51 @@ pub decimal-two : (n : ℕ) → 10 ≤ n → n < 100 → decimal n ≡ digits 2 
 unfolding decimal
 decimal-two n l h = rw (← width-in 1 0 n l h)
 
--- the last two digits, and those before them
-pub digits-pair : (k n : ℕ) → digits (suc (suc k)) n ≡ digits k (n / 100) ++ digits 2 (n % 100)
+-- ---- a number cut before its last k digits
+some-tens : (k : ℕ) → 0 < 10 ^ k
+some-tens zero = omega arith
+some-tens (suc k) = omega (arith, pow-suc 10 k, some-tens k)
+
+-- one digit more than k cut off: what is left of a tenth, and what is cut off of it, with the last digit behind
+left-more : (k n : ℕ) → n / 10 ^ suc k ≡ n / 10 / 10 ^ k
+left-more k n = ap (λ (x : ℕ). n / x) (pow-succ' 10 k) ∙ sym (div-div-eq-div-mul n 10 (10 ^ k))
+
+off-more : (k n : ℕ) → n % 10 ^ suc k ≡ n / 10 % 10 ^ k * 10 + n % 10
+off-more k n = ap (λ (x : ℕ). n % x) (pow-suc 10 k) ∙ mod-mul n {m = 10 ^ k} {c = 10} (some-tens k) (omega arith)
+
+ten-and : (x q r : ℕ) → x ≡ q * 10 + r → r < 10 → (x / 10 ≡ q) × (x % 10 ≡ r)
+ten-and x q r e h = (omega arith, omega arith)
+
+pub digits-parts : (k w n : ℕ) → digits (w + k) n ≡ digits w (n / 10 ^ k) ++ digits k (n % 10 ^ k)
 unfolding digits
-digits-pair k n =
-    let a : n / 10 / 10 ≡ n / 100 = omega arith in
-    let b : n / 10 % 10 ≡ n % 100 / 10 % 10 = omega arith in
-    let c : n % 10 ≡ n % 100 % 10 = omega arith in
-    rw (a, b, c, append-assoc)
+digits-parts zero w n = rw (add-zero, div-one, append-nil)
+digits-parts (suc k) w n =
+    let last = ten-and (n % 10 ^ suc k) (n / 10 % 10 ^ k) (n % 10) (off-more k n) (omega arith) in
+    rw (add-suc, left-more k n, last .0, last .1, digits-parts k w (n / 10), append-assoc)
 
-pub decimal-pair : (n : ℕ) → 100 ≤ n → decimal n ≡ decimal (n / 100) ++ digits 2 (n % 100)
+width-parts : (k n : ℕ) → 10 ^ k ≤ n → width n ≡ width (n / 10 ^ k) + k
+width-parts zero n h = rw (div-one, add-zero)
+width-parts (suc k) n h =
+    let more : 10 ^ k ≤ n / 10 = omega (arith, pow-suc 10 k) in
+    rw (left-more k n) (omega (arith, width-more n (omega (arith, some-tens k)), width-parts k (n / 10) more))
+
+pub decimal-parts : (k n : ℕ) → 10 ^ k ≤ n → decimal n ≡ decimal (n / 10 ^ k) ++ digits k (n % 10 ^ k)
 unfolding decimal
-decimal-pair n h =
-    let e : n / 10 / 10 ≡ n / 100 = omega arith in
-    rw (width-more n (omega arith), width-more (n / 10) (omega arith), e) (digits-pair (width (n / 100)) n)
+decimal-parts k n h = rw (width-parts k n h) (digits-parts k (width (n / 10 ^ k)) n)
 
-pub length-pair : (n : ℕ) → 100 ≤ n → length (decimal n) ≡ length (decimal (n / 100)) + 2
-length-pair n h = rw (decimal-pair n h, length-append, length-digits 2 (n % 100))
+pub length-parts : (k n : ℕ) → 10 ^ k ≤ n → length (decimal n) ≡ length (decimal (n / 10 ^ k)) + k
+length-parts k n h = omega (arith, length-decimal n, length-decimal (n / 10 ^ k), width-parts k n h)
 
--- the last four
-decimal-four : (n : ℕ) → 10000 ≤ n → decimal n ≡ decimal (n / 10000) ++ digits 4 (n % 10000)
-decimal-four n h =
-    let a : n / 100 / 100 ≡ n / 10000 = omega arith in
-    let b : n / 100 % 100 ≡ n % 10000 / 100 = omega arith in
-    let c : n % 100 ≡ n % 10000 % 100 = omega arith in
-    rw (decimal-pair n (omega arith), decimal-pair (n / 100) (omega arith), a, b, c, append-assoc, digits-pair 2 (n % 10000))
+-- the higher part written up to p, and then the last k digits up to e, is all of it written: of j + k digits
+pub digits-written :
+    (j k : ℕ) (out : List ℕ) (at n : ℕ) (o o′ : List ℕ) (p e : ℕ) → at + (j + k) ≤ length out → (p ≡ at + j) × (o ≡ put out at (digits j (n / 10 ^ k))) → (e ≡ p + k) × (o′ ≡ put o p (digits k (n % 10 ^ k))) → (e ≡ at + (j + k)) × (o′ ≡ put out at (digits (j + k) n))
+digits-written j k out at n o o′ p e room x y =
+    let l = length-digits j (n / 10 ^ k) in
+    (omega (arith, x .0, y .0), rw (digits-parts k j n) (put-then out at (digits j (n / 10 ^ k)) (digits k (n % 10 ^ k)) o o′ p (x .1) (rw l (x .0)) (omega arith) (y .1)))
 
-pub width-four : (n : ℕ) → 10000 ≤ n → width n ≡ width (n / 10000) + 4
-width-four n h = rw (← length-decimal n, ← length-decimal (n / 10000), decimal-four n h, length-append, length-digits 4 (n % 10000))
-
--- a text is written from its end as it is from its start
-put-behind : (out : List ℕ) (at p : ℕ) (a b : List ℕ) → p ≡ at + length a → p + length b ≤ length out → put out at (a ++ b) ≡ put (put out p b) at a
-unfolding put
-put-behind out at p a b e h =
-    let l : length (take p out) ≡ p = length-take-le p out (omega arith) in
-    let t : take at (take p out ++ (b ++ drop (p + length b) out)) ≡ take at out = take-append-le at (take p out) _ (omega arith) ∙ take-take at p out (omega arith) in
-    let d : drop (at + length a) (take p out ++ (b ++ drop (p + length b) out)) ≡ b ++ drop (p + length b) out = drop-at (take p out) _ _ (l ∙ e) in
-    let q : at + (length a + length b) ≡ p + length b = omega arith in
-    rw (t, d, length-append, q, append-assoc)
-
--- the last four digits stored: the others are left to be written
-pub four-stored : (out out′ : List ℕ) (at p n : ℕ) → 10000 ≤ n → p + 4 ≡ at + width n → at + width n ≤ length out → out′ ≡ put out p (digits 4 (n % 10000)) → put out at (decimal n) ≡ put out′ at (decimal (n / 10000))
-four-stored out out′ at p n h e l s =
-    let few = length-decimal (n / 10000) in
-    let last = length-digits 4 (n % 10000) in
-    let w = width-four n h in
-    rw (decimal-four n h, s) (put-behind out at p (decimal (n / 10000)) (digits 4 (n % 10000)) (omega arith) (omega arith))
+-- and of a number
+pub decimal-written :
+    (k : ℕ) (out : List ℕ) (at n : ℕ) (o o′ : List ℕ) (p e : ℕ) → 10 ^ k ≤ n → at + length (decimal n) ≤ length out → (p ≡ at + length (decimal (n / 10 ^ k))) × (o ≡ put out at (decimal (n / 10 ^ k))) → (e ≡ p + k) × (o′ ≡ put o p (digits k (n % 10 ^ k))) → (e ≡ at + length (decimal n)) × (o′ ≡ put out at (decimal n))
+decimal-written k out at n o o′ p e h room x y =
+    let l = length-parts k n h in
+    (omega (arith, x .0, y .0), rw (decimal-parts k n h) (put-then out at (decimal (n / 10 ^ k)) (digits k (n % 10 ^ k)) o o′ p (x .1) (x .0) (omega arith) (y .1)))

@@ -208,48 +208,89 @@ fn write_four(out: &mut [u8], at: usize, r: u64) -> usize
     write_pair(out, next, r % 100)
 }
 
+// The same of eight digits.
+fn write_eight(out: &mut [u8], at: usize, r: u64) -> usize
+    requires { ⌜ (r < 100000000) × (at + 8 ≤ length (now out)) ⌝ }
+    ensures { λ e. ⌜ e ≡ at + 8 ⌝ }
+    ensures { λ _. ⌜ now (out .exit) ≡ put (now (out .entry)) at (digits 8 r) ⌝ }
+{
+    let next = write_four(out, at, r / 10000);
+    write_four(out, next, r % 10000)
+}
+
+// The same of sixteen digits.
+fn write_sixteen(out: &mut [u8], at: usize, r: u64) -> usize
+    requires { ⌜ (r < 10000000000000000) × (at + 16 ≤ length (now out)) ⌝ }
+    ensures { λ e. ⌜ e ≡ at + 16 ⌝ }
+    ensures { λ _. ⌜ now (out .exit) ≡ put (now (out .entry)) at (digits 16 r) ⌝ }
+{
+    let next = write_eight(out, at, r / 100000000);
+    write_eight(out, next, r % 100000000)
+}
+
 // Writes a number of one digit or two.
-fn write_first(out: &mut [u8], at: usize, m: u64) -> usize
-    requires { ⌜ (m < 100) × (at + length (decimal m) ≤ length (now out)) ⌝ }
-    ensures { λ e. ⌜ e ≡ at + length (decimal m) ⌝ }
-    ensures { λ _. ⌜ now (out .exit) ≡ put (now (out .entry)) at (decimal m) ⌝ }
+fn write_first(out: &mut [u8], at: usize, n: u64) -> usize
+    requires { ⌜ (n < 100) × (at + length (decimal n) ≤ length (now out)) ⌝ }
+    ensures { λ e. ⌜ e ≡ at + length (decimal n) ⌝ }
+    ensures { λ _. ⌜ now (out .exit) ≡ put (now (out .entry)) at (decimal n) ⌝ }
 {
-    if m < 10 {
-        return put::write_byte(out, at, 48 + m as u8);
+    if n < 10 {
+        return put::write_byte(out, at, 48 + n as u8);
     }
-    write_pair(out, at, m)
+    write_pair(out, at, n)
 }
 
-// Writes a number of one digit to four.
-fn write_few(out: &mut [u8], at: usize, m: u64) -> usize
-    requires { ⌜ (m < 10000) × (at + length (decimal m) ≤ length (now out)) ⌝ }
-    ensures { λ e. ⌜ e ≡ at + length (decimal m) ⌝ }
-    ensures { λ _. ⌜ now (out .exit) ≡ put (now (out .entry)) at (decimal m) ⌝ }
+// Writes a number of one digit to four, the part of it that is higher first.
+fn write_few(out: &mut [u8], at: usize, n: u64) -> usize
+    requires { ⌜ (n < 10000) × (at + length (decimal n) ≤ length (now out)) ⌝ }
+    ensures { λ e. ⌜ e ≡ at + length (decimal n) ⌝ }
+    ensures { λ _. ⌜ now (out .exit) ≡ put (now (out .entry)) at (decimal n) ⌝ }
 {
-    if m < 100 {
-        return write_first(out, at, m);
+    if n < 100 {
+        return write_first(out, at, n);
     }
-    let next = write_first(out, at, m / 100);
-    write_pair(out, next, m % 100)
+    let next = write_first(out, at, n / 100);
+    write_pair(out, next, n % 100)
 }
 
-// Writes the decimal digits of n from out[at] on, each straight to its final place, and returns the place after them. From
-// the last on, four are cut off at a time and made of two and two, so that no division gives one digit alone.
+// The same of one digit to eight.
+fn write_more(out: &mut [u8], at: usize, n: u64) -> usize
+    requires { ⌜ (n < 100000000) × (at + length (decimal n) ≤ length (now out)) ⌝ }
+    ensures { λ e. ⌜ e ≡ at + length (decimal n) ⌝ }
+    ensures { λ _. ⌜ now (out .exit) ≡ put (now (out .entry)) at (decimal n) ⌝ }
+{
+    if n < 10000 {
+        return write_few(out, at, n);
+    }
+    let next = write_few(out, at, n / 10000);
+    write_four(out, next, n % 10000)
+}
+
+// The same of nine digits to sixteen, whose higher part has eight at most.
+fn write_long(out: &mut [u8], at: usize, n: u64) -> usize
+    requires { ⌜ (100000000 ≤ n) × (n < 10000000000000000) × (at + length (decimal n) ≤ length (now out)) ⌝ }
+    ensures { λ e. ⌜ e ≡ at + length (decimal n) ⌝ }
+    ensures { λ _. ⌜ now (out .exit) ≡ put (now (out .entry)) at (decimal n) ⌝ }
+{
+    let next = write_more(out, at, n / 100000000);
+    write_eight(out, next, n % 100000000)
+}
+
+// Writes the decimal digits of n from out[at] on, those of its highest part first, and returns the place after them: how many
+// there are is known only when they are written.
 pub fn write_number(out: &mut [u8], at: usize, n: u64) -> usize
     requires { ⌜ at + length (decimal n) ≤ length (now out) ⌝ }
     ensures { λ r. ⌜ r ≡ at + length (decimal n) ⌝ }
     ensures { λ _. ⌜ now (out .exit) ≡ put (now (out .entry)) at (decimal n) ⌝ }
 {
-    let w = number_width(n);
-    let mut j = w;
-    let mut m = n;
-    while 10000 <= m {
-        j -= 4;
-        write_four(out, at + j, m % 10000);
-        m = m / 10000;
+    if n < 100000000 {
+        return write_more(out, at, n);
     }
-    write_few(out, at, m);
-    at + w
+    if n < 10000000000000000 {
+        return write_long(out, at, n);
+    }
+    let next = write_few(out, at, n / 10000000000000000);
+    write_sixteen(out, next, n % 10000000000000000)
 }
 
 // The number whose eight bytes, low byte first, are those of v, high byte first.

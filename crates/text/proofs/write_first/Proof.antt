@@ -10,23 +10,23 @@ use Rattle.text.proofs.write_first.Statement.{statement}
 use Rattle.text.proofs.write_first.Tie as tie
 
 write-byte-requires : tie.Need-write-byte-requires
-write-byte-requires c κs = let some = length-decimal-some (c .before .before .before .args .m) in search needs
+write-byte-requires c κs = let some = length-decimal-some (c .before .before .before .args .n) in search needs
 
 returns : tie.Need-returns
 returns c =
-    let m = c .before .before .before .before .before .before .args .m in
-    rw (decimal-small m (omega arith)) (c .before .before .write-byte .ensures)
+    let n = c .before .before .before .before .before .before .args .n in
+    rw (decimal-small n (omega arith)) (c .before .before .write-byte .ensures)
 
 write-pair-requires : tie.Need-write-pair-requires
 write-pair-requires c κs =
-    let m = c .before .before .before .args .m in
-    let two = ap length (decimal-two m (omega arith) (omega arith)) ∙ length-digits 2 m in
+    let n = c .before .before .before .args .n in
+    let two = ap length (decimal-two n (omega arith) (omega arith)) ∙ length-digits 2 n in
     search needs
 
 returns-2 : tie.Need-returns-2
 returns-2 c =
-    let m = c .before .before .before .before .before .before .args .m in
-    rw (decimal-two m (omega arith) (omega arith), length-digits 2 m) (c .before .before .write-pair .ensures)
+    let n = c .before .before .before .before .before .before .args .n in
+    rw (decimal-two n (omega arith) (omega arith), length-digits 2 n) (c .before .before .write-pair .ensures)
 
 pub write-first-spec : {M : Type 1} → statement M
 write-first-spec =
