@@ -4,17 +4,18 @@ use mathlib.Core.Path.{_≡_, refl, sym, _∙_}
 use mathlib.Core.Bool.{Bool, true, false, cond, not, _&&_, _||_, and-false}
 use Prim.Native.Nat.{ℕ, max, _+_, _≤_, _<_}
 use native.Mathlib.Nat.{add-zero}
+use native.Mathlib.Numerals.{add-one}
 use native.Mathlib.Omega.{arith}
 use mathlib.Core.List.{List, [], _∷_, _++_}
 use lib.Dec.{eqb, ltb, leb}
-use lib.ListN.{length, drop, getD, length-drop, drop-of-length-le}
-use lib.Seq.{getD-drop}
+use lib.ListN.{length, take, drop, getD, length-drop, drop-of-length-le}
+use lib.Seq.{take-suc, getD-drop}
 use borrow.Author.Tests.{lt-ltb, le-ltb, le-leb, lt-leb, eq-eqb, ne-eqb, eqb-true, eqb-false, ltb-true, leb-true}
 use Rattle.text.specs.Bytes.{bytes}
 use Rattle.text.specs.Fault.{numeralFault}
 use Rattle.text.specs.Number.{numeralOf}
 use Rattle.text.specs.Part.{every, ascii, startsWith}
-use Rattle.text.specs.PartLaws.{and-left, and-right, every-at, starts-append, starts-byte}
+use Rattle.text.specs.PartLaws.{and-left, and-right, every-at, every-append, starts-append, starts-byte}
 use Rattle.identifiers.specs.Check.{first, unless, among, identifierByte, charsOf, within, indexOf, namedOf, lengthOf, prefixLengthOf, namedIndexOf, Form, plain, indexed, Rule, client, clientType, formOf, checkOf, generalForm, generalOf}
 
 -- ---- of two checks, and of a test
@@ -65,6 +66,13 @@ low-bytes : (s : List ℕ) → every identifierByte s ≡ true → ascii s ≡ t
 unfolding ascii every
 low-bytes [] h = refl
 low-bytes (b ∷ s) h = rw (lt-ltb b 128 (identifier-low b (and-left (identifierByte b) _ h))) (low-bytes s (and-right (identifierByte b) _ h))
+
+-- the i bytes from place `at` on pass, and so does the one behind them
+pub run-one : (f : ℕ → Bool) (s : List ℕ) (at i : ℕ) → at + i < length s → every f (take i (drop at s)) ≡ true → f (getD s (at + i) 0) ≡ true → every f (take (i + 1) (drop at s)) ≡ true
+unfolding every
+run-one f s at i h k e =
+    let l : i < length (drop at s) = rw length-drop (omega arith) in
+    rw (add-one, take-suc (drop at s) i 0 l, getD-drop, every-append f (take i (drop at s)) (getD s (at + i) 0 ∷ []), k, e)
 
 -- ---- the bytes of a text
 module _ (s : List ℕ) where

@@ -6,9 +6,9 @@ use text::refusal::BAD_LENGTH;
 use text::refusal::BAD_PREFIX;
 use text::refusal::NOT_ASCII;
 ghost use mathlib.Core.Path.{_≡_};
-ghost use mathlib.Core.Bool.{true};
+ghost use mathlib.Core.Bool.{true, cond};
 ghost use Prim.Native.Nat.{max, _+_, _-_, _≤_};
-ghost use lib.ListN.{length, drop};
+ghost use lib.ListN.{length, take, drop};
 ghost use Rattle.text.specs.Fault.{fault, numeralPlace};
 ghost use Rattle.text.specs.Number.{numeralOf};
 ghost use Rattle.text.specs.Part.{every};
@@ -33,8 +33,73 @@ pub fn is_identifier_byte(b: u8) -> bool
     (HIGH >> (b - 64)) % 2 == 1
 }
 
-// Whether the text has only identifier bytes. At the first other byte the whole text tells which refusal it is.
-pub fn validate_identifier_chars(id: &[u8]) -> u8
+// v where it is so, and else what is known otherwise.
+fn told(so: bool, v: u8, otherwise: u8) -> u8
+    ensures { λ r. ⌜ r ≡ cond so v otherwise ⌝ }
+{
+    if so { v } else { otherwise }
+}
+
+// 0 for the bytes that most identifiers are made of, lower-case letters, digits, `-` and `.`, and 1 for the others.
+fn rare(b: u8) -> u8
+    ensures { λ r. ⌜ (r ≡ 0 → identifierByte b ≡ true) ⌝ }
+{
+    let high = told(b < b'{', 0, 1);
+    let letter = told(b < b'a', 1, high);
+    let digit = told(b < b':', 0, letter);
+    let slash = told(b == b'/', 1, digit);
+    told(b < b'-', 1, slash)
+}
+
+// Whether no byte of the n from `at` on is rare. The loop has no early exit, so that it can take many bytes at a time.
+fn none_rare(s: &[u8], at: usize, n: usize) -> bool
+    requires { ⌜ at + n ≤ length (now s) ⌝ }
+    ensures { λ r. ⌜ (r ≡ true → every identifierByte (take n (drop at (now (s .entry)))) ≡ true) ⌝ }
+{
+    let mut most: u8 = 0;
+    let mut i: usize = 0;
+    while i < n {
+        most = text::part::larger(most, rare(s[at + i]));
+        i += 1;
+    }
+    most == 0
+}
+
+// The same of all bytes of a text of sixteen or more, sixteen at a time. The last sixteen may be looked at twice, so that none
+// is left over.
+fn long_common(id: &[u8]) -> bool
+    requires { ⌜ 16 ≤ length (now id) ⌝ }
+    ensures { λ r. ⌜ (r ≡ true → every identifierByte (now (id .entry)) ≡ true) ⌝ }
+{
+    let last = id.len() - 16;
+    let mut i = 0;
+    while i < last {
+        if !none_rare(id, i, 16) {
+            return false;
+        }
+        i += 16;
+    }
+    none_rare(id, last, 16)
+}
+
+// The same of any text: of eight bytes to fifteen the first eight and the last. One of fewer is not looked at.
+fn all_common(id: &[u8]) -> bool
+    ensures { λ r. ⌜ (r ≡ true → every identifierByte (now (id .entry)) ≡ true) ⌝ }
+{
+    if id.len() < 8 {
+        return false;
+    }
+    if 16 <= id.len() {
+        return long_common(id);
+    }
+    if !none_rare(id, 0, 8) {
+        return false;
+    }
+    none_rare(id, id.len() - 8, 8)
+}
+
+// Whether the text has only identifier bytes, one at a time. At the first other byte the whole text tells which refusal it is.
+fn each_identifier(id: &[u8]) -> u8
     ensures { λ r. ⌜ r ≡ charsOf (now (id .entry)) ⌝ }
 {
     let mut i = 0;
@@ -48,6 +113,16 @@ pub fn validate_identifier_chars(id: &[u8]) -> u8
         i += 1;
     }
     0
+}
+
+// Whether the text has only identifier bytes; most texts have common ones alone.
+pub fn validate_identifier_chars(id: &[u8]) -> u8
+    ensures { λ r. ⌜ r ≡ charsOf (now (id .entry)) ⌝ }
+{
+    if all_common(id) {
+        return 0;
+    }
+    each_identifier(id)
 }
 
 // Whether a number of bytes lies between two limits.

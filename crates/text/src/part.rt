@@ -1,11 +1,18 @@
 // Tests on a text.
 ghost use mathlib.Core.Path.{_≡_};
 ghost use mathlib.Core.Bool.{cond};
-ghost use Prim.Native.Nat.{_+_, _≤_};
+ghost use Prim.Native.Nat.{_+_, _≤_, max};
 ghost use lib.Dec.{eqb};
 ghost use lib.ListN.{length, take, drop};
 ghost use Rattle.text.specs.Number.{Bytes, little};
 ghost use Rattle.text.specs.Part.{ascii, startsWith, same};
+
+// The larger of two bytes.
+pub fn larger(a: u8, b: u8) -> u8
+    ensures { λ r. ⌜ r ≡ max a b ⌝ }
+{
+    if a < b { b } else { a }
+}
 
 // The eight bytes of `s` from `at` on as a number, the first lowest: one load.
 pub fn eight(s: &[u8], at: usize) -> u64
