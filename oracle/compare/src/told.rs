@@ -46,11 +46,15 @@ pub fn by_reading(reading: &Reading, key: &[u8], text: &[u8]) -> Told {
     Told { kind, exact, first, second, numbers, key: Bytes(key.into()) }
 }
 
-/// By `hp_read` and `hp_key`; where the two refuse for different reasons 0, which no refusal has.
-pub fn by_library(text: &[u8]) -> Answer {
+/// By `hp_read` and `hp_key`, or the wide two; where the two refuse for different reasons 0, which no
+/// refusal has.
+pub fn by_library(mode: Mode, text: &[u8]) -> Answer {
     let (mut bytes, mut key) = ([0; READING], [0; MOST]);
-    let raw::Fault { refusal, place } = raw::read(text, &mut bytes);
-    let written = raw::key(text, &mut key);
+    let (fault, written) = match mode {
+        Mode::Plain => (raw::read(text, &mut bytes), raw::key(text, &mut key)),
+        Mode::Wide => (raw::wide_read(text, &mut bytes), raw::wide_key(text, &mut key)),
+    };
+    let raw::Fault { refusal, place } = fault;
     match refusal {
         0 => Ok(by_reading(&reading(&bytes), &key[..written.length as usize], text)),
         refusal if refusal == written.refusal => Err(Fault { refusal, place: place as usize }),

@@ -1,6 +1,7 @@
-//! `beside [-0] [FILE ..]`: the texts of files, or of standard input, through the original and through
-//! the library. A text ends at the end of a line, with -0 at a byte 0. The status is 1 where there is a
-//! difference that docs/DIFFERENCES.md does not list, and 2 where a file cannot be read.
+//! `beside [-0] [-c] [-w] [FILE ..]`: the texts of files, or of standard input, through the original and
+//! through the library. A text ends at the end of a line, with -0 at a byte 0; -c prints the counts alone,
+//! and -w asks the calls for letters beyond ASCII. The status is 1 where there is a difference that
+//! docs/DIFFERENCES.md does not list, and 2 where a file cannot be read.
 use std::fs::File;
 use std::io::{self, stderr, stdin, stdout, BufRead, BufReader, BufWriter, IsTerminal, Write};
 use std::process::ExitCode;
@@ -9,14 +10,16 @@ use std::time::{Duration, Instant};
 use compare::beside::{next, Beside, Counts};
 use compare::page::Page;
 use compare::told;
+use model::Mode;
 
 const LARGE: usize = 1 << 16;
 
 fn main() -> ExitCode {
-    let mut files: Vec<String> = std::env::args().skip(1).collect();
-    let zero = files.first().is_some_and(|word| word == "-0");
-    let end = if zero { 0 } else { b'\n' };
-    match run(&files.split_off(usize::from(zero)), end) {
+    let words: Vec<String> = std::env::args().skip(1).collect();
+    let switches = words.iter().take_while(|word| SWITCHES.contains(&word.as_str())).count();
+    let (switches, files) = words.split_at(switches);
+    let on = |switch: &str| switches.iter().any(|word| word == switch);
+    match run(files, on) {
         Ok(counts) => ExitCode::from(u8::from(counts.unlisted > 0)),
         Err(error) => {
             eprintln!("beside: {error}");
@@ -25,11 +28,15 @@ fn main() -> ExitCode {
     }
 }
 
-fn run(files: &[String], end: u8) -> io::Result<Counts> {
+const SWITCHES: [&str; 3] = ["-0", "-c", "-w"];
+
+fn run(files: &[String], on: impl Fn(&str) -> bool) -> io::Result<Counts> {
     let page = Page::default();
+    let end = if on("-0") { 0 } else { b'\n' };
+    let mode = if on("-w") { Mode::Wide } else { Mode::Plain };
     let out = BufWriter::with_capacity(LARGE, stdout().lock());
-    let (library, counts) = (told::by_library, Counts::default());
-    let mut beside = Beside { page: &page, library, out, counts };
+    let (library, counts, quiet) = (told::by_library, Counts::default(), on("-c"));
+    let mut beside = Beside { page: &page, mode, quiet, library, out, counts };
     let mut progress = Progress::new();
     if files.is_empty() {
         take("stdin", &mut stdin().lock(), end, &mut beside, &mut progress)?;
