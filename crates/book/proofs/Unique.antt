@@ -19,7 +19,7 @@ use Rattle.book.proofs.lookup.Reads as lookup
 use Rattle.book.proofs.check.slots_of.Reads as slots-of
 use Rattle.book.proofs.check.is_owner.Reads as is-owner
 use Rattle.book.proofs.check.sum_fits.Reads as sum-fits
-use Rattle.book.proofs.find.place.Reads as place
+use Rattle.book.proofs.find.keys_before.Reads as keys-before
 
 pub one-check-book : One check-book.Post
 one-check-book κs a r₁ r₂ s₁ s₂ p q = one-judged (formOf (a .1 .0)) (version-lawful (a .1 .0)) _ _ _ p q
@@ -45,5 +45,5 @@ one-is-owner κs a r₁ r₂ s₁ s₂ p q = p ∙ sym q
 pub one-sum-fits : One sum-fits.Post
 one-sum-fits κs a r₁ r₂ s₁ s₂ p q = one-told r₁ r₂ p q
 
-pub one-place : One place.Post
-one-place κs a r₁ r₂ s₁ s₂ p q = one-placed Current _ _ _ _ _ p q
+pub one-keys-before : One keys-before.Post
+one-keys-before κs a r₁ r₂ s₁ s₂ p q = one-placed Current _ _ _ _ _ p q

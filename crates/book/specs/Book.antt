@@ -10,7 +10,7 @@ use lib.ListN.{length}
 use Rattle.book_records.specs.Records.{Key, Sorted}
 use Rattle.book_records.specs.Act.{Rec, Meaning, Answer, act, countBy, fullBy}
 use Rattle.book_records.specs.Calls.{ownerOf}
-use Rattle.book_form.specs.Form.{Form, AllFit, AllExact, QuotasFit, Within, layout, place}
+use Rattle.book_form.specs.Form.{Form, AllFit, AllExact, QuotasFit, Within, layout, slotAt}
 use Rattle.book_form.specs.Version.{V3}
 use Rattle.book.specs.declared.check.BookAnswer.{BookAnswer}
 use Rattle.book.specs.declared.check.BookAnswer.the-variants.{Count, Nothing}
@@ -23,7 +23,7 @@ Current = V3
 pub record Sized (F : Form) (b : List ℕ) (C : ℕ) : Type 0 where
   pub least : 1 ≤ C
   pub most : C ≤ 200
-  pub size : length b ≡ place F C
+  pub size : length b ≡ slotAt F C
 
 pub record Book (F : Form) (b : List ℕ) : Type 0 where
   pub slots : ℕ

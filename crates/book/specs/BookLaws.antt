@@ -9,8 +9,8 @@ use lib.ListN.{length, take, drop, getElem?, take-append-drop}
 use lib.Seq.{drop-at, length-take-le}
 use Rattle.text.specs.PlaceLaws.{at-lt, drop-place}
 use Rattle.book_records.specs.Act.{Rec}
-use Rattle.book_form.specs.Form.{Form, AllFit, slots, layout, zeros, place, keyAt}
-use Rattle.book_form.specs.FormLaws.{Lawful, few, layout-parted, length-before, length-layout, layout-inj, fit-take, place-up, place-back}
+use Rattle.book_form.specs.Form.{Form, AllFit, slots, layout, zeros, slotAt, keyAt}
+use Rattle.book_form.specs.FormLaws.{Lawful, few, layout-parted, length-before, length-layout, layout-inj, fit-take, slot-up, place-back}
 use Rattle.book.specs.declared.check.BookAnswer.{BookAnswer}
 use Rattle.book.specs.declared.check.BookAnswer.the-variants.{Count, Nothing}
 use Rattle.book_form.specs.declared.Version.the-variants.{Three}
@@ -35,7 +35,7 @@ module _ (F : Form) (L : Lawful F) where
   pub few-records : (b : List ℕ) (x : Book F b) → length (x .records) ≤ x .slots
   few-records b x = few F L (x .slots) (x .extra) (x .records) (x .exact) (x .quotas) (x .within)
 
-  pub size-is : (b : List ℕ) (x : Book F b) → length b ≡ place F (x .slots)
+  pub size-is : (b : List ℕ) (x : Book F b) → length b ≡ slotAt F (x .slots)
   size-is b x = ap length (x .bytes) ∙ length-layout F L (x .slots) (x .extra) (x .records) (x .fit) (few-records b x)
 
   -- the bytes tell the number of slots, what the header says, and the records
@@ -44,7 +44,7 @@ module _ (F : Form) (L : Lawful F) where
     where
       same : x .slots ≡ y .slots
       same =
-          let e : place F (x .slots) ≡ place F (y .slots) = sym (size-is b x) ∙ size-is b y in
+          let e : slotAt F (x .slots) ≡ slotAt F (y .slots) = sym (size-is b x) ∙ size-is b y in
           omega (arith, place-back F L (x .slots) (y .slots) (omega arith), place-back F L (y .slots) (x .slots) (omega arith))
 
       told : (x .extra ≡ y .extra) × (x .records ≡ y .records)
@@ -59,19 +59,19 @@ module _ (F : Form) (L : Lawful F) where
 
   -- the numbers of a book with n records
   pub record Sizes (b : List ℕ) (n : ℕ) (x : Book F b) : Type 0 where
-    pub bytes : length b ≡ place F (x .slots)
+    pub bytes : length b ≡ slotAt F (x .slots)
     pub few : n ≤ x .slots
     pub most : n ≤ 200
-    pub used : place F n ≤ length b
+    pub used : slotAt F n ≤ length b
 
   pub sizes : (b : List ℕ) (n : ℕ) (h : Counts F b n) → Sizes b n (h .0)
   sizes b n h =
       let x = h .0 in
       let f : n ≤ x .slots = omega (arith, few-records b x, h .1) in
-      record { bytes = size-is b x; few = f; most = omega (arith, x .most); used = omega (arith, size-is b x, place-up F L n (x .slots) f) }
+      record { bytes = size-is b x; few = f; most = omega (arith, x .most); used = omega (arith, size-is b x, slot-up F L n (x .slots) f) }
 
   -- a slot of a book, and the record in it
-  pub slot-there : (b : List ℕ) (x : Book F b) (i : ℕ) (r : Rec) → getElem? (x .records) i ≡ some r → (tail : List ℕ) × (drop (place F i) b ≡ F .slot r ++ tail)
+  pub slot-there : (b : List ℕ) (x : Book F b) (i : ℕ) (r : Rec) → getElem? (x .records) i ≡ some r → (tail : List ℕ) × (drop (slotAt F i) b ≡ F .slot r ++ tail)
   slot-there b x i r e =
       let s = x .records in
       let a : List Rec = take i s in
@@ -80,10 +80,10 @@ module _ (F : Form) (L : Lawful F) where
       let n : ℕ = length (a ++ r ∷ d) in
       let tail : List ℕ = slots F d ++ zeros (F .width * (x .slots - n)) in
       let pre : List ℕ = F .header (x .extra) n ++ slots F a in
-      let lp : length pre ≡ place F i = length-before F L (x .extra) n a (fit-take F L i s (x .fit)) ∙ ap (place F) la in
-      (tail, ap (λ (l : List ℕ). drop (place F i) l) (x .bytes ∙ ap (layout F (x .slots) (x .extra)) (parted s i r e) ∙ layout-parted F L (x .slots) (x .extra) a r d) ∙ drop-at pre (F .slot r ++ tail) (place F i) lp)
+      let lp : length pre ≡ slotAt F i = length-before F L (x .extra) n a (fit-take F L i s (x .fit)) ∙ ap (slotAt F) la in
+      (tail, ap (λ (l : List ℕ). drop (slotAt F i) l) (x .bytes ∙ ap (layout F (x .slots) (x .extra)) (parted s i r e) ∙ layout-parted F L (x .slots) (x .extra) a r d) ∙ drop-at pre (F .slot r ++ tail) (slotAt F i) lp)
 
-  pub record-is : (b : List ℕ) (x : Book F b) (i : ℕ) (r : Rec) → getElem? (x .records) i ≡ some r → F .recordOf (drop (place F i) b) ≡ r
+  pub record-is : (b : List ℕ) (x : Book F b) (i : ℕ) (r : Rec) → getElem? (x .records) i ≡ some r → F .recordOf (drop (slotAt F i) b) ≡ r
   record-is b x i r e =
       let t = slot-there b x i r e in
       ap (F .recordOf) (t .1) ∙ L .record-of-slot r (t .0) (fit-at F (x .records) i r (x .fit) e)

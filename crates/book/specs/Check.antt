@@ -7,7 +7,7 @@ use Prim.Native.Nat.{ℕ, _+_, _<_, _≤_}
 use lib.ListN.{take, drop}
 use Rattle.text.specs.Order.{Before}
 use Rattle.book_records.specs.Calls.{isOwner}
-use Rattle.book_form.specs.Form.{Form, QuotasFit, place, keyAt, SlotOk}
+use Rattle.book_form.specs.Form.{Form, QuotasFit, slotAt, keyAt, SlotOk}
 use Rattle.book_form.specs.declared.Version.{Version}
 use Rattle.book_form.specs.declared.Version.the-variants.{One, Two, Three}
 use Rattle.book_form.specs.declared.Quotas.{Quotas}
@@ -37,7 +37,7 @@ module _ (F : Form) where
 
   -- slot i is a record's, and its key is exact
   pub record SlotGood (b : List ℕ) (i : ℕ) : Type 0 where
-    pub ok : SlotOk F (drop (place F i) b)
+    pub ok : SlotOk F (drop (slotAt F i) b)
     pub exact : F .Exact (keyAt F b i)
 
   abbrev pub SlotsGood : List ℕ → ℕ → Type 0

@@ -17,8 +17,8 @@ use Rattle.text.specs.PlaceLaws.{at-some, at-lt}
 use Rattle.book_records.specs.Records.{Sorted}
 use Rattle.book_records.specs.RecordLaws.{after-trans}
 use Rattle.book_records.specs.Act.{Rec}
-use Rattle.book_form.specs.Form.{Form, AllFit, AllExact, Within, slots, layout, zeros, place, keyAt, SlotOk}
-use Rattle.book_form.specs.FormLaws.{Lawful, length-before, place-up, blank-zeros, zeros-blank}
+use Rattle.book_form.specs.Form.{Form, AllFit, AllExact, Within, slots, layout, zeros, slotAt, keyAt, SlotOk}
+use Rattle.book_form.specs.FormLaws.{Lawful, length-before, slot-up, blank-zeros, zeros-blank}
 use Rattle.book_form.specs.Tells.{Tells}
 use Rattle.book.specs.Book.{Book, Counts}
 use Rattle.book.specs.BookLaws.{fit-at, few-records, size-is, slot-there, record-is, key-is}
@@ -102,7 +102,7 @@ module _ (F : Form) where
   abbrev pub WithinBy : (b : List ℕ) (n : ℕ) → Frame F b n → Type 0
   WithinBy b n c = (s : List Rec) → length s ≡ n → ((i : ℕ) (r : Rec) → getElem? s i ≡ some r → keyAt F b i ≡ r .0) → Within F (c .room) (c .extra) s
 
-  pub to-book : (b : List ℕ) (n : ℕ) (c : Frame F b n) → SlotsGood F b n → Rising F b n → WithinBy b n c → every (λ x. eqb x 0) (drop (place F n) b) ≡ true → Counts F b n
+  pub to-book : (b : List ℕ) (n : ℕ) (c : Frame F b n) → SlotsGood F b n → Rising F b n → WithinBy b n c → every (λ x. eqb x 0) (drop (slotAt F n) b) ≡ true → Counts F b n
   unfolding layout
   to-book b n c good order within blank =
       (record { slots = C; extra = c .extra; records = s; least = c .sized .least; most = c .sized .most; fit = fits n y ok; exact = exact-by s keys; sorted = sorted-by-next s next; quotas = c .quotas; within = within s len (λ i r e. here i r (omega (arith, at-lt s i r e, len)) e); bytes = bytes }, len)
@@ -119,7 +119,7 @@ module _ (F : Form) where
       len : length s ≡ n
       len = length-records n y
 
-      same : (i : ℕ) → drop (F .width * i) y ≡ drop (place F i) b
+      same : (i : ℕ) → drop (F .width * i) y ≡ drop (slotAt F i) b
       same i = drop-drop (F .width * i) (F .head) b
 
       ok : (i : ℕ) → i < n → SlotOk F (drop (F .width * i) y)
@@ -127,7 +127,7 @@ module _ (F : Form) where
 
       here : (i : ℕ) (r : Rec) → i < n → getElem? s i ≡ some r → keyAt F b i ≡ r .0
       here i r l e =
-          let er : F .recordOf (drop (place F i) b) ≡ r = let z = rw (same i) at (record-at n y i l) in cc in
+          let er : F .recordOf (drop (slotAt F i) b) ≡ r = let z = rw (same i) at (record-at n y i l) in cc in
           ap (λ (q : Rec). q .0) er
 
       keys : (i : ℕ) (r : Rec) → getElem? s i ≡ some r → F .Exact (r .0)
@@ -141,13 +141,13 @@ module _ (F : Form) where
           let o : Before (keyAt F b i) (keyAt F b (suc i)) = rw (add-one i) at (order i (omega arith)) in
           rw (here i r (omega arith) e, here (suc i) q l f) at o
 
-      unused : length (drop (place F n) b) ≡ F .width * (C - n)
+      unused : length (drop (slotAt F n) b) ≡ F .width * (C - n)
       unused =
           let e : F .width * C ≡ F .width * n + F .width * (C - n) = ap (λ (k : ℕ). F .width * k) (let q : C ≡ n + (C - n) = omega (arith, c .few) in q) ∙ omega arith in
-          omega (arith, length-drop (place F n) b, c .sized .size, e)
+          omega (arith, length-drop (slotAt F n) b, c .sized .size, e)
 
-      rest : drop (place F n) b ≡ zeros (F .width * (C - n))
-      rest = blank-zeros (drop (place F n) b) blank ∙ ap zeros unused
+      rest : drop (slotAt F n) b ≡ zeros (F .width * (C - n))
+      rest = blank-zeros (drop (slotAt F n) b) blank ∙ ap zeros unused
 
       bytes : b ≡ layout F C (c .extra) s
       bytes =
@@ -199,15 +199,15 @@ module _ (F : Form) (L : Lawful F) (b : List ℕ) (x : Book F b) where
       let q = at-some s (suc i) k in
       rw (key-is F L b x i (r .0) (r .1), add-one i, key-is F L b x (suc i) (q .0) (q .1)) (sorted-next s (x .sorted) i (r .0) (q .0) (r .1) (q .1))
 
-  book-rest : every (λ v. eqb v 0) (drop (place F (length s)) b) ≡ true
+  book-rest : every (λ v. eqb v 0) (drop (slotAt F (length s)) b) ≡ true
   unfolding layout
   book-rest =
       let n : ℕ = length s in
       let h : List ℕ = F .header (x .extra) n in
       let z : List ℕ = zeros (F .width * (x .slots - n)) in
-      let e : drop (place F n) b ≡ z =
-      ap (λ (l : List ℕ). drop (place F n) l) (x .bytes ∙ sym (append-assoc h (slots F s) z))
-      ∙ drop-at (h ++ slots F s) z (place F n) (length-before F L (x .extra) n s (x .fit)) in
+      let e : drop (slotAt F n) b ≡ z =
+      ap (λ (l : List ℕ). drop (slotAt F n) l) (x .bytes ∙ sym (append-assoc h (slots F s) z))
+      ∙ drop-at (h ++ slots F s) z (slotAt F n) (length-before F L (x .extra) n s (x .fit)) in
       ap (every (λ v. eqb v 0)) e ∙ zeros-blank (F .width * (x .slots - n))
 
 -- the same, where the count is known from the header: what a test denies makes no book
@@ -218,8 +218,8 @@ module _ (F : Form) (L : Lawful F) (b : List ℕ) (n : ℕ) (f : Frame F b n) wh
   pub records-are : (x : Book F b) → length (x .records) ≡ n
   records-are x = L .header-inj (x .extra) (f .extra) (length (x .records)) n (sym (front-is F L b x) ∙ f .front) .1
 
-  pub frame-room : (n ≤ 200) × (place F n ≤ length b)
-  frame-room = omega (arith, f .sized, f .few, place-up F L n (f .room) (f .few))
+  pub frame-room : (n ≤ 200) × (slotAt F n ≤ length b)
+  frame-room = omega (arith, f .sized, f .few, slot-up F L n (f .room) (f .few))
 
   pub frame-head : F .head ≤ length b
   frame-head = omega (arith, f .sized .size)
@@ -230,8 +230,8 @@ module _ (F : Form) (L : Lawful F) (b : List ℕ) (n : ℕ) (f : Frame F b n) wh
   pub no-rising : (r : Bool) → Tells r (Rising F b n) → r ≡ false → Book F b → ⊥
   no-rising r t e x = t .fails e (rw (records-are x) at (book-rising F L b x))
 
-  pub no-rest : (r : Bool) → r ≡ every (λ v. eqb v 0) (drop (place F n) b) → r ≡ false → Book F b → ⊥
+  pub no-rest : (r : Bool) → r ≡ every (λ v. eqb v 0) (drop (slotAt F n) b) → r ≡ false → Book F b → ⊥
   no-rest r t e x =
-      let g : every (λ v. eqb v 0) (drop (place F n) b) ≡ true = rw (records-are x) at (book-rest F L b x) in
+      let g : every (λ v. eqb v 0) (drop (slotAt F n) b) ≡ true = rw (records-are x) at (book-rest F L b x) in
       let z : _≡_ {A = ℕ} 0 1 = cc in
       omega arith

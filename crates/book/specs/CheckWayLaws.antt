@@ -22,7 +22,7 @@ use Rattle.book_records.specs.MannerLaws.{exact-yes, exact-no, exact-refused}
 use Rattle.book_form.specs.declared.Quotas.{Quotas}
 use Rattle.book_form.specs.declared.Version.{Version}
 use Rattle.book_form.specs.declared.Version.the-variants.{One, Two, Three}
-use Rattle.book_form.specs.Form.{QuotasFit, layout, place, keyAt, SlotOk}
+use Rattle.book_form.specs.Form.{QuotasFit, layout, slotAt, keyAt, SlotOk}
 use Rattle.book_form.specs.Counted.{stored}
 use Rattle.book_form.specs.Version.{numberOf, ownersOf, formOf, header, countIn, quotasIn, V3}
 use Rattle.book_form.specs.VersionLaws.{version-lawful, owned-key}
@@ -100,7 +100,7 @@ exact-back One b at h e = let z : at + 0 ≡ at = omega arith in (refl, rw z e)
 exact-back Two b at h e = let z : at + 0 ≡ at = omega arith in (refl, rw z e)
 exact-back Three b at h e = rw (owned-key b at h) at e
 
-module _ (v : Version) (b : List ℕ) (i at : ℕ) (ea : at ≡ place (formOf v) i) where
+module _ (v : Version) (b : List ℕ) (i at : ℕ) (ea : at ≡ slotAt (formOf v) i) where
   pub tells-slot : (r : Bool) → Tells r (SlotOk (formOf v) (drop at b)) → r ≡ false → Tells false (SlotGood (formOf v) b i)
   tells-slot r t e = tells-false (λ g. t .fails e (rw ea (g .ok)))
 
@@ -113,7 +113,7 @@ module _ (v : Version) (b : List ℕ) (i at : ℕ) (ea : at ≡ place (formOf v)
 
     pub tells-both : (r q : Bool) (l : ℕ) → SlotOk (formOf v) (drop at b) → q ≡ ownerOk v (getD b at 0) → q ≡ true → l ≡ ownersOf v .lead → Tells r (Exact (stored b (at + l))) → Tells r (SlotGood (formOf v) b i)
     tells-both r q l ok eq t el tells =
-        let o : SlotOk (formOf v) (drop (place (formOf v) i) b) = rw ea at ok in
+        let o : SlotOk (formOf v) (drop (slotAt (formOf v) i) b) = rw ea at ok in
         record {
           holds = λ e. record { ok = o; exact = rw ea at (exact-of v b at h (sym eq ∙ t) (rw el at (tells .holds e))) };
           fails = λ e g. tells .fails e (rw el (exact-back v b at h (rw ea (g .exact)) .1));
@@ -125,12 +125,12 @@ code-lt Ordering·lt h = refl
 code-lt Ordering·eq h = absurd (let z : ⊥ = omega arith in z)
 code-lt Ordering·gt h = absurd (let z : ⊥ = omega arith in z)
 
-module _ (v : Version) (b : List ℕ) (i at r : ℕ) (ea : at ≡ place (formOf v) i) (e : r ≡ code (cmp (formOf v .recordOf (drop at b) .0) (formOf v .recordOf (drop (at + formOf v .width) b) .0))) where
+module _ (v : Version) (b : List ℕ) (i at r : ℕ) (ea : at ≡ slotAt (formOf v) i) (e : r ≡ code (cmp (formOf v .recordOf (drop at b) .0) (formOf v .recordOf (drop (at + formOf v .width) b) .0))) where
   order-is : r ≡ code (cmp (keyAt (formOf v) b i) (keyAt (formOf v) b (i + 1)))
   order-is =
       e
       ∙ ap (λ (q : ℕ). code (cmp (formOf v .recordOf (drop q b) .0) (formOf v .recordOf (drop (at + formOf v .width) b) .0))) ea
-      ∙ ap (λ (q : ℕ). code (cmp (keyAt (formOf v) b i) (formOf v .recordOf (drop q b) .0))) (let q : at + formOf v .width ≡ place (formOf v) (i + 1) = omega (arith, ea) in q)
+      ∙ ap (λ (q : ℕ). code (cmp (keyAt (formOf v) b i) (formOf v .recordOf (drop q b) .0))) (let q : at + formOf v .width ≡ slotAt (formOf v) (i + 1) = omega (arith, ea) in q)
 
   pub rises-yes : r ≡ 0 → Rises (formOf v) b i
   rises-yes h = code-lt _ (sym order-is ∙ h)

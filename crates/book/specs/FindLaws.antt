@@ -20,7 +20,7 @@ use Rattle.book_records.specs.Records as records
 use Rattle.book_records.specs.SplitLaws.{AllBefore, put-between, put-over, get-between, get-over, del-over, sorted-at, sorted-drop, after-head, before-take}
 use Rattle.book_records.specs.Act.{Meaning, refuses, writes, removes, looks, says, done, gives, Rec, countBy}
 use Rattle.book_records.specs.Calls.{isOwner}
-use Rattle.book_form.specs.Form.{Form, AllFit, slots, zeros, layout, place, keyAt, inserted, removed}
+use Rattle.book_form.specs.Form.{Form, AllFit, slots, zeros, layout, slotAt, keyAt, inserted, removed}
 use Rattle.book_form.specs.FormLaws.{Lawful, fewer, layout-inserted, layout-parted, layout-replaced, layout-removed, fit-take, fit-drop}
 use Rattle.book_form.specs.Compare.{code}
 use Rattle.book.specs.Book.{Book, Counts, fullIn}
@@ -52,7 +52,7 @@ gt-trans k a b p h = cmp-flip a k ∙ rw (before-trans a b k p (flip-gt k b h))
 pub record Narrowed (F : Form) (b k : List ℕ) (n lo hi : ℕ) : Type 0 where
   pub order : lo ≤ hi
   pub within : hi ≤ n
-  pub size : place F n ≤ length b
+  pub size : slotAt F n ≤ length b
   pub below : (j : ℕ) → j < lo → cmp k (keyAt F b j) ≡ Ordering·gt
   pub rest : (j : ℕ) → hi ≤ j → j < n → cmp k (keyAt F b j) ≡ Ordering·gt → ⊥
 
@@ -128,20 +128,20 @@ module _ (F : Form) (L : Lawful F) (b k : List ℕ) (x : Book F b) (p : ℕ) (pl
     fy : AllFit F (y ∷ drop (suc p) s)
     fy = rw (drop-place s p y ey) at (fit-drop F L p s (x .fit))
 
-    pub looked-found : (out out₁ v : List ℕ) → v ≡ F .recordOf (drop (place F p) b) .1 → out₁ ≡ put out 0 v → Found F b (looks k) out (buffer.done (length v)) out₁
+    pub looked-found : (out out₁ v : List ℕ) → v ≡ F .recordOf (drop (slotAt F p) b) .1 → out₁ ≡ put out 0 v → Found F b (looks k) out (buffer.done (length v)) out₁
     looked-found out out₁ v ev w =
-        let there : F .recordOf (drop (place F p) b) .1 ≡ y .1 = ap (λ (q : Rec). q .1) (record-is F L b x p y ey) in
+        let there : F .recordOf (drop (slotAt F p) b) .1 ≡ y .1 = ap (λ (q : Rec). q .1) (record-is F L b x p y ey) in
         record { answer = gives (y .1); outcome = way-found x k (y .1) held; written = ap (λ (u : List ℕ). buffer.done (length u)) (ev ∙ there); value = w ∙ ap (put out 0) (ev ∙ there) }
 
-    pub write-replaced : (v b₁ : List ℕ) → F .Fit (k, v) → b₁ ≡ put b (place F p) (F .slot (k, v)) → Changed F b (writes k v) 0 b₁
+    pub write-replaced : (v b₁ : List ℕ) → F .Fit (k, v) → b₁ ≡ put b (slotAt F p) (F .slot (k, v)) → Changed F b (writes k v) 0 b₁
     write-replaced v b₁ hf w =
         let C = x .slots in
         let u : records.put s k v ≡ take p s ++ (k, v) ∷ drop (suc p) s = ap (λ (l : List Rec). records.put l k v) es ∙ put-over (take p s) y (drop (suc p) s) k v befores e₁ in
         let bs : b ≡ layout F C (x .extra) (take p s ++ y ∷ drop (suc p) s) = x .bytes ∙ ap (layout F C (x .extra)) es in
         let e₂ : b₁ ≡ layout F C (x .extra) (records.put s k v) =
         w
-        ∙ ap (λ (l : List ℕ). put l (place F p) (F .slot (k, v))) bs
-        ∙ ap (λ (n : ℕ). put (layout F C (x .extra) (take p s ++ y ∷ drop (suc p) s)) (place F n) (F .slot (k, v))) (sym lp)
+        ∙ ap (λ (l : List ℕ). put l (slotAt F p) (F .slot (k, v))) bs
+        ∙ ap (λ (n : ℕ). put (layout F C (x .extra) (take p s ++ y ∷ drop (suc p) s)) (slotAt F n) (F .slot (k, v))) (sym lp)
         ∙ layout-replaced F L C (x .extra) (take p s) y (k, v) (drop (suc p) s) (fit-take F L p s (x .fit)) (fy .0) hf
         ∙ sym (ap (layout F C (x .extra)) u) in
         record { answer = done; outcome = way-replaced x k v (y .1) b₁ held e₂; number = refl }

@@ -22,7 +22,7 @@ ghost use lib.Dec.{eqb};
 ghost use lib.ListN.{length, drop, getD};
 ghost use Rattle.text.specs.Part.{every};
 ghost use Rattle.book_records.specs.Calls.{Exact, isOwner};
-ghost use Rattle.book_form.specs.Form.{place, QuotasFit};
+ghost use Rattle.book_form.specs.Form.{slotAt, QuotasFit};
 ghost use Rattle.book_form.specs.Counted.{stored};
 ghost use Rattle.book_form.specs.Version.{formOf, ownersOf, V3};
 ghost use Rattle.book_form.specs.Tells.{Tells};
@@ -134,7 +134,7 @@ pub(crate) fn owner_ok(book: &[u8], at: usize, version: Version) -> bool
 
 // Whether slot i is a record's.
 pub(crate) fn slot_good(book: &[u8], i: usize, version: Version) -> bool
-    requires { ⌜ (i < 200) × (place (formOf version) (i + 1) ≤ length (now book)) ⌝ }
+    requires { ⌜ (i < 200) × (slotAt (formOf version) (i + 1) ≤ length (now book)) ⌝ }
     ensures { λ r. ⌜ Tells r (SlotGood (formOf version) (now (book .entry)) i) ⌝ }
 {
     let at = slot_at(version, i);
@@ -149,7 +149,7 @@ pub(crate) fn slot_good(book: &[u8], i: usize, version: Version) -> bool
 
 // Whether the first n slots are records'.
 pub(crate) fn slots_good(book: &[u8], n: usize, version: Version) -> bool
-    requires { ⌜ (n ≤ 200) × (place (formOf version) n ≤ length (now book)) ⌝ }
+    requires { ⌜ (n ≤ 200) × (slotAt (formOf version) n ≤ length (now book)) ⌝ }
     ensures { λ r. ⌜ Tells r (SlotsGood (formOf version) (now (book .entry)) n) ⌝ }
 {
     let mut i = 0;
@@ -164,7 +164,7 @@ pub(crate) fn slots_good(book: &[u8], n: usize, version: Version) -> bool
 
 // Whether the keys of the first n slots rise.
 pub(crate) fn rising(book: &[u8], n: usize, version: Version) -> bool
-    requires { ⌜ (n ≤ 200) × (place (formOf version) n ≤ length (now book)) ⌝ }
+    requires { ⌜ (n ≤ 200) × (slotAt (formOf version) n ≤ length (now book)) ⌝ }
     ensures { λ r. ⌜ Tells r (Rising (formOf version) (now (book .entry)) n) ⌝ }
 {
     let mut i = 0;
@@ -179,7 +179,7 @@ pub(crate) fn rising(book: &[u8], n: usize, version: Version) -> bool
 
 // How many of the first n slots of version 3 are owner 1's, which stand first.
 pub(crate) fn first_count(book: &[u8], n: usize) -> usize
-    requires { ⌜ (n ≤ 200) × (place V3 n ≤ length (now book)) ⌝ }
+    requires { ⌜ (n ≤ 200) × (slotAt V3 n ≤ length (now book)) ⌝ }
     requires { ⌜ SlotsGood V3 (now book) n × Rising V3 (now book) n ⌝ }
     ensures { λ r. ⌜ Parted V3 (now (book .entry)) n r ⌝ }
 {
@@ -198,7 +198,7 @@ pub(crate) fn first_count(book: &[u8], n: usize) -> usize
 
 // The same in each version: before version 3 all slots are owner 1's.
 pub(crate) fn first_of(book: &[u8], n: usize, version: Version) -> usize
-    requires { ⌜ (n ≤ 200) × (place (formOf version) n ≤ length (now book)) ⌝ }
+    requires { ⌜ (n ≤ 200) × (slotAt (formOf version) n ≤ length (now book)) ⌝ }
     requires { ⌜ SlotsGood (formOf version) (now book) n × Rising (formOf version) (now book) n ⌝ }
     ensures { λ r. ⌜ Parted (formOf version) (now (book .entry)) n r ⌝ }
 {
@@ -234,8 +234,8 @@ pub(crate) fn shares_ok(book: &[u8], n: usize, first: usize, version: Version) -
 
 // Whether all bytes behind the first n slots are zero.
 pub(crate) fn blank_after(book: &[u8], n: usize, version: Version) -> bool
-    requires { ⌜ (n ≤ 200) × (place (formOf version) n ≤ length (now book)) ⌝ }
-    ensures { λ r. ⌜ r ≡ every (λ b. eqb b 0) (drop (place (formOf version) n) (now (book .entry))) ⌝ }
+    requires { ⌜ (n ≤ 200) × (slotAt (formOf version) n ≤ length (now book)) ⌝ }
+    ensures { λ r. ⌜ r ≡ every (λ b. eqb b 0) (drop (slotAt (formOf version) n) (now (book .entry))) ⌝ }
 {
     let start = slot_at(version, n);
     let end = book.len();

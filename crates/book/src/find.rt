@@ -16,7 +16,7 @@ pub enum Spot {
 }
 
 // How many keys come before an owner's `key`, in a book with n records.
-pub fn place(book: &[u8], n: usize, owner: u8, key: &[u8]) -> usize
+pub fn keys_before(book: &[u8], n: usize, owner: u8, key: &[u8]) -> usize
     requires { ⌜ Counts Current (now book) n ⌝ }
     ensures { λ r. ⌜ Placed Current (now (book .entry)) (owner ∷ now (key .entry)) n r ⌝ }
 {
@@ -38,7 +38,7 @@ pub(crate) fn find(book: &[u8], n: usize, owner: u8, key: &[u8]) -> Spot
     requires { ⌜ Counts Current (now book) n ⌝ }
     ensures { λ r. ⌜ Spotted Current (now (book .entry)) (owner ∷ now (key .entry)) n r ⌝ }
 {
-    let p = place(book, n, owner, key);
+    let p = keys_before(book, n, owner, key);
     if p == n {
         return Spot::Free(p);
     }

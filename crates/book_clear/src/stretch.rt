@@ -1,6 +1,6 @@
 // The slots of a client's states, times and heights, which stand together in key order.
 use crate::role::note_of;
-use book::find::place;
+use book::find::keys_before;
 use book_form::HEAD;
 use book_form::SLOT;
 use book_form::key_at;
@@ -39,9 +39,9 @@ pub(crate) fn stretch_of(book: &[u8], n: usize, owner: u8, client: &[u8]) -> Str
 {
     let mut field = [0; 89];
     let slash = write_stem(&mut field, client, 47);
-    let from = place(book, n, owner, &field[0..slash]);
+    let from = keys_before(book, n, owner, &field[0..slash]);
     let zero = write_stem(&mut field, client, 48);
-    let stop = place(book, n, owner, &field[0..zero]);
+    let stop = keys_before(book, n, owner, &field[0..zero]);
     Stretch { from, stop }
 }
 

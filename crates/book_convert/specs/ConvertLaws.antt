@@ -11,8 +11,8 @@ use Rattle.text.specs.PlaceLaws.{at-some}
 use Rattle.text.specs.Put.{put}
 use Rattle.book_records.specs.Act.{Rec}
 use Rattle.book_form.specs.declared.Version.the-variants.{One, Two}
-use Rattle.book_form.specs.Form.{Form, AllFit, zeros, layout, place}
-use Rattle.book_form.specs.FormLaws.{Lawful, place-up}
+use Rattle.book_form.specs.Form.{Form, AllFit, zeros, layout, slotAt}
+use Rattle.book_form.specs.FormLaws.{Lawful, slot-up}
 use Rattle.book_form.specs.Counted.{counted, stored}
 use Rattle.book_form.specs.Version.{slot, V1, V2}
 use Rattle.book_form.specs.VersionLaws.{version-lawful}
@@ -58,9 +58,9 @@ module _ (F : Form) (L : Lawful F) (G : Form) (M : Lawful G) (old new : List ℕ
   -- record i is there to be read, and there is room for it
   pub record Copies (i : ℕ) : Type 0 where
     pub few : i < 200
-    pub from : place F i + F .width ≤ length old
-    pub to : place G i + G .width ≤ length new
-    pub fit : F .Fit (F .recordOf (drop (place F i) old))
+    pub from : slotAt F i + F .width ≤ length old
+    pub to : slotAt G i + G .width ≤ length new
+    pub fit : F .Fit (F .recordOf (drop (slotAt F i) old))
 
   pub copies : (i : ℕ) → i < n → Copies i
   copies i l =
@@ -69,8 +69,8 @@ module _ (F : Form) (L : Lawful F) (G : Form) (M : Lawful G) (old new : List ℕ
       let r = at-some (x .records) i (omega (arith, h .counts .1)) in
       record {
         few = omega (arith, z .most);
-        from = omega (arith, z .used, place-up F L (suc i) n l);
-        to = omega (arith, h .size, place-up G M (suc i) (x .slots) (omega (arith, z .few)));
+        from = omega (arith, z .used, slot-up F L (suc i) n l);
+        to = omega (arith, h .size, slot-up G M (suc i) (x .slots) (omega (arith, z .few)));
         fit = rw (record-is F L old x i (r .0) (r .1)) (fit-at F (x .records) i (r .0) (x .fit) (r .1));
       }
 
@@ -80,19 +80,19 @@ module _ (F : Form) (L : Lawful F) (G : Form) (M : Lawful G) (old new : List ℕ
     copy-start b₁ b₂ f k x =
         let s = map g (x .records) in
         let l : n ≡ length s = sym (length-map (x .records) g ∙ same-count x) in
-        written-none G M (x .slots) e s new b₁ b₂ (h .size ∙ ap (place G) (sym (same-slots x))) f (k ∙ ap (λ (m : ℕ). put b₁ 0 (G .header e m)) l)
+        written-none G M (x .slots) e s new b₁ b₂ (h .size ∙ ap (slotAt G) (sym (same-slots x))) f (k ∙ ap (λ (m : ℕ). put b₁ 0 (G .header e m)) l)
 
     -- record i is put behind those before it
-    pub copy-next : Refits F G g → (i : ℕ) → i < n → (r : Rec) → r ≡ F .recordOf (drop (place F i) old)
-        → (b b₁ : List ℕ) → Copying F G e g old i b → b₁ ≡ put b (place G i) (G .slot (g r)) → (j : ℕ) → j ≡ suc i → Copying F G e g old j b₁
+    pub copy-next : Refits F G g → (i : ℕ) → i < n → (r : Rec) → r ≡ F .recordOf (drop (slotAt F i) old)
+        → (b b₁ : List ℕ) → Copying F G e g old i b → b₁ ≡ put b (slotAt G i) (G .slot (g r)) → (j : ℕ) → j ≡ suc i → Copying F G e g old j b₁
     copy-next fits i l r er b b₁ c w j ej x =
         let s = x .records in
         let q = at-some s i (omega (arith, same-count x)) in
         let there : r ≡ q .0 = er ∙ record-is F L old x i (q .0) (q .1) in
         let m : i < x .slots = omega (arith, sizes F L old n (h .counts) .few, same-slots x) in
         w
-        ∙ ap (λ (y : List ℕ). put y (place G i) (G .slot (g r))) (c x)
-        ∙ ap (λ (y : Rec). put (written G (x .slots) e (map g s) i) (place G i) (G .slot (g y))) there
+        ∙ ap (λ (y : List ℕ). put y (slotAt G i) (G .slot (g r))) (c x)
+        ∙ ap (λ (y : Rec). put (written G (x .slots) e (map g s) i) (slotAt G i) (G .slot (g y))) there
         ∙ written-more G M (x .slots) e (map g s) (all-fit F G g fits s (x .fit)) i (g (q .0)) (at-map g s i (q .0) (q .1)) m
         ∙ ap (written G (x .slots) e (map g s)) (sym ej)
 
@@ -115,12 +115,12 @@ module _ (F : Form) (L : Lawful F) (old : List ℕ) (n : ℕ) (h : Counts F old 
   pub slots-most : C ≤ 200
   slots-most = omega (arith, slots-are, h .0 .most)
 
-  module _ (G : Form) (new : List ℕ) (at : ℕ) (ea : at ≡ place G C) where
-    pub size-other : (length new ≡ at → ⊥) → length new ≡ place G (h .0 .slots) → ⊥
-    size-other z q = z (q ∙ ap (place G) (sym slots-are) ∙ sym ea)
+  module _ (G : Form) (new : List ℕ) (at : ℕ) (ea : at ≡ slotAt G C) where
+    pub size-other : (length new ≡ at → ⊥) → length new ≡ slotAt G (h .0 .slots) → ⊥
+    size-other z q = z (q ∙ ap (slotAt G) (sym slots-are) ∙ sym ea)
 
     pub size-ready : length new ≡ at → Ready F G old n new
-    size-ready q = record { counts = h; size = q ∙ ea ∙ ap (place G) slots-are }
+    size-ready q = record { counts = h; size = q ∙ ea ∙ ap (slotAt G) slots-are }
 
 -- ---- version 1 into version 2
 pub plain-fits : Refits V1 V2 same
@@ -131,18 +131,18 @@ map-same [] = refl
 map-same (r ∷ s) = ap (λ (l : List Rec). r ∷ l) (map-same s)
 
 pub plain-next : (old new : List ℕ) (n : ℕ) → Ready V1 V2 old n new → (i : ℕ) → i < n
-    → (at : ℕ) → at ≡ place V1 i → (key value : List ℕ) → key ≡ stored old at → value ≡ take 32 (drop (at + 256) old)
-    → (to : ℕ) → to ≡ place V2 i → (b b₁ : List ℕ) → Copying V1 V2 tt same old i b → b₁ ≡ put b to (counted 255 key ++ counted 64 value) → Copying V1 V2 tt same old (i + 1) b₁
+    → (at : ℕ) → at ≡ slotAt V1 i → (key value : List ℕ) → key ≡ stored old at → value ≡ take 32 (drop (at + 256) old)
+    → (to : ℕ) → to ≡ slotAt V2 i → (b b₁ : List ℕ) → Copying V1 V2 tt same old i b → b₁ ≡ put b to (counted 255 key ++ counted 64 value) → Copying V1 V2 tt same old (i + 1) b₁
 unfolding slot
 plain-next old new n h i l at ea key value ek ev to et b b₁ c w =
-    let k : key ≡ stored old (place V1 i) = ek ∙ ap (stored old) ea in
-    let v : value ≡ take 32 (drop 256 (drop (place V1 i) old)) = ev ∙ ap (λ (m : ℕ). take 32 (drop (m + 256) old)) ea ∙ ap (λ (y : List ℕ). take 32 y) (sym (drop-drop 256 (place V1 i) old)) in
+    let k : key ≡ stored old (slotAt V1 i) = ek ∙ ap (stored old) ea in
+    let v : value ≡ take 32 (drop 256 (drop (slotAt V1 i) old)) = ev ∙ ap (λ (m : ℕ). take 32 (drop (m + 256) old)) ea ∙ ap (λ (y : List ℕ). take 32 y) (sym (drop-drop 256 (slotAt V1 i) old)) in
     copy-next V1 (version-lawful One) V2 (version-lawful Two) old new n h tt same plain-fits i l (key, value) (λ j. (k j, v j)) b b₁ c (w ∙ ap (λ (m : ℕ). put b m (counted 255 key ++ counted 64 value)) et) (i + 1) (omega arith)
 
 pub convert-none : (old new : List ℕ) → (Book V1 old → ⊥) → Converted old new 9 new
 convert-none old new n = convert.Converted.no-old n refl refl
 
-pub convert-other : (old new : List ℕ) (n : ℕ) → Counts V1 old n → (C : ℕ) → Slotted V1 old C → (at : ℕ) → at ≡ place V2 C → (length new ≡ at → ⊥) → Converted old new 4 new
+pub convert-other : (old new : List ℕ) (n : ℕ) → Counts V1 old n → (C : ℕ) → Slotted V1 old C → (at : ℕ) → at ≡ slotAt V2 C → (length new ≡ at → ⊥) → Converted old new 4 new
 convert-other old new n h C s at ea z = convert.Converted.other-size (h .0) (size-other V1 (version-lawful One) old n h C s V2 new at ea z) refl refl
 
 pub convert-done : (old new : List ℕ) (n : ℕ) → Ready V1 V2 old n new → (new₁ : List ℕ) → CopiedAs V1 V2 tt same old new₁ → Converted old new 0 new₁
@@ -165,9 +165,9 @@ one-converted (convert.Converted.no-old n e f) (convert.Converted.other-size y m
 one-converted (convert.Converted.no-old n e f) (convert.Converted.converted y m g k) = absurd (n y)
 one-converted (convert.Converted.other-size x n e f) (convert.Converted.no-old m g k) = absurd (m x)
 one-converted (convert.Converted.other-size x n e f) (convert.Converted.other-size y m g k) = (e ∙ sym g, f ∙ sym k)
-one-converted {old} (convert.Converted.other-size x n e f) (convert.Converted.converted y m g k) = absurd (n (m ∙ ap (place V2) (one-book V1 (version-lawful One) old y x .0)))
+one-converted {old} (convert.Converted.other-size x n e f) (convert.Converted.converted y m g k) = absurd (n (m ∙ ap (slotAt V2) (one-book V1 (version-lawful One) old y x .0)))
 one-converted (convert.Converted.converted x n e f) (convert.Converted.no-old m g k) = absurd (m x)
-one-converted {old} (convert.Converted.converted x n e f) (convert.Converted.other-size y m g k) = absurd (m (n ∙ ap (place V2) (one-book V1 (version-lawful One) old x y .0)))
+one-converted {old} (convert.Converted.converted x n e f) (convert.Converted.other-size y m g k) = absurd (m (n ∙ ap (slotAt V2) (one-book V1 (version-lawful One) old x y .0)))
 one-converted {old} (convert.Converted.converted x n e f) (convert.Converted.converted y m g k) =
     let o = one-book V1 (version-lawful One) old x y in
     (e ∙ sym g, f ∙ ap (λ (C : ℕ). layout V2 C tt (x .records)) (o .0) ∙ ap (layout V2 (y .slots) tt) (o .2) ∙ sym k)

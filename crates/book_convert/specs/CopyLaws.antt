@@ -11,7 +11,7 @@ use Rattle.text.specs.PlaceLaws.{at-lt, take-suc-at}
 use Rattle.text.specs.Put.{put}
 use Rattle.text.specs.PutLaws.{put-zero}
 use Rattle.book_records.specs.Act.{Rec}
-use Rattle.book_form.specs.Form.{Form, AllFit, zeros, slots, layout, place}
+use Rattle.book_form.specs.Form.{Form, AllFit, zeros, slots, layout, slotAt}
 use Rattle.book_form.specs.FormLaws.{Lawful, length-zeros, zeros-over, length-before, slots-append, fit-take}
 use Rattle.book_form.specs.MovesLaws.{over-parts}
 use Rattle.book.specs.BookLaws.{fit-at}
@@ -22,7 +22,7 @@ written F C e s i = F .header e (length s) ++ (slots F (take i s) ++ zeros (F .w
 
 module _ (F : Form) (L : Lawful F) (C : ℕ) (e : F .Extra) (s : List Rec) where
   -- the header over zeros
-  pub written-none : (b b₁ b₂ : List ℕ) → length b ≡ place F C → b₁ ≡ put b 0 (zeros (length b)) → b₂ ≡ put b₁ 0 (F .header e (length s)) → b₂ ≡ written F C e s 0
+  pub written-none : (b b₁ b₂ : List ℕ) → length b ≡ slotAt F C → b₁ ≡ put b 0 (zeros (length b)) → b₂ ≡ put b₁ 0 (F .header e (length s)) → b₂ ≡ written F C e s 0
   unfolding written slots
   written-none b b₁ b₂ l g f =
       let h : List ℕ = F .header e (length s) in
@@ -38,9 +38,9 @@ module _ (F : Form) (L : Lawful F) (C : ℕ) (e : F .Extra) (s : List Rec) where
   slots-one r = append-nil (F .slot r)
 
   -- one record more
-  pub written-more : AllFit F s → (i : ℕ) (r : Rec) → getElem? s i ≡ some r → i < C → put (written F C e s i) (place F i) (F .slot r) ≡ written F C e s (suc i)
+  pub written-more : AllFit F s → (i : ℕ) (r : Rec) → getElem? s i ≡ some r → i < C → put (written F C e s i) (slotAt F i) (F .slot r) ≡ written F C e s (suc i)
   unfolding written
-  written-more fit i r er l = ap (λ (x : List ℕ). put x (place F i) (F .slot r)) parted ∙ over-parts pre (zeros W) zz (F .slot r) (place F i) length-pre (length-zeros W ∙ sym (L .slot-length r (fit-at F s i r fit er))) ∙ joined
+  written-more fit i r er l = ap (λ (x : List ℕ). put x (slotAt F i) (F .slot r)) parted ∙ over-parts pre (zeros W) zz (F .slot r) (slotAt F i) length-pre (length-zeros W ∙ sym (L .slot-length r (fit-at F s i r fit er))) ∙ joined
     where
       W : ℕ
       W = F .width
@@ -57,8 +57,8 @@ module _ (F : Form) (L : Lawful F) (C : ℕ) (e : F .Extra) (s : List Rec) where
       pre : List ℕ
       pre = h ++ slots F a
 
-      length-pre : length pre ≡ place F i
-      length-pre = length-before F L e (length s) a (fit-take F L i s fit) ∙ ap (place F) (length-take-le i s (omega (arith, at-lt s i r er)))
+      length-pre : length pre ≡ slotAt F i
+      length-pre = length-before F L e (length s) a (fit-take F L i s fit) ∙ ap (slotAt F) (length-take-le i s (omega (arith, at-lt s i r er)))
 
       rest : zeros (W * (C - i)) ≡ zeros W ++ zz
       rest =

@@ -16,7 +16,7 @@ use Rattle.book_records.specs.Act.{Rec, countBy}
 use Rattle.book_records.specs.Calls.{ownerOf}
 use Rattle.book_form.specs.declared.Quotas.{Quotas}
 use Rattle.book_form.specs.declared.Version.the-variants.{Two, Three}
-use Rattle.book_form.specs.Form.{AllExact, QuotasFit, Within, layout, place}
+use Rattle.book_form.specs.Form.{AllExact, QuotasFit, Within, layout, slotAt}
 use Rattle.book_form.specs.Tells.{Tells}
 use Rattle.book_form.specs.Counted.{countedIn, stored}
 use Rattle.book_form.specs.Version.{V2, V3}
@@ -34,33 +34,33 @@ owned-fits r h = (omega arith, omega (arith, h .1), h .2)
 
 module _ (old new : List ℕ) (n : ℕ) (h : Ready V2 V3 old n new) (i : ℕ) (l : i < n) where
   -- the value of record i is there
-  pub owned-value : getD old (place V2 i + 256) 0 ≤ 64
+  pub owned-value : getD old (slotAt V2 i + 256) 0 ≤ 64
   owned-value =
       let x = h .counts .0 in
       let ok = book-good V2 (version-lawful Two) old x i (omega (arith, h .counts .1)) .ok in
-      let e : place V2 i + 0 + 256 ≡ place V2 i + 256 = omega arith in
-      rw e at (value-length Two old (place V2 i) 0 refl (copies V2 (version-lawful Two) V3 (version-lawful Three) old new n h i l .from) refl ok .0)
+      let e : slotAt V2 i + 0 + 256 ≡ slotAt V2 i + 256 = omega arith in
+      rw e at (value-length Two old (slotAt V2 i) 0 refl (copies V2 (version-lawful Two) V3 (version-lawful Three) old new n h i l .from) refl ok .0)
 
-  pub owned-next : (at : ℕ) → at ≡ place V2 i → (key value : List ℕ) → key ≡ stored old at → value ≡ stored old (at + 256)
-      → (to : ℕ) → to ≡ place V3 i → (e : Quotas) (b b₁ : List ℕ) → Copying V2 V3 e firsts old i b → b₁ ≡ put b to (V3 .slot (1 ∷ key, value)) → Copying V2 V3 e firsts old (i + 1) b₁
+  pub owned-next : (at : ℕ) → at ≡ slotAt V2 i → (key value : List ℕ) → key ≡ stored old at → value ≡ stored old (at + 256)
+      → (to : ℕ) → to ≡ slotAt V3 i → (e : Quotas) (b b₁ : List ℕ) → Copying V2 V3 e firsts old i b → b₁ ≡ put b to (V3 .slot (1 ∷ key, value)) → Copying V2 V3 e firsts old (i + 1) b₁
   owned-next at ea key value ek ev to et e b b₁ c w =
-      let k : key ≡ stored old (place V2 i) = ek ∙ ap (stored old) ea in
-      let v : value ≡ countedIn (drop 256 (drop (place V2 i) old)) = ev ∙ ap (λ (m : ℕ). stored old (m + 256)) ea ∙ ap countedIn (sym (drop-drop 256 (place V2 i) old)) in
+      let k : key ≡ stored old (slotAt V2 i) = ek ∙ ap (stored old) ea in
+      let v : value ≡ countedIn (drop 256 (drop (slotAt V2 i) old)) = ev ∙ ap (λ (m : ℕ). stored old (m + 256)) ea ∙ ap countedIn (sym (drop-drop 256 (slotAt V2 i) old)) in
       copy-next V2 (version-lawful Two) V3 (version-lawful Three) old new n h e firsts owned-fits i l (key, value) (λ j. (k j, v j)) b b₁ c (w ∙ ap (λ (m : ℕ). put b m (V3 .slot (1 ∷ key, value))) et) (i + 1) (omega arith)
 
 -- its key and its value fit in their fields
-pub owned-short : (old new : List ℕ) (n : ℕ) → Ready V2 V3 old n new → (i : ℕ) → i < n → (at : ℕ) → at ≡ place V2 i
+pub owned-short : (old new : List ℕ) (n : ℕ) → Ready V2 V3 old n new → (i : ℕ) → i < n → (at : ℕ) → at ≡ slotAt V2 i
     → (key value : List ℕ) → key ≡ stored old at → value ≡ stored old (at + 256) → (length key ≤ 255) × (length value ≤ 64)
 owned-short old new n h i l at ea key value ek ev =
     let f = copies V2 (version-lawful Two) V3 (version-lawful Three) old new n h i l .fit in
-    let k : key ≡ stored old (place V2 i) = ek ∙ ap (stored old) ea in
-    let v : value ≡ countedIn (drop 256 (drop (place V2 i) old)) = ev ∙ ap (λ (m : ℕ). stored old (m + 256)) ea ∙ ap countedIn (sym (drop-drop 256 (place V2 i) old)) in
+    let k : key ≡ stored old (slotAt V2 i) = ek ∙ ap (stored old) ea in
+    let v : value ≡ countedIn (drop 256 (drop (slotAt V2 i) old)) = ev ∙ ap (λ (m : ℕ). stored old (m + 256)) ea ∙ ap countedIn (sym (drop-drop 256 (slotAt V2 i) old)) in
     (rw k (f .1), rw v (f .2 .most))
 
 pub owners-none : (old new : List ℕ) (q : Quotas) → (Book V2 old → ⊥) → ConvertedOwners old new q 9 new
 owners-none old new q n = no-old n refl refl
 
-pub owners-other : (old new : List ℕ) (q : Quotas) (n : ℕ) → Counts V2 old n → (C : ℕ) → Slotted V2 old C → (at : ℕ) → at ≡ place V3 C → (length new ≡ at → ⊥) → ConvertedOwners old new q 4 new
+pub owners-other : (old new : List ℕ) (q : Quotas) (n : ℕ) → Counts V2 old n → (C : ℕ) → Slotted V2 old C → (at : ℕ) → at ≡ slotAt V3 C → (length new ≡ at → ⊥) → ConvertedOwners old new q 4 new
 owners-other old new q n h C s at ea z = other-size (h .0) (size-other V2 (version-lawful Two) old n h C s V3 new at ea z) refl refl
 
 module _ (old new : List ℕ) (q : Quotas) (n : ℕ) (h : Ready V2 V3 old n new) (C : ℕ) (s : Slotted V2 old C) (t : Bool) (fits : Tells t (QuotasFit V3 C q)) where
@@ -135,8 +135,8 @@ owners-book {old} {q = q} (converted y n m e f) z x =
     )
 
 -- ---- one outcome
-same-size : (old new : List ℕ) (x y : Book V2 old) → length new ≡ place V3 (x .slots) → length new ≡ place V3 (y .slots)
-same-size old new x y e = e ∙ ap (place V3) (one-book V2 (version-lawful Two) old x y .0)
+same-size : (old new : List ℕ) (x y : Book V2 old) → length new ≡ slotAt V3 (x .slots) → length new ≡ slotAt V3 (y .slots)
+same-size old new x y e = e ∙ ap (slotAt V3) (one-book V2 (version-lawful Two) old x y .0)
 
 same-enough : (old : List ℕ) (q : Quotas) (x y : Book V2 old) → Enough q (x .slots) (length (x .records)) → Enough q (y .slots) (length (y .records))
 same-enough old q x y e =

@@ -48,11 +48,11 @@ module _ (F : Form) where
   layout C e rs = F .header e (length rs) ++ (slots rs ++ zeros (F .width * (C - length rs)))
 
   -- where slot i starts, and the key in it
-  abbrev pub place : ℕ → ℕ
-  place i = F .head + F .width * i
+  abbrev pub slotAt : ℕ → ℕ
+  slotAt i = F .head + F .width * i
 
   abbrev pub keyAt : List ℕ → ℕ → Key
-  keyAt b i = F .recordOf (drop (place i) b) .0
+  keyAt b i = F .recordOf (drop (slotAt i) b) .0
 
   -- a book of C slots has the slots for both quotas
   abbrev pub QuotasFit : ℕ → F .Extra → Type 0
@@ -69,7 +69,7 @@ module _ (F : Form) where
 
   -- A record put in at slot p of n: the slots after it move up, its slot is written, and the header is written again.
   unfoldable pub inserted : F .Extra → ℕ → ℕ → List ℕ → Rec → List ℕ
-  inserted e p n b r = put (put (raised (place p) (place n) (F .width) b) (place p) (F .slot r)) 0 (F .header e (suc n))
+  inserted e p n b r = put (put (raised (slotAt p) (slotAt n) (F .width) b) (slotAt p) (F .slot r)) 0 (F .header e (suc n))
 
   -- The records of the slots from p up to q taken out of n: the slots behind them move down, as many at the end are cleared, and the header
   -- is written again.
@@ -77,9 +77,9 @@ module _ (F : Form) where
   removed e p q n b =
       let w = F .width * (q - p) in
       let left = n - (q - p) in
-      put (put (lowered (place q) (place n) w b) (place left) (zeros w)) 0 (F .header e left)
+      put (put (lowered (slotAt q) (slotAt n) w b) (slotAt left) (zeros w)) 0 (F .header e left)
 
   -- Slot i of n filled from g slots behind it, or cleared where there are no more.
   pub record Filled (b : List ℕ) (i g n : ℕ) (b₁ : List ℕ) : Type 0 where
-    pub moved : i + g < n → b₁ ≡ lowered (place (i + g)) (place (i + g + 1)) (F .width * g) b
-    pub cleared : n ≤ i + g → b₁ ≡ put b (place i) (zeros (F .width))
+    pub moved : i + g < n → b₁ ≡ lowered (slotAt (i + g)) (slotAt (i + g + 1)) (F .width * g) b
+    pub cleared : n ≤ i + g → b₁ ≡ put b (slotAt i) (zeros (F .width))

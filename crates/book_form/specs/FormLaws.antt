@@ -20,7 +20,7 @@ use Rattle.book_records.specs.Act.{Rec, countBy}
 use Rattle.book_records.specs.Calls.{isOwner}
 use Rattle.book_form.specs.Moves.{raised, lowered}
 use Rattle.book_form.specs.MovesLaws.{raised-parts, lowered-parts, over-parts, over-set, over-join}
-use Rattle.book_form.specs.Form.{Form, zeros, AllFit, AllExact, QuotasFit, Within, slots, layout, place, inserted, removed}
+use Rattle.book_form.specs.Form.{Form, zeros, AllFit, AllExact, QuotasFit, Within, slots, layout, slotAt, inserted, removed}
 
 -- what a form has to keep
 pub record Lawful (F : Form) : Type 0 where
@@ -125,17 +125,17 @@ module _ (F : Form) (L : Lawful F) where
         go false p false q z = absurd (let y : _≡_ {A = ℕ} 0 1 = cc in let x : ⊥ = omega arith in x)
 
   -- places rise
-  pub place-up : (m n : ℕ) → m ≤ n → place F m ≤ place F n
-  place-up m n h = omega (arith, mul-le-mul-left (F .width) h)
+  pub slot-up : (m n : ℕ) → m ≤ n → slotAt F m ≤ slotAt F n
+  slot-up m n h = omega (arith, mul-le-mul-left (F .width) h)
 
-  pub place-back : (m n : ℕ) → place F m ≤ place F n → m ≤ n
+  pub place-back : (m n : ℕ) → slotAt F m ≤ slotAt F n → m ≤ n
   place-back m n h = go (decLt n m)
     where
       go : Dec (n < m) → m ≤ n
       go (no q) = omega arith
       go (yes q) = absurd (let z : ⊥ = omega (arith, L .wide, mul-le-mul-left (F .width) q) in z)
 
-  pub place-next : (i : ℕ) → place F (suc i) ≡ place F i + F .width
+  pub place-next : (i : ℕ) → slotAt F (suc i) ≡ slotAt F i + F .width
   place-next i = omega arith
 
   pub slots-cons : (r : Rec) (rs : List Rec) → slots F (r ∷ rs) ≡ F .slot r ++ slots F rs
@@ -265,16 +265,16 @@ module _ (F : Form) (L : Lawful F) where
       ap (λ (l : List ℕ). F .header e (length (a ++ r ∷ b)) ++ (l ++ zeros (F .width * (C - length (a ++ r ∷ b))))) (slots-append a (r ∷ b) ∙ ap (λ (l : List ℕ). slots F a ++ l) (slots-cons r b))
       ∙ simp append-assoc
 
-  pub length-before : (e : F .Extra) (n : ℕ) (a : List Rec) → AllFit F a → length (F .header e n ++ slots F a) ≡ place F (length a)
+  pub length-before : (e : F .Extra) (n : ℕ) (a : List Rec) → AllFit F a → length (F .header e n ++ slots F a) ≡ slotAt F (length a)
   length-before e n a h = omega (arith, length-append (F .header e n) (slots F a), L .header-length e n, length-slots a h)
 
   -- a record put in the place of another
   pub layout-replaced : (C : ℕ) (e : F .Extra) (a : List Rec) (q r : Rec) (b : List Rec) → AllFit F a → F .Fit q → F .Fit r
-      → put (layout F C e (a ++ q ∷ b)) (place F (length a)) (F .slot r) ≡ layout F C e (a ++ r ∷ b)
+      → put (layout F C e (a ++ q ∷ b)) (slotAt F (length a)) (F .slot r) ≡ layout F C e (a ++ r ∷ b)
   layout-replaced C e a q r b ha hq hr =
       let m : length (a ++ q ∷ b) ≡ length (a ++ r ∷ b) = omega (arith, length-append a (q ∷ b), length-append a (r ∷ b)) in
-      ap (λ (l : List ℕ). put l (place F (length a)) (F .slot r)) (layout-parted C e a q b)
-      ∙ over-parts (F .header e (length (a ++ q ∷ b)) ++ slots F a) (F .slot q) (slots F b ++ zeros (F .width * (C - length (a ++ q ∷ b)))) (F .slot r) (place F (length a)) (length-before e (length (a ++ q ∷ b)) a ha) (L .slot-length q hq ∙ sym (L .slot-length r hr))
+      ap (λ (l : List ℕ). put l (slotAt F (length a)) (F .slot r)) (layout-parted C e a q b)
+      ∙ over-parts (F .header e (length (a ++ q ∷ b)) ++ slots F a) (F .slot q) (slots F b ++ zeros (F .width * (C - length (a ++ q ∷ b)))) (F .slot r) (slotAt F (length a)) (length-before e (length (a ++ q ∷ b)) a ha) (L .slot-length q hq ∙ sym (L .slot-length r hr))
       ∙ ap (λ (n : ℕ). (F .header e n ++ slots F a) ++ (F .slot r ++ (slots F b ++ zeros (F .width * (C - n))))) m
       ∙ sym (layout-parted C e a r b)
 
@@ -337,7 +337,7 @@ module _ (F : Form) (L : Lawful F) where
       tail : List ℕ
       tail = drop (length sb) all
 
-      length-pre : length pre ≡ place F p
+      length-pre : length pre ≡ slotAt F p
       length-pre = omega (arith, length-append h sa, lh, length-slots a ha, ap (λ (k : ℕ). W * k) lp)
 
       lsb : length sb ≡ W * length b
@@ -353,8 +353,8 @@ module _ (F : Form) (L : Lawful F) where
       at-left : W * left ≡ W * p + W * length b
       at-left = ap (λ (k : ℕ). W * k) (let z : left ≡ p + length b = omega arith in z) ∙ omega arith
 
-      one : lowered (place F q) (place F n) w (pre ++ all) ≡ pre ++ (sb ++ tail)
-      one = lowered-parts pre gap sb zz (place F q) (place F n) w (omega (arith, length-pre, at-q)) lg (omega (arith, lsb, at-n))
+      one : lowered (slotAt F q) (slotAt F n) w (pre ++ all) ≡ pre ++ (sb ++ tail)
+      one = lowered-parts pre gap sb zz (slotAt F q) (slotAt F n) w (omega (arith, length-pre, at-q)) lg (omega (arith, lsb, at-n))
 
       -- what is left behind the slots that moved down: as many bytes as went, and then zeros
       rest : drop w tail ≡ zz
@@ -369,9 +369,9 @@ module _ (F : Form) (L : Lawful F) where
 
       two : removed F e p q n (h ++ (sa ++ all)) ≡ F .header e left ++ (sa ++ (sb ++ (zeros w ++ zz)))
       two =
-          ap (λ (l : List ℕ). put (put (lowered (place F q) (place F n) w l) (place F left) (zeros w)) 0 (F .header e left)) (sym (append-assoc h sa all))
-          ∙ ap (λ (l : List ℕ). put (put l (place F left) (zeros w)) 0 (F .header e left)) (one ∙ ap (λ (l : List ℕ). pre ++ (sb ++ l)) (sym (take-append-drop w tail) ∙ ap (λ (l : List ℕ). take w tail ++ l) rest) ∙ sym (append-assoc pre sb (take w tail ++ zz)))
-          ∙ ap (λ (l : List ℕ). put l 0 (F .header e left)) (over-parts (pre ++ sb) (take w tail) zz (zeros w) (place F left) (omega (arith, length-append pre sb, length-pre, lsb, at-left)) (length-tail ∙ sym (length-zeros w)))
+          ap (λ (l : List ℕ). put (put (lowered (slotAt F q) (slotAt F n) w l) (slotAt F left) (zeros w)) 0 (F .header e left)) (sym (append-assoc h sa all))
+          ∙ ap (λ (l : List ℕ). put (put l (slotAt F left) (zeros w)) 0 (F .header e left)) (one ∙ ap (λ (l : List ℕ). pre ++ (sb ++ l)) (sym (take-append-drop w tail) ∙ ap (λ (l : List ℕ). take w tail ++ l) rest) ∙ sym (append-assoc pre sb (take w tail ++ zz)))
+          ∙ ap (λ (l : List ℕ). put l 0 (F .header e left)) (over-parts (pre ++ sb) (take w tail) zz (zeros w) (slotAt F left) (omega (arith, length-append pre sb, length-pre, lsb, at-left)) (length-tail ∙ sym (length-zeros w)))
           ∙ ap (λ (l : List ℕ). put l 0 (F .header e left)) (let z : (pre ++ sb) ++ (zeros w ++ zz) ≡ h ++ (sa ++ (sb ++ (zeros w ++ zz))) = simp append-assoc in z)
           ∙ over-parts [] h (sa ++ (sb ++ (zeros w ++ zz))) (F .header e left) 0 refl (lh ∙ sym (L .header-length e left))
 

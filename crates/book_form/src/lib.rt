@@ -11,7 +11,7 @@ ghost use Rattle.text.specs.Put.{put};
 ghost use Rattle.text.specs.Stands.{Stands};
 ghost use Rattle.book_form.specs.Moves.{raised, lowered};
 ghost use mathlib.Core.List.{[], _∷_, _++_};
-ghost use Rattle.book_form.specs.Form.{zeros, place, inserted, removed, Filled, SlotOk};
+ghost use Rattle.book_form.specs.Form.{zeros, slotAt, inserted, removed, Filled, SlotOk};
 ghost use Rattle.book_form.specs.Counted.{counted, stored, CountedOk};
 ghost use Rattle.book_form.specs.Version.{formOf, ownersOf, fieldOf, FieldOk, isPlain, numberOf, header, countIn, quotasIn, V3};
 ghost use Rattle.book_form.specs.declared.Version.the-variants.{Two};
@@ -80,7 +80,7 @@ pub fn lead(version: Version) -> usize
 // Where slot i starts.
 pub fn slot_at(version: Version, i: usize) -> usize
     requires { ⌜ i ≤ 200 ⌝ }
-    ensures { λ r. ⌜ r ≡ place (formOf version) i ⌝ }
+    ensures { λ r. ⌜ r ≡ slotAt (formOf version) i ⌝ }
 {
     match version {
         Version::One => HEAD_OLD + SLOT_ONE * i,
@@ -203,16 +203,16 @@ pub fn quotas_of(book: &[u8]) -> Quotas
     }
 }
 
-// Puts a record in at slot `place` of a book with `count` records.
-pub fn insert(book: &mut [u8], place: usize, count: usize, owner: u8, key: &[u8], value: &[u8])
-    requires { ⌜ place ≤ count ⌝ }
+// Puts a record in at slot number `slot` of a book with `count` records.
+pub fn insert(book: &mut [u8], slot: usize, count: usize, owner: u8, key: &[u8], value: &[u8])
+    requires { ⌜ slot ≤ count ⌝ }
     requires { ⌜ count < 200 ⌝ }
     requires { do ⌜ 12 + 322 * (count + 1) ≤ (← ⟦book.len()⟧) ⌝ }
     requires { ⌜ (length (now key) ≤ 255) × (length (now value) ≤ 64) ⌝ }
-    ensures { λ _. ⌜ now (book .exit) ≡ inserted V3 (quotasIn (now (book .entry))) place count (now (book .entry)) (owner ∷ now (key .entry), now (value .entry)) ⌝ }
+    ensures { λ _. ⌜ now (book .exit) ≡ inserted V3 (quotasIn (now (book .entry))) slot count (now (book .entry)) (owner ∷ now (key .entry), now (value .entry)) ⌝ }
 {
     let quotas = quotas_of(book);
-    let at = HEAD + SLOT * place;
+    let at = HEAD + SLOT * slot;
     let end = HEAD + SLOT * count;
     raise(book, at, end, SLOT);
     put_slot(book, at, owner, key, value);
@@ -223,7 +223,7 @@ pub fn insert(book: &mut [u8], place: usize, count: usize, owner: u8, key: &[u8]
 pub fn lower_slot(book: &mut [u8], i: usize, by: usize)
     requires { ⌜ (by ≤ i) × (i < 200) ⌝ }
     requires { do ⌜ 12 + 322 * (i + 1) ≤ (← ⟦book.len()⟧) ⌝ }
-    ensures { λ _. ⌜ now (book .exit) ≡ lowered (place V3 i) (place V3 (i + 1)) (322 * by) (now (book .entry)) ⌝ }
+    ensures { λ _. ⌜ now (book .exit) ≡ lowered (slotAt V3 i) (slotAt V3 (i + 1)) (322 * by) (now (book .entry)) ⌝ }
 {
     lower(book, HEAD + SLOT * i, HEAD + SLOT * (i + 1), SLOT * by);
 }

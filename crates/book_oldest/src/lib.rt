@@ -2,7 +2,7 @@
 use book::check::BookAnswer;
 use book::check::check_book;
 use book::check::is_owner;
-use book::find::place;
+use book::find::keys_before;
 use book_form::HEAD;
 use book_form::SLOT;
 use book_form::Version;
@@ -86,7 +86,7 @@ fn oldest_below(book: &[u8], n: usize, owner: u8, client: &[u8], parent: &[u8]) 
     ensures { λ r. ⌜ OldestIs Current (now (book .entry)) owner (now (client .entry)) r ⌝ }
 {
     let mut best = StateAnswer::Nothing;
-    let mut i = place(book, n, owner, parent);
+    let mut i = keys_before(book, n, owner, parent);
     while i < n && is_below_parent(book, HEAD + SLOT * i, owner, parent) {
         best = older(best, state_in(key_at(book, HEAD + SLOT * i + 1), client));
         i += 1;

@@ -12,7 +12,7 @@ use borrow.Fn.World.{ArgsD, ResD}
 use borrow.Fn.Kinds.{endedOf}
 use denote.Triple.Clauses.{AtExit}
 use Rattle.text.specs.Refusal.{badBook, noRoom}
-use Rattle.book_form.specs.Form.{Form, place}
+use Rattle.book_form.specs.Form.{Form, slotAt}
 use Rattle.book_form.specs.Version.{V1, V2}
 use Rattle.book.specs.Book.{Book}
 use Rattle.hostpath.proofs.hp_book_convert as v
@@ -33,7 +33,7 @@ pub record Converts (old new : List ℕ) (r : ℕ) (new₁ : List ℕ) : Type 0 
 
 -- the second buffer has the size of a book of the form G with as many slots as the old book, of the form F
 abbrev pub SameSlots : {F : Form} (G : Form) {old : List ℕ} → Book F old → List ℕ → Type 0
-SameSlots G x new = length new ≡ place G (x .slots)
+SameSlots G x new = length new ≡ slotAt G (x .slots)
 
 pub record Conversion (old new : List ℕ) (r : ℕ) (new₁ : List ℕ) : Type 0 where
   -- each answer exactly when

@@ -8,7 +8,7 @@ use native.Mathlib.Omega.{arith}
 use lib.ListN.{length}
 use denote.Ref.{now}
 use Rattle.book_form.specs.declared.Version.the-variants.{One}
-use Rattle.book_form.specs.Form.{layout, place}
+use Rattle.book_form.specs.Form.{layout, slotAt}
 use Rattle.book_form.specs.Version.{V1, V2}
 use Rattle.book_form.specs.VersionLaws.{version-lawful}
 use Rattle.book.specs.Book.{Book}
@@ -25,7 +25,7 @@ outcome x =
 
 -- the slots of the old book, by its bytes
 same-slots : {old : List ℕ} (x y : Book V1 old) (new : List ℕ) → SameSlots V2 x new → SameSlots V2 y new
-same-slots {old} x y new h = h ∙ ap (place V2) (one-book V1 (version-lawful One) old x y .0)
+same-slots {old} x y new h = h ∙ ap (slotAt V2) (one-book V1 (version-lawful One) old x y .0)
 
 conversion : {old new : List ℕ} {r : ℕ} {new₁ : List ℕ} → Converted old new r new₁ → Conversion old new r new₁
 conversion {old} {new} {r} {new₁} c = record { bad-book = bad c; no-room = room c; done = made c; same-records = λ e x. converted-book c e x }

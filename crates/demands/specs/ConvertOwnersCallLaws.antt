@@ -21,7 +21,7 @@ use Rattle.book_records.specs.Refusals.{GoodLookup}
 use Rattle.book_records.specs.CallLaws.{looking-means}
 use Rattle.book_form.specs.declared.Quotas.{Quotas}
 use Rattle.book_form.specs.declared.Version.the-variants.{Two}
-use Rattle.book_form.specs.Form.{layout, place}
+use Rattle.book_form.specs.Form.{layout, slotAt}
 use Rattle.book_form.specs.Version.{V2}
 use Rattle.book_form.specs.VersionLaws.{version-lawful}
 use Rattle.book.specs.Book.{Current, Book, acts}
@@ -65,7 +65,7 @@ one-old : {old : List ℕ} (x y : Book V2 old) → (x .slots ≡ y .slots) × (x
 one-old {old} x y = let o = one-book V2 (version-lawful Two) old x y in (o .0, o .2)
 
 same-slots : {old : List ℕ} (x y : Book V2 old) (new : List ℕ) → SameSlots Current x new → SameSlots Current y new
-same-slots x y new h = h ∙ ap (place Current) (one-old x y .0)
+same-slots x y new h = h ∙ ap (slotAt Current) (one-old x y .0)
 
 -- ---- lookups
 -- what is held, as a lookup answers and shows it

@@ -8,7 +8,7 @@ use lib.ListN.{length}
 use denote.Ref.{now}
 use Rattle.book_records.specs.Act.{countBy}
 use Rattle.book_form.specs.declared.Quotas.{Quotas}
-use Rattle.book_form.specs.Form.{QuotasFit, layout, place}
+use Rattle.book_form.specs.Form.{QuotasFit, layout, slotAt}
 use Rattle.book_form.specs.FormLaws.{length-layout}
 use Rattle.book.specs.Book.{Current, Sized}
 use Rattle.book.specs.BookLaws.{lawful}
@@ -22,7 +22,7 @@ blank : (C : ℕ) (q : Quotas) → 1 ≤ C → C ≤ 200 → QuotasFit Current C
 unfolding countBy
 blank C q l m f = record { slots = C; extra = q; records = []; least = l; most = m; fit = tt; exact = tt; sorted = tt; quotas = f; within = λ o. omega arith; bytes = refl }
 
-blank-size : (C : ℕ) (q : Quotas) → length (layout Current C q []) ≡ place Current C
+blank-size : (C : ℕ) (q : Quotas) → length (layout Current C q []) ≡ slotAt Current C
 blank-size C q = length-layout Current lawful C q [] tt (omega arith)
 
 outcome : {b : List ℕ} {one two : ℕ} {r : ℕ} {b₁ : List ℕ} → NewCall b one two r b₁ → Made Current (quotas one two) b r b₁

@@ -22,7 +22,7 @@ few b n h = sizes Current lawful b n h .most
 loop-holds : tie.Need-loop-holds Inv-loop μ-loop
 loop-holds c =
     let s = c .before .before .before .before in
-    (c .place .ensures .within, omega arith, oldest-start _ _ (s .pre .0) (s .args .owner) _ _ (s .pre .1) _ (c .place .ensures))
+    (c .keys-before .ensures .within, omega arith, oldest-start _ _ (s .pre .0) (s .args .owner) _ _ (s .pre .1) _ (c .keys-before .ensures))
 
 is-below-parent-requires : tie.Need-is-below-parent-requires Inv-loop μ-loop
 is-below-parent-requires c κs = omega (arith, sizes Current lawful _ _ (c .before .before .before .before .before .before .pre .0) .used)
@@ -34,19 +34,19 @@ loop-again : tie.Need-loop-again Inv-loop μ-loop
 loop-again c =
     let l = c .before .before .before .before .before .before in
     let s = c .before .before .before .before .before .before .before .before .before .before .before in
-    (omega arith, omega arith, oldest-next _ (s .args .n) (s .pre .0) (s .args .owner) _ _ (s .pre .1) _ (l .before .place .ensures) (l .loop .best) (l .loop .i) (l .loop .inv .2) (omega arith) _ (c .before .before .before .before .is-below-parent .ensures) (c .before .before .before .if1 .taken) _ (c .before .before .key-at .ensures .bytes) _ _ (c .before .state-in .ensures) (c .older .ensures))
+    (omega arith, omega arith, oldest-next _ (s .args .n) (s .pre .0) (s .args .owner) _ _ (s .pre .1) _ (l .before .keys-before .ensures) (l .loop .best) (l .loop .i) (l .loop .inv .2) (omega arith) _ (c .before .before .before .before .is-below-parent .ensures) (c .before .before .before .if1 .taken) _ (c .before .before .key-at .ensures .bytes) _ _ (c .before .state-in .ensures) (c .older .ensures))
 
 returns : tie.Need-returns Inv-loop μ-loop
 returns c =
     let l = c .before .before .before in
     let s = c .before .before .before .before .before .before .before .before in
-    oldest-stop _ (s .args .n) (s .pre .0) (s .args .owner) _ _ (s .pre .1) (l .before .place .result) (l .before .place .ensures) (l .loop .best) (l .loop .i) (l .loop .inv .2) (omega arith) _ (c .before .is-below-parent .ensures) (omega arith) (c .if1 .left)
+    oldest-stop _ (s .args .n) (s .pre .0) (s .args .owner) _ _ (s .pre .1) (l .before .keys-before .result) (l .before .keys-before .ensures) (l .loop .best) (l .loop .i) (l .loop .inv .2) (omega arith) _ (c .before .is-below-parent .ensures) (omega arith) (c .if1 .left)
 
 returns-2 : tie.Need-returns-2 Inv-loop μ-loop
 returns-2 c =
     let l = c .before in
     let s = c .before .before .before .before .before .before in
-    oldest-end _ (s .args .n) (s .pre .0) (s .args .owner) _ _ (s .pre .1) _ (l .before .place .ensures) (l .loop .best) (l .loop .i) (l .loop .inv .2) (omega arith)
+    oldest-end _ (s .args .n) (s .pre .0) (s .args .owner) _ _ (s .pre .1) _ (l .before .keys-before .ensures) (l .loop .best) (l .loop .i) (l .loop .inv .2) (omega arith)
 
 pub oldest-below-spec : {M : Type 1} → statement M
 oldest-below-spec =

@@ -4,7 +4,7 @@ use Prim.Native.Nat.{ℕ, _+_, _-_, _<_, _≤_}
 use borrow.Author.Count.{below-more}
 use Rattle.book_form.specs.Version.{formOf}
 use Rattle.book_form.specs.VersionLaws.{version-lawful}
-use Rattle.book_form.specs.FormLaws.{place-up}
+use Rattle.book_form.specs.FormLaws.{slot-up}
 use Rattle.book_form.specs.Tells.{tells-true, tells-false}
 use Rattle.book.specs.Check.{Rises}
 use Rattle.book.specs.CheckWayLaws.{rises-yes, rises-no}
@@ -28,7 +28,7 @@ add-loop c = omega arith
 compare-next-requires : tie.Need-compare-next-requires Inv-loop μ-loop
 compare-next-requires c κs = let s = c .before .before .before .before in
     let i = c .before .before .loop .i in
-    omega (arith, c .slot-at .ensures, s .pre, place-up (formOf (s .args .version)) (version-lawful (s .args .version)) (i + 2) (s .args .n) (omega arith))
+    omega (arith, c .slot-at .ensures, s .pre, slot-up (formOf (s .args .version)) (version-lawful (s .args .version)) (i + 2) (s .args .n) (omega arith))
 
 returns : tie.Need-returns Inv-loop μ-loop
 returns c = let a = c .before .before .before .before .before .before .args in let i = c .before .before .before .before .loop .i in tells-false (λ g. rises-no (a .version) _ i _ _ (c .before .before .slot-at .ensures) (c .before .compare-next .ensures) (c .if1 .taken) (g i (omega arith)))

@@ -3,7 +3,7 @@
 use Prim.Native.Nat.{ℕ, _+_, _-_, _<_, _≤_}
 use borrow.Author.Tests.{not-true, not-false}
 use borrow.Author.Count.{below-more}
-use Rattle.book_form.specs.FormLaws.{place-up}
+use Rattle.book_form.specs.FormLaws.{slot-up}
 use Rattle.book_form.specs.Tells.{tells-true, tells-false}
 use Rattle.book_form.specs.Version.{formOf}
 use Rattle.book_form.specs.VersionLaws.{version-lawful}
@@ -24,7 +24,7 @@ loop-holds c = (omega arith, λ j h. absurd (let z : ⊥ = omega arith in z))
 
 slot-good-requires : tie.Need-slot-good-requires Inv-loop μ-loop
 slot-good-requires c κs = let s = c .before .before .before in
-    omega (arith, s .pre, place-up (formOf (s .args .version)) (version-lawful (s .args .version)) (c .before .loop .i + 1) (s .args .n) (omega arith))
+    omega (arith, s .pre, slot-up (formOf (s .args .version)) (version-lawful (s .args .version)) (c .before .loop .i + 1) (s .args .n) (omega arith))
 
 returns : tie.Need-returns Inv-loop μ-loop
 returns c = tells-false (λ g. c .before .slot-good .ensures .fails (not-true _ (c .if1 .taken)) (g (c .before .before .before .loop .i) (omega arith)))

@@ -1,4 +1,4 @@
--- `book::find::place` meets its contract.
+-- `book::find::keys_before` meets its contract.
 -- Assumes nothing.
 use mathlib.Core.List.{_∷_}
 use Prim.Native.Nat.{_-_, _≤_}
@@ -7,8 +7,8 @@ use Rattle.book.specs.BookLaws.{lawful}
 use Rattle.book.specs.FindLaws.{Narrowed, narrow-start, narrow-up, narrow-down, narrow-end}
 use native.Mathlib.Omega.{arith}
 use borrow.Author.Needs.{needs}
-use Rattle.book.proofs.find.place.Statement.{statement}
-use Rattle.book.proofs.find.place.Tie as tie
+use Rattle.book.proofs.find.keys_before.Statement.{statement}
+use Rattle.book.proofs.find.keys_before.Tie as tie
 
 abbrev Inv-loop : tie.InvT-loop
 Inv-loop book n owner key lo₀ hi₀ lo hi = (lo ≤ hi) × Narrowed Current book (owner ∷ key) n lo hi
@@ -34,8 +34,8 @@ loop-again-2 c = let l = c .before .before .before .loop in (omega arith, narrow
 returns : tie.Need-returns Inv-loop μ-loop
 returns c = let l = c .before .loop in narrow-end Current lawful _ _ _ (c .before .before .before .before .pre) (l .lo) (l .hi) (l .inv .1) (omega arith)
 
-pub place-spec : {M : Type 1} → statement M
-place-spec =
+pub keys-before-spec : {M : Type 1} → statement M
+keys-before-spec =
     tie.close
     (tie.spec
     Inv-loop
