@@ -7,14 +7,14 @@ ghost use Rattle.ask.specs.Input.{stretch, last_answer, answer_at, line_after, S
 use crate::answer_line;
 
 // How much is held at the front of the input, and how many bytes of answers stand in the output.
-#[derive(Drop)]
+#[derive(Clone, Copy)]
 pub struct Step {
     pub held: usize,
     pub used: usize,
 }
 
 // Where the line that has not ended starts, and the place after the answers.
-#[derive(Drop)]
+#[derive(Clone, Copy)]
 struct Spot {
     start: usize,
     used: usize,

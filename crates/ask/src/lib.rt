@@ -1,4 +1,6 @@
 // What the program askpath prints of one line, and of what one read brings.
+#![tactic(auto)]
+
 pub mod input;
 
 ghost use Rattle.std.specs.Prelude.{◌≡◌, ◌+◌, ◌≤◌, length};

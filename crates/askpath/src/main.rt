@@ -3,6 +3,8 @@
 // answered before the next, so that a line typed at a terminal is answered at once. The memory in use does not grow
 // with the input. Called with the word `why`, it also prints the place of the fault, where there is one, and a sentence
 // for a customer. What is printed is proved in `ask`; here are the arguments, the reads and the writes.
+#![tactic(auto)]
+
 ghost use Rattle.std.specs.Prelude.{◌+◌, ◌-◌, ◌*◌, ◌≤◌, ◌<◌, length};
 ghost use Rattle.ask.specs.Answer.{extra};
 
@@ -10,7 +12,7 @@ use ask::input::{answer_last, answer_lines};
 use libc::{EAGAIN, STDERR_FILENO, STDIN_FILENO, STDOUT_FILENO};
 
 // What the arguments ask for.
-#[derive(Drop)]
+#[derive(Clone, Copy)]
 enum Asked {
     Answers,
     Reasons,
@@ -18,14 +20,14 @@ enum Asked {
 }
 
 // Whether to go on after a read, and how much of the input is held.
-#[derive(Drop)]
+#[derive(Clone, Copy)]
 struct Turn {
     go: bool,
     held: usize,
 }
 
 // Whether to go on after a write, and how many bytes are written.
-#[derive(Drop)]
+#[derive(Clone, Copy)]
 struct Put {
     go: bool,
     done: usize,

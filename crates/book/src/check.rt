@@ -16,7 +16,7 @@ use book_form::{
 use path::ViewAnswer;
 
 // A book's number of records, or that a buffer is no book.
-#[derive(Drop)]
+#[derive(Clone, Copy)]
 pub enum BookAnswer {
     Count(usize),
     Nothing,

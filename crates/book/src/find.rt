@@ -6,7 +6,7 @@ ghost use Rattle.book.specs.Find.{Placed, Spotted};
 use book_form::{AFTER, HEAD, SAME, SLOT, compare_key};
 
 // The slot that holds a key, or the one that it would have.
-#[derive(Drop)]
+#[derive(Clone, Copy)]
 pub enum Spot {
     Taken(usize),
     Free(usize),

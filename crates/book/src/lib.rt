@@ -1,4 +1,6 @@
 // The record book: new, write, remove, lookup. Each call checks the book once.
+#![tactic(auto)]
+
 pub mod check;
 pub mod find;
 pub mod record;

@@ -1,4 +1,6 @@
 // Old states of a client cleared out of a book.
+#![tactic(auto)]
+
 pub mod role;
 pub mod states;
 mod stretch;
@@ -20,7 +22,7 @@ use text::refusal::{BAD_BOOK, BAD_OWNER};
 
 // What a call that removes records answers: a refusal number, 0 where it is done, and how many records went.
 #[repr(C)]
-#[derive(Drop)]
+#[derive(Clone, Copy)]
 pub struct Count {
     pub refusal: u8,
     pub count: u64,

@@ -12,7 +12,7 @@ use path::{Revision, RevisionHeight, RevisionNumber, ViewAnswer};
 use walk_scan::number::number;
 
 // A state of the client, the processed time or height of one, or neither.
-#[derive(Drop)]
+#[derive(Clone, Copy)]
 pub enum Role {
     State(Revision),
     Beside(Revision),
@@ -20,7 +20,7 @@ pub enum Role {
 }
 
 // What is noted of a key: its kind and its revision, or kind 0.
-#[derive(Drop)]
+#[derive(Clone, Copy)]
 pub(crate) struct Note {
     pub(crate) kind: u8,
     pub(crate) number: u64,

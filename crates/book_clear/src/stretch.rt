@@ -12,7 +12,7 @@ use text::put::write_byte;
 use writers::parents::write_consensus_parent;
 
 // The first slot of a stretch, and the one behind it.
-#[derive(Drop)]
+#[derive(Clone, Copy)]
 pub(crate) struct Stretch {
     pub(crate) from: usize,
     pub(crate) stop: usize,

@@ -1,4 +1,6 @@
 // Older books turned into newer ones: version 1 into version 2, and version 2 into version 3.
+#![tactic(auto)]
+
 ghost use Rattle.std.specs.Prelude.{◌<◌};
 ghost use Rattle.book_form.specs.Version.{V1, V2, V3};
 ghost use Rattle.book.specs.Outcome.{quotas};

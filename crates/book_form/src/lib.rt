@@ -1,4 +1,6 @@
 // The book's bytes: movers, slots and the header.
+#![tactic(auto)]
+
 ghost use Rattle.std.specs.Prelude.{◌≡◌, ◌+◌, ◌*◌, ◌-◌, ◌≤◌, ◌<◌, eqb, length, get_or, take, drop, [], ◌∷◌, ◌++◌};
 ghost use Rattle.text.specs.Order.{cmp};
 ghost use Rattle.text.specs.Part.{every, same};
@@ -28,7 +30,7 @@ const SLOT_ONE: usize = 288;
 const SLOT_TWO: usize = 321;
 
 // The versions of the book. The calls take and make version 3; an older book is only converted.
-#[derive(Drop)]
+#[derive(Clone, Copy)]
 pub enum Version {
     One,
     Two,
@@ -36,7 +38,7 @@ pub enum Version {
 }
 
 // How many records each owner may have.
-#[derive(Drop)]
+#[derive(Clone, Copy)]
 pub struct Quotas {
     pub one: usize,
     pub two: usize,

@@ -1,4 +1,6 @@
 // The key of a call: the rendering of its text, owned, in the field of 255 bytes that a book keeps.
+#![tactic(auto)]
+
 ghost use Rattle.std.specs.Prelude.{◌≡◌, length};
 ghost use Rattle.text.specs.Put.{left};
 ghost use Rattle.path.specs.Read.{read_path};

@@ -1,4 +1,6 @@
 // The oldest state of a client.
+#![tactic(auto)]
+
 ghost use Rattle.std.specs.Prelude.{◌≡◌, ◌+◌, ◌≤◌, length, drop, ◌∷◌};
 ghost use Rattle.text.specs.Part.{starts_with};
 ghost use Rattle.writers.specs.Texts.{parent_text};
@@ -13,7 +15,7 @@ use text::part::same_at;
 use text::refusal::{ABSENT, BAD_BOOK, BAD_OWNER};
 use writers::parents::write_consensus_parent;
 
-#[derive(Drop)]
+#[derive(Clone, Copy)]
 pub enum StateAnswer {
     State(Revision),
     Nothing,

@@ -1,4 +1,6 @@
 // A table of 512 buckets beside a book, by which the slot of a key is found. A bucket holds a slot's number counted from 1, or 0.
+#![tactic(auto)]
+
 mod hash;
 mod look;
 pub mod many;
@@ -14,7 +16,7 @@ use hash::home;
 use text::put::write_byte;
 
 // The slot that holds a key, or that none does.
-#[derive(Drop)]
+#[derive(Clone, Copy)]
 pub enum Slot {
     At(usize),
     Nowhere,

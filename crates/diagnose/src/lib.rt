@@ -1,5 +1,7 @@
 // What is wrong with a text that is no path: the kind that it comes nearest to, the first component that does not fit, why, and at
 // which byte.
+#![tactic(auto)]
+
 mod alike;
 mod nearest;
 mod pieces;
@@ -23,7 +25,7 @@ use walk::walk_view;
 // The refusal, as the readers give it; the kind that the text reads as or comes nearest to, 0 where there is none; the
 // component, from 1, that does not fit, 0 where the text reads; the reason, and the byte of the text, from 0.
 #[repr(C)]
-#[derive(Drop)]
+#[derive(Clone, Copy)]
 pub struct Diagnosis {
     pub refusal: u8,
     pub kind: u8,
@@ -33,7 +35,7 @@ pub struct Diagnosis {
 }
 
 // Why a component does not fit, and where in it.
-#[derive(Drop)]
+#[derive(Clone, Copy)]
 pub struct Why {
     pub reason: u8,
     pub place: u64,

@@ -11,7 +11,7 @@ use read_pieces::first_dash;
 use text::Numeral;
 use text::part::equal;
 
-#[derive(Drop)]
+#[derive(Clone, Copy)]
 pub enum Shape {
     Word,
     Named(Name),

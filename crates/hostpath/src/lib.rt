@@ -1,6 +1,8 @@
 // The C interface: what a program that is not Rattle's calls. Each function only hands its arguments on.
 // `bin/interface` makes of this file what declares and calls the interface elsewhere. The comment above a function says what
 // it gives and its refusals in the order in which they are looked for; a comment that stands alone heads what follows.
+#![tactic(auto)]
+
 ghost use Rattle.std.specs.Prelude.{◌≡◌, ◌∷◌, [], length};
 ghost use Rattle.text.specs.Bytes.{bytes};
 ghost use Rattle.text.specs.Put.{text, answer, left};

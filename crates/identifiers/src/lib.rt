@@ -1,4 +1,6 @@
 // Identifiers: their checks, and owned ones. A file for each of the Rust's; what several of them use stands here.
+#![tactic(auto)]
+
 pub mod channel_id;
 pub mod client_id;
 pub mod connection_id;

@@ -1,4 +1,6 @@
 // Iteration keys, which stand in the byte order of (revision number, revision height) pairs: written, read, and blocks of them.
+#![tactic(auto)]
+
 pub mod block;
 
 ghost use Rattle.std.specs.Prelude.{◌≡◌, ◌+◌, ◌≤◌, length, take, drop};
@@ -12,7 +14,7 @@ use text::refusal::{BAD_ITER_KEY, NO_ROOM};
 use text::{Written, read_big_endian};
 
 // What a call on iteration keys answers: one of them, or a refusal by its number.
-#[derive(Drop)]
+#[derive(Clone, Copy)]
 pub enum KeyAnswer {
     Key(Revision),
     Refused(u8),

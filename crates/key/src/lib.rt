@@ -1,4 +1,6 @@
 // The key of a text: the rendering of what it reads as.
+#![tactic(auto)]
+
 ghost use Rattle.std.specs.Prelude.{◌≡◌, ◌+◌, ◌≤◌, length};
 ghost use Rattle.text.specs.Put.{put, answer, left};
 ghost use Rattle.path.specs.Kinds.{carried};

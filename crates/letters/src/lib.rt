@@ -1,4 +1,6 @@
 // Characters beyond ASCII: the characters of a text, their classes, and the plain picture of a text.
+#![tactic(auto)]
+
 pub mod check;
 pub mod class;
 pub mod picture;
@@ -9,7 +11,7 @@ ghost use Rattle.std.specs.Prelude.{◌≡◌, cond, ◌+◌, ◌≤◌, ◌<◌
 ghost use Rattle.letters.specs.Character.{proper, goes_on, character_of, size_of, whole, utf8};
 
 // A character of a text: its number and how many bytes it has, or a byte that begins no character.
-#[derive(Drop)]
+#[derive(Clone, Copy)]
 pub enum Character {
     Scalar { value: u32, size: usize },
     Broken,

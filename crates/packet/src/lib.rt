@@ -1,4 +1,6 @@
 // Packet keys of IBC version 2: a client identifier, a marker byte, and a sequence in 8 bytes, high byte first.
+#![tactic(auto)]
+
 ghost use Rattle.std.specs.Prelude.{◌≡◌, ◌∷◌, ◌+◌, ◌≤◌, length};
 ghost use Rattle.text.specs.Number.{big_endian};
 ghost use Rattle.text.specs.Put.{answer, left, Wrote};
@@ -19,7 +21,7 @@ const RECEIPT: u8 = 2;
 const ACKNOWLEDGEMENT: u8 = 3;
 
 // What a packet key is of.
-#[derive(Drop)]
+#[derive(Clone, Copy)]
 pub enum PacketKind {
     Commitment,
     Receipt,
@@ -27,14 +29,14 @@ pub enum PacketKind {
 }
 
 // The kind of a marker byte, where there is one.
-#[derive(Drop)]
+#[derive(Clone, Copy)]
 pub enum KindAnswer {
     Kind(PacketKind),
     Unknown,
 }
 
 // What a packet key says. Its client is the first `length` bytes of the key.
-#[derive(Drop)]
+#[derive(Clone, Copy)]
 pub struct PacketKey {
     pub kind: PacketKind,
     pub length: usize,
@@ -42,7 +44,7 @@ pub struct PacketKey {
 }
 
 // What the reader answers: what the key says, or a refusal by its number.
-#[derive(Drop)]
+#[derive(Clone, Copy)]
 pub enum PacketAnswer {
     Key(PacketKey),
     Refused(u8),
@@ -50,7 +52,7 @@ pub enum PacketAnswer {
 
 // The same as it crosses to C: 0 and what the key says, the kind by its marker, or a refusal and zeros.
 #[repr(C)]
-#[derive(Drop)]
+#[derive(Clone, Copy)]
 pub struct Packet {
     pub refusal: u8,
     pub kind: u8,

@@ -1,4 +1,6 @@
 // The typed path.
+#![tactic(auto)]
+
 mod carried;
 pub mod measure;
 pub mod name;
@@ -14,24 +16,24 @@ use text::Fault;
 use text::refusal::{NO_DIGITS, NOT_A_DIGIT, NOT_A_PATH, NOT_ASCII, TOO_LARGE, TOO_LONG};
 
 // A part of the caller's text: where it starts, and its length.
-#[derive(Drop)]
+#[derive(Clone, Copy)]
 pub struct Place {
     pub start: usize,
     pub len: usize,
 }
 
 // Three kinds of count, so that a sequence never stands where a height should.
-#[derive(Drop)]
+#[derive(Clone, Copy)]
 pub struct RevisionNumber(pub u64);
 
-#[derive(Drop)]
+#[derive(Clone, Copy)]
 pub struct RevisionHeight(pub u64);
 
-#[derive(Drop)]
+#[derive(Clone, Copy)]
 pub struct Sequence(pub u64);
 
 // A revision: its two counts, which stay apart.
-#[derive(Drop)]
+#[derive(Clone, Copy)]
 pub struct Revision {
     pub number: RevisionNumber,
     pub height: RevisionHeight,
@@ -39,58 +41,58 @@ pub struct Revision {
 
 // A revision number and height as they cross to C: 0 and the two, or a refusal and zeros.
 #[repr(C)]
-#[derive(Drop)]
+#[derive(Clone, Copy)]
 pub struct Pair {
     pub refusal: u8,
     pub number: u64,
     pub height: u64,
 }
 
-#[derive(Drop)]
+#[derive(Clone, Copy)]
 pub struct NoPlaces {}
 
-#[derive(Drop)]
+#[derive(Clone, Copy)]
 pub struct ClientPlaces {
     pub client: Place,
 }
 
-#[derive(Drop)]
+#[derive(Clone, Copy)]
 pub struct ConsensusPlaces {
     pub client: Place,
     pub number: RevisionNumber,
     pub height: RevisionHeight,
 }
 
-#[derive(Drop)]
+#[derive(Clone, Copy)]
 pub struct ConnectionPlaces {
     pub connection: Place,
 }
 
-#[derive(Drop)]
+#[derive(Clone, Copy)]
 pub struct PortPlaces {
     pub port: Place,
 }
 
-#[derive(Drop)]
+#[derive(Clone, Copy)]
 pub struct ChannelPlaces {
     pub port: Place,
     pub channel: Place,
 }
 
-#[derive(Drop)]
+#[derive(Clone, Copy)]
 pub struct PacketPlaces {
     pub port: Place,
     pub channel: Place,
     pub sequence: Sequence,
 }
 
-#[derive(Drop)]
+#[derive(Clone, Copy)]
 pub struct UpgradePlaces {
     pub upgrade: Place,
     pub height: RevisionHeight,
 }
 
-#[derive(Drop)]
+#[derive(Clone, Copy)]
 pub enum Path {
     NextClientSequence(NoPlaces),
     NextConnectionSequence(NoPlaces),
@@ -115,20 +117,20 @@ pub enum Path {
 
 // The cut text: where each of the first eight components starts, zero past the last, and how many there are. A count
 // of eight tells "more than seven".
-#[derive(Drop)]
+#[derive(Clone, Copy)]
 pub struct Cut {
     pub starts: [usize; 8],
     pub count: usize,
 }
 
-#[derive(Drop)]
+#[derive(Clone, Copy)]
 pub enum PathAnswer {
     Found(Path),
     Nothing,
 }
 
 // Why a text is no path. The last three are of a text whose number alone is wrong, each with the place of its fault.
-#[derive(Drop)]
+#[derive(Clone, Copy)]
 pub enum Refusal {
     TooLong,
     NotAscii,
@@ -139,7 +141,7 @@ pub enum Refusal {
 }
 
 // What a text reads as; exact where its rendering is the text itself.
-#[derive(Drop)]
+#[derive(Clone, Copy)]
 pub enum Reading {
     Read { path: Path, exact: bool },
     Refused(Refusal),
@@ -147,7 +149,7 @@ pub enum Reading {
 
 // A path in one flat form: its kind's number, the mark of its text, places and numbers. What the kind lacks is the empty part
 // at the start, or 0. Kind 0 is of no path.
-#[derive(Drop)]
+#[derive(Clone, Copy)]
 pub struct PathView {
     pub kind: u8,
     pub exact: bool,
@@ -158,7 +160,7 @@ pub struct PathView {
 }
 
 // What a text reads as, with the path in its flat form.
-#[derive(Drop)]
+#[derive(Clone, Copy)]
 pub enum ViewAnswer {
     Seen(PathView),
     Refused(Refusal),

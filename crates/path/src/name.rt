@@ -7,7 +7,7 @@ ghost use Rattle.path.specs.Read.{name_fault};
 use identifiers::validate;
 use text::refusal::{BAD_SEGMENT, NOT_ASCII};
 
-#[derive(Drop)]
+#[derive(Clone, Copy)]
 pub enum Name {
     Client,
     Connection,

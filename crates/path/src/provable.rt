@@ -7,7 +7,7 @@ use text::refusal::BAD_KIND;
 
 // A refusal number, 0 where there is none, and a value of 0 or 1.
 #[repr(C)]
-#[derive(Drop)]
+#[derive(Clone, Copy)]
 pub struct Flag {
     pub refusal: u8,
     pub value: u8,

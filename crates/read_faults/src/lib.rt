@@ -1,4 +1,6 @@
 // Why no kind fits a text: where a kind fits it but for a number, the first number that is none, and where.
+#![tactic(auto)]
+
 ghost use Rattle.std.specs.Prelude.{◌≡◌, ◌∷◌, [], ◌+◌, ◌^◌, ◌<◌, length};
 ghost use Rattle.text.specs.Number.{numeral_of};
 ghost use Rattle.path.specs.Cut.{cut_of};

@@ -1,4 +1,6 @@
 // The typed path of a text: the readers of the kinds, over the cut text.
+#![tactic(auto)]
+
 mod kinds;
 
 ghost use Rattle.std.specs.Prelude.{◌≡◌};

@@ -1,4 +1,6 @@
 // The cut text, and the readers of some of its components. Each answers what it finds, or nothing.
+#![tactic(auto)]
+
 pub mod cutter;
 
 ghost use Rattle.std.specs.Prelude.{◌≡◌, ◌+◌, ◌<◌};
@@ -15,43 +17,43 @@ use path::{
 };
 use text::Numeral;
 
-#[derive(Drop)]
+#[derive(Clone, Copy)]
 pub enum PlaceAnswer {
     At(Place),
     Nothing,
 }
 
-#[derive(Drop)]
+#[derive(Clone, Copy)]
 pub enum SequenceAnswer {
     Counted(Sequence),
     Nothing,
 }
 
-#[derive(Drop)]
+#[derive(Clone, Copy)]
 pub enum HeightAnswer {
     Height(RevisionHeight),
     Nothing,
 }
 
-#[derive(Drop)]
+#[derive(Clone, Copy)]
 pub enum RevisionAnswer {
     Revision(RevisionNumber, RevisionHeight),
     Nothing,
 }
 
-#[derive(Drop)]
+#[derive(Clone, Copy)]
 pub enum ConsensusAnswer {
     Consensus(ConsensusPlaces),
     Nothing,
 }
 
-#[derive(Drop)]
+#[derive(Clone, Copy)]
 pub enum ChannelAnswer {
     Channel(ChannelPlaces),
     Nothing,
 }
 
-#[derive(Drop)]
+#[derive(Clone, Copy)]
 pub enum PacketAnswer {
     Packet(PacketPlaces),
     Nothing,

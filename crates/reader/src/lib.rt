@@ -1,4 +1,6 @@
 // The first reader of path texts, which cuts a text into its components: the plainer one, that the second is held against.
+#![tactic(auto)]
+
 ghost use Rattle.std.specs.Prelude.{◌≡◌, length};
 ghost use Rattle.text.specs.Put.{left};
 ghost use Rattle.path.specs.Read.{read_path, reading_bytes, read_fault};

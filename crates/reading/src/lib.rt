@@ -1,4 +1,6 @@
 // What both readers need: the parts of a text that was read, the reason of a refusal, and the 26 bytes.
+#![tactic(auto)]
+
 pub mod encode;
 
 ghost use Rattle.std.specs.Prelude.{◌≡◌, cond, length};

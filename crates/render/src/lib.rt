@@ -1,4 +1,6 @@
 // Rendering: checks of the identifiers, the room, then the writers.
+#![tactic(auto)]
+
 pub mod fit;
 pub mod texts;
 
@@ -14,7 +16,7 @@ use text::Written;
 use text::refusal::BAD_KIND;
 
 // The identifiers of a kind from 4 on: one, or a port and a channel.
-#[derive(Drop)]
+#[derive(Clone, Copy)]
 pub enum Names {
     One(Name),
     PortAndChannel,

@@ -1,4 +1,6 @@
 // The sentence of a refusal, written for whoever asked.
+#![tactic(auto)]
+
 ghost use Rattle.std.specs.Prelude.{◌≡◌, ◌+◌, ◌≤◌, length};
 ghost use Rattle.text.specs.Put.{put, text, answer, left};
 ghost use Rattle.text.specs.Refusal.{sentence};

@@ -1,4 +1,6 @@
 // Number texts, parts of a text, and the writing of texts into a lent buffer.
+#![tactic(auto)]
+
 pub mod part;
 pub mod put;
 pub mod refusal;
@@ -11,7 +13,7 @@ ghost use Rattle.text.specs.Put.{put};
 use crate::refusal::{NO_DIGITS, NOT_A_DIGIT, TOO_LARGE};
 
 // What a text says as a number. A fault names its place in the text.
-#[derive(Drop)]
+#[derive(Clone, Copy)]
 pub enum Numeral {
     Value(u64),
     NoDigits(usize),
@@ -21,7 +23,7 @@ pub enum Numeral {
 
 // What a call that writes answers: a refusal number, 0 where it is done, and how many bytes were written.
 #[repr(C)]
-#[derive(Drop)]
+#[derive(Clone, Copy)]
 pub struct Written {
     pub refusal: u8,
     pub length: u64,
@@ -30,7 +32,7 @@ pub struct Written {
 // What a check answers: a refusal number, 0 where there is none, and where the fault stands. Only a number's faults have a
 // place; of all else it is 0.
 #[repr(C)]
-#[derive(Drop)]
+#[derive(Clone, Copy)]
 pub struct Fault {
     pub refusal: u8,
     pub place: u64,
@@ -118,7 +120,7 @@ pub fn numeral_fault(n: Numeral, at: usize) -> Fault
 }
 
 // A number of digits, and the least number that has one digit more.
-#[derive(Drop)]
+#[derive(Clone, Copy)]
 struct Band {
     digits: usize,
     unit: u64,

@@ -1,4 +1,6 @@
 // The second reader of path texts: a walk over the bytes. The first eight choose the family.
+#![tactic(auto)]
+
 mod counter;
 mod dispatch;
 mod opening;

@@ -5,7 +5,7 @@ ghost use Rattle.text.specs.Part.{starts_with};
 ghost use Rattle.walk.specs.Opening.{Opens, shown};
 
 // A kind whose `W/ports/` stands at the start of a text, and the place behind it; 0 where none of them does.
-#[derive(Drop)]
+#[derive(Clone, Copy)]
 pub(crate) struct Opening {
     pub(crate) kind: u8,
     pub(crate) at: usize,

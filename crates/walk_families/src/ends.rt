@@ -11,7 +11,7 @@ use walk_scan::name::{channel_length, plain_length};
 use walk_words::is_channels;
 
 // The lengths of P and H in `P/channels/H`: a channel of 0 tells that they do not stand there.
-#[derive(Drop)]
+#[derive(Clone, Copy)]
 pub struct Ends {
     pub port: usize,
     pub channel: usize,

@@ -1,4 +1,6 @@
 // The families of kinds, each read by one walk.
+#![tactic(auto)]
+
 pub mod client;
 pub mod ends;
 pub mod name;

@@ -7,7 +7,7 @@ ghost use Rattle.walk_scan.specs.Number.{figures, counted_of, plain_of};
 use text::over;
 
 // Digits as a number, and where they end; not ok where the value passes a u64.
-#[derive(Drop)]
+#[derive(Clone, Copy)]
 pub struct Figures {
     pub ok: bool,
     pub value: u64,
@@ -15,7 +15,7 @@ pub struct Figures {
 }
 
 // A number, where it ends, and whether it is spelled as it is rendered.
-#[derive(Drop)]
+#[derive(Clone, Copy)]
 pub struct Counted {
     pub ok: bool,
     pub value: u64,

@@ -1,4 +1,6 @@
 // The fixed words of the paths, each compared eight bytes at a time: `eight` of a literal is a number when this is compiled.
+#![tactic(auto)]
+
 ghost use Rattle.std.specs.Prelude.{◌≡◌, ◌≤◌, length, drop};
 ghost use Rattle.text.specs.Bytes.{bytes};
 ghost use Rattle.text.specs.Part.{starts_with};

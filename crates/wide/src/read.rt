@@ -11,7 +11,7 @@ use text::refusal::BAD_UTF8;
 use text::{Fault, Written};
 
 // What a text reads as, or that it is no UTF-8.
-#[derive(Drop)]
+#[derive(Clone, Copy)]
 pub enum WideReading {
     Of(Reading),
     NotTaken,

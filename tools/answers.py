@@ -1,0 +1,464 @@
+#!/usr/bin/env python3
+"""Turns proofs that walk the code, Proof.antt, into Invariants.antt and Answers.antt, each goal under its name of today.
+
+usage: python3 tools/answers.py CRATE NAMES [FUNCTION ..]     at the top of the repository. NAMES is the names.json of
+       'rt check --generated DIR --old-names' in the crate. A function is named as its folder below proofs/.
+
+It goes by text: the check decides. It prints what it could not turn, and leaves that function's Proof.antt where it stands.
+Answers that only say 'search rules' are left out, since the check tries that by itself.
+"""
+import json
+import os
+import re
+import sys
+
+NAME = r"[^\s(){}.;,@\"«»\[\]|]+"
+
+
+def same(name):
+    return name.replace("-", "_")
+
+
+def blocks(text):
+    """The items that begin at the left edge, each with the comments above it."""
+    out, pending = [], []
+    for line in text.split("\n"):
+        if line.startswith("--") or not line.strip():
+            pending.append(line)
+        elif line[0] in " \t":
+            out[-1] += "\n" + "\n".join(pending + [line]) if pending else "\n" + line
+            pending = []
+        else:
+            head = [p for p in pending if p.strip()]
+            out.append("\n".join(head + [line]))
+            pending = []
+    return out
+
+
+def code(block):
+    return "\n".join(l for l in block.split("\n") if not l.startswith("--"))
+
+
+def arguments(text):
+    """The arguments of an application, cut at the top level."""
+    out, depth, cur = [], 0, ""
+    for ch in text:
+        if ch in "([{":
+            depth += 1
+        elif ch in ")]}":
+            depth -= 1
+        if ch.isspace() and depth == 0:
+            if cur:
+                out.append(cur)
+            cur = ""
+        else:
+            cur += ch
+    return out + ([cur] if cur else [])
+
+
+def split_top(text, sep=","):
+    out, depth, cur = [], 0, ""
+    for ch in text:
+        if ch in "([{":
+            depth += 1
+        elif ch in ")]}":
+            depth -= 1
+        if ch == sep and depth == 0:
+            out.append(cur.strip())
+            cur = ""
+        else:
+            cur += ch
+    return out + [cur.strip()]
+
+
+class Left(Exception):
+    pass
+
+
+class Function:
+    def __init__(self, about):
+        self.about = about
+        self.places = {p[0]: i for i, p in enumerate(about["places"])}
+
+    def parent(self, place):
+        up = self.about["places"][self.places[place]][1]
+        if up is None:
+            raise Left("a path goes above the start")
+        return up
+
+    def clause(self, fields, rest):
+        """Nested pairs to the name of a clause: the path behind '.ensures' or '.requires'."""
+        if not fields or len(fields) < 2:
+            return "", rest
+        at = 0
+        rest = list(rest)
+        while True:
+            last = at == len(fields) - 1
+            if last:
+                return "." + fields[at], rest
+            if not rest:
+                return None, at
+            step = rest.pop(0)
+            if step == "0":
+                return "." + fields[at], rest
+            if step != "1":
+                raise Left(f"clause {step} of {fields}")
+            at += 1
+
+    def path(self, place, words):
+        """A path from the record of a place, in today's names; a place itself gives None and the place."""
+        words = list(words)
+        while words and words[0] == "before":
+            place = self.parent(place)
+            words.pop(0)
+        if not words:
+            return None, place
+        i = self.places[place]
+        spec = self.about["places"][i]
+        step, rest = words[0], words[1:]
+        arms = self.about["arms"][i] if i < len(self.about["arms"]) else None
+        if arms:
+            best = None
+            for field, old, way in arms[2]:
+                if same(old) == same(step) and rest[: len(way)] == way and (best is None or len(way) > len(best[1])):
+                    best = (field, way)
+            if best and best[1]:
+                return f"c.{arms[0]}.{best[0]}" + "".join("." + w for w in rest[len(best[1]) :]), None
+        if same(step) in ("args", "ranges"):
+            return "c." + ".".join([step] + rest), None
+        if step == "requires":
+            fields = (self.about["pre"] or {}).get("fields")
+            return self.clauses("c.requires", fields, rest), None
+        if same(spec[2][0]) != same(step) and same(spec[2][1]) != same(step):
+            raise Left(f"step {step} at {place}, which has {spec[2]}")
+        new = "c." + spec[2][1]
+        if arms and step == spec[2][0]:
+            new = "c." + arms[0]
+        if rest and rest[0] == "ensures":
+            fields = (self.about["clauses"][i] or {}).get("fields")
+            return self.clauses(new + ".ensures", fields, rest[1:]), None
+        return new + "".join("." + w for w in rest), None
+
+    def clauses(self, head, fields, rest):
+        if not fields or len(fields) < 2:
+            return head + "".join("." + w for w in rest)
+        name, more = self.clause(fields, rest)
+        if name is None:
+            whole = [f"{head}.{f}" for f in fields[more:]]
+            out = whole[-1]
+            for w in reversed(whole[:-1]):
+                out = f"({w}, {out})"
+            return out
+        return head + name + "".join("." + w for w in more)
+
+
+PATH = re.compile(rf"(?<![\w.'-])({NAME})((?:\.(?!\.)[^\s(){{}}.;,@\"«»\[\]|]+)*)")
+
+
+def body(fn, place, var, text):
+    """A body with its paths turned."""
+    alias = {var: (place, [])}
+    out, at = "", 0
+    let = re.compile(rf"let ({NAME}) = ({NAME})((?:\.[^\s(){{}}.;,@\"«»\[\]|]+)*) in(?=\s)")
+    while at < len(text):
+        m = let.match(text, at)
+        if m and m.group(2) in alias:
+            p, way = alias[m.group(2)]
+            words = way + [w for w in m.group(3).split(".") if w]
+            alias[m.group(1)] = (p, words)
+            at = m.end()
+            while at < len(text) and text[at].isspace():
+                at += 1
+            continue
+        m = PATH.match(text, at)
+        if m and (at == 0 or not re.match(r"[\w.'-]", text[at - 1])) and m.group(1) in alias:
+            p, way = alias[m.group(1)]
+            words = way + [w for w in m.group(2).split(".") if w]
+            new, where = fn.path(p, words)
+            if new is None:
+                raise Left(f"a place is used whole: {m.group(0)}")
+            out += new
+            at = m.end()
+            continue
+        m = re.match(NAME, text[at:])
+        if m:
+            out += m.group(0)
+            at += m.end()
+        else:
+            out += text[at]
+            at += 1
+    return out
+
+
+def lets(text):
+    """Splits leading lets from what they end in."""
+    at = 0
+    while True:
+        m = re.match(r"\s*let\b", text[at:])
+        if not m:
+            return text[:at], text[at:]
+        depth, i, inner = 0, at + m.end(), 0
+        while i < len(text):
+            if text[i] in "([{":
+                depth += 1
+            elif text[i] in ")]}":
+                depth -= 1
+            elif depth == 0 and re.match(r"\blet\b", text[i:]) and text[i - 1].isspace():
+                inner += 1
+            elif depth == 0 and re.match(r"in\b", text[i:]) and text[i - 1].isspace():
+                if inner == 0:
+                    break
+                inner -= 1
+            i += 1
+        else:
+            return text[:at], text[at:]
+        at = i + 2
+
+
+def record(fields, text):
+    head, tail = lets(text)
+    tail = tail.strip()
+    parts = []
+    cur = tail
+    for k in range(len(fields) - 1):
+        if not (cur.startswith("(") and closes(cur)):
+            return None
+        inside = split_top(cur[1:-1])
+        if len(inside) < 2:
+            return None
+        parts.append(inside[0])
+        cur = inside[1] if len(inside) == 2 else "(" + ", ".join(inside[1:]) + ")"
+    parts.append(cur)
+    return head.rstrip() + ("\n    " if head else "") + "record {\n" + "".join(f"      {f} = {p};\n" for f, p in zip(fields, parts)) + "    }"
+
+
+def closes(text):
+    depth = 0
+    for i, ch in enumerate(text):
+        if ch in "([{":
+            depth += 1
+        elif ch in ")]}":
+            depth -= 1
+            if depth == 0:
+                return i == len(text) - 1
+    return False
+
+
+def turn(path, about):
+    fn = Function(about)
+    with open(path, encoding="utf-8") as f:
+        items = blocks(f.read())
+    uses, helpers, invariants, named, final = [], [], {}, {}, None
+    for item in items:
+        c = code(item)
+        if re.match(r"(pub )?use ", c):
+            uses.append(c)
+            continue
+        if re.match(r"(pub )?\S+_spec\b", c):
+            final = (final or "") + "\n" + c
+            continue
+        m = re.match(rf"(?:abbrev )?(?:pub )?({NAME}) : tie\.({NAME})(.*)$", c.split("\n")[0])
+        if m:
+            named[m.group(1)] = [m.group(2), item, []]
+            last = m.group(1)
+            continue
+        m = re.match(rf"({NAME})", c)
+        if m and m.group(1) in named:
+            named[m.group(1)][2].append(item)
+        elif c.startswith("unfolding ") and named:
+            named[last][2].append(item)
+        elif helpers and not re.match(rf"(?:abbrev |unfoldable |pub )*{NAME} :", c) and not re.match(r"(pub )?(record|data|abbrev|unfoldable|ruleset|syntax) ", c):
+            # The equations of what stands above.
+            helpers[-1] += "\n" + item
+        else:
+            helpers.append(item)
+    if not final:
+        raise Left("no proof of the function at its end")
+    head = final
+    m = re.search(r"\(tie\.spec\b", head)
+    if not m:
+        if re.search(r"tie\.spec\b", head):
+            raise Left("the spec is not in brackets")
+        args = []
+    else:
+        depth, i = 0, m.start()
+        while True:
+            if head[i] == "(":
+                depth += 1
+            elif head[i] == ")":
+                depth -= 1
+                if depth == 0:
+                    break
+            i += 1
+        args = arguments(head[m.end() : i])
+    extra = 2 * len(about["loops"])
+    measures, answers = args[:extra], args[extra:]
+    # Loops: every invariant and measure stands ahead of the answers.
+    for a in list(answers):
+        if a in named and re.match(r"(invariant|decreases)-", named[a][0]):
+            measures.append(a)
+            answers.remove(a)
+    needs = about["needs"]
+    fits = len(answers) == len(needs)
+    if not fits:
+        print(f"    {len(answers)} answers for {len(needs)} goals, so by name")
+    by = {}
+    for old, new in needs:
+        by.setdefault(same(old), new)
+    for old, new in needs:
+        by.setdefault(same(new), new)
+    got = []
+    for k, a in enumerate(answers):
+        if a in named:
+            label = same(re.sub(r"^Need-", "", named[a][0]))
+            # The goal by its place, unless the label says another one.
+            new = needs[k][1] if fits else by.get(label) or by.get(re.sub(r"^overflow_", "", label))
+            if not new:
+                raise Left(f"no goal {named[a][0]}")
+            got.append((new, [n for n, x in enumerate(needs) if x[1] == new][0], named[a][1], named[a][2], a))
+        else:
+            m = re.match(r"\(λ ((?:\S+ )*?\S+)\. (.*)\)$", a, re.S)
+            if not m:
+                raise Left(f"an answer that is no λ: {a[:60]}")
+            if m.group(2).strip() == "search rules":
+                continue
+            if not fits:
+                raise Left("an answer with no name, and the goals do not fit")
+            got.append((needs[k][1], k, None, [m.group(2)], m.group(1)))
+    out_given, out_answers = [], []
+    variables = {}
+    for (names, vars_), changed in zip(about["loops"], about["changed"]):
+        variables[names[0]] = (names[1], vars_, changed)
+    for a in measures:
+        if a not in named:
+            raise Left(f"a measure that has no name: {a[:40]}")
+        kind, item, rest = named[a]
+        kind_word, loop = kind.split("-", 1)
+        found = [v for k, v in variables.items() if same(k) == same(loop)] or [v for v in variables.values() if same(v[0]) == same(loop)]
+        if not found:
+            raise Left(f"no loop {loop}")
+        new, vars_, changed = found[0]
+        text = code("\n".join(rest)) if rest else code(item).split("\n", 1)[1]
+        comment = "\n".join(l for l in item.split("\n") if l.startswith("--"))
+        m = re.match(rf"(unfolding [^\n]*\n)?({NAME})((?: {NAME})*?) =(?=\s)", text)
+        if not m:
+            raise Left(f"an invariant of another form: {text[:60]}")
+        params = m.group(3).split()
+        first = [(p, v) for p, v in zip(params, vars_)]
+        moving = [v for v, ch in zip(vars_, changed) if ch]
+        second = list(zip(params[len(vars_) :], moving))
+        if len(params) != len(vars_) + len(moving):
+            raise Left(f"{len(params)} parameters of {a}, of {len(vars_)} and {len(moving)} variables")
+        table = {}
+        for p, v in first:
+            table[p] = f"l.initial.{v}" if v in moving else f"l.{v}"
+        for p, v in second:
+            table[p] = f"l.{v}"
+        rhs = text[m.end() :]
+
+        def put(mm):
+            return table[mm.group(1)] + mm.group(2) if mm.group(1) in table else mm.group(0)
+
+        rhs = re.sub(rf"(?<![\w.'-])({NAME})((?:\.[^\s(){{}}.;,@\"«»\[\]|]+)*)", put, rhs)
+        out_given.append((comment + "\n" if comment else "") + f"abbrev pub {kind_word}-{new} : goal.{kind_word}-{new}\n" + (m.group(1) or "") + f"{kind_word}-{new} l ={rhs.rstrip()}")
+    for new, k, item, rest, name in got:
+        place = about["asked_at"][k][0]
+        fields = about["asked"].get(needs[k][0])
+        if item is None:
+            var, text, lead, comment = name.split()[0], rest[0], "", ""
+        else:
+            text = code("\n".join(rest)) if rest else "\n".join(code(item).split("\n")[1:])
+            comment = "\n".join(l for l in item.split("\n") if l.startswith("--"))
+            m = re.match(rf"(unfolding [^\n]*\n)?({NAME})((?: {NAME})*?) =(?=\s)", text)
+            if not m:
+                raise Left(f"an answer of another form: {text[:60]}")
+            lead, var, text = m.group(1) or "", m.group(3).split()[0], text[m.end() :]
+        done = body(fn, place, var, text).rstrip()
+        # A test of a `!` says today what stands behind the `!`.
+        done = re.sub(r"\bnot-(?:true|false) (?:_|\([^()]*\)) (c\.[^\s()]+)", r"\1", done)
+        if fields and len(fields) > 1:
+            made = record(fields, done)
+            if made is None:
+                head, tail = lets(done)
+                again = re.match(r"\s*rw (\S+) (\S.*)$", tail, re.S) if not tail.strip().startswith("rw (") else None
+                if tail.strip().startswith("rw ("):
+                    words = arguments(tail.strip())
+                    again = words if len(words) == 3 else None
+                else:
+                    again = arguments(tail.strip()) if again else None
+                if again and len(again) == 3:
+                    inner = record(fields, again[2])
+                    if inner:
+                        pieces = re.findall(r"(?m)^      (\w+) = (.*);$", inner)
+                        made = head.rstrip() + ("\n    " if head else "") + "record {\n" + "".join(f"      {f} = rw {again[1]} {t if closes(t) or ' ' not in t else '(' + t + ')'};\n" for f, t in pieces) + "    }"
+            if made is None:
+                way = [f"p" + ".1" * j + (".0" if j < len(fields) - 1 else "") for j in range(len(fields))]
+                made = head.rstrip() + f"\n    let p = {tail.strip()} in record {{ " + "; ".join(f"{f} = {w}" for f, w in zip(fields, way)) + " }"
+            done = " " + made.lstrip() if not made.startswith("\n") else made
+        if not done.startswith(("\n", " ")):
+            done = " " + done
+        out_answers.append((comment + "\n" if comment else "") + f"pub {new} : goal.{new}\n{lead}{new} c ={done}")
+    module = next(re.search(r"use (\S+)\.Tie as tie", u).group(1) for u in uses if ".Tie as tie" in u)
+    uses = [u for u in uses if ".Tie as tie" not in u and ".Statement." not in u]
+    comment = "\n".join(l for l in items[0].split("\n") if l.startswith("--") and "Assumes nothing" not in l)
+    folder = os.path.dirname(path)
+
+    def needed(text):
+        """The imports that a text names."""
+        out = []
+        for u in uses:
+            m = re.match(r"((?:pub )?use [^\s{]+?\.)\{(.*)\}$", u, re.S)
+            if not m:
+                if re.search(r"(?<![\w.])" + re.escape(u.split(" as ")[-1].strip()) + r"(?![\w])", text):
+                    out.append(u)
+                continue
+            keep = []
+            for w in split_top(m.group(2)):
+                shown = w.split(" as ")[-1].strip()
+                parts = [p for p in shown.split("◌") if p]
+                if all(re.search(r"(?<![^\s().,{};\[\]])" + re.escape(p) + r"(?![^\s().,{};\[\]])", text) for p in parts):
+                    keep.append(w)
+            if keep:
+                out.append(m.group(1) + "{" + ", ".join(keep) + "}")
+        return "\n".join(out)
+
+    shared = [h for h in helpers if any(re.search(rf"(?<![\w.'-]){re.escape(re.match(NAME, re.sub(r'^(abbrev |unfoldable |pub )*', '', code(h))).group(0))}(?![\w'-])", g) for g in out_given)]
+    if out_given:
+        text = "\n\n".join(shared + out_given)
+        with open(os.path.join(folder, "Invariants.antt"), "w", encoding="utf-8") as f:
+            f.write((comment + "\n" if comment else "") + needed(text) + f"\nuse {module}.Given as goal\n\n" + text + "\n")
+    rest = [h for h in helpers if h not in shared]
+    if out_answers:
+        text = "\n\n".join(rest + out_answers)
+        with open(os.path.join(folder, "Answers.antt"), "w", encoding="utf-8") as f:
+            f.write((comment + "\n" if comment and not out_given else "") + needed(text) + f"\nuse {module}.Goals as goal\n\n" + text + "\n")
+    if shared:
+        print(f"    the invariant has helpers of its own")
+    os.rename(path, path + ".old")
+
+
+def main():
+    crate, names, only = sys.argv[1], sys.argv[2], sys.argv[3:]
+    with open(names) as f:
+        about = json.load(f)
+    base = f"crates/{crate}/proofs"
+    for folder, _, files in sorted(os.walk(base)):
+        if "Proof.antt" not in files:
+            continue
+        name = os.path.relpath(folder, base)
+        if only and name not in only:
+            continue
+        key = f"Rattle-{crate}-proofs.{name.replace('/', '.')}.Lts"
+        try:
+            if key not in about:
+                raise Left(f"no names of it ({key})")
+            turn(os.path.join(folder, "Proof.antt"), about[key])
+            print(f"turned {name}")
+        except Left as e:
+            print(f"LEFT {name}: {e}")
+        except Exception as e:  # noqa: BLE001
+            print(f"LEFT {name}: {type(e).__name__} {e}")
+
+
+if __name__ == "__main__":
+    main()
