@@ -80,11 +80,6 @@ class Function:
         self.about = about
         self.places = {p[0]: i for i, p in enumerate(about["places"])}
 
-    def parent(self, place):
-        up = self.about["places"][self.places[place]][1]
-        if up is None:
-            raise Left("a path goes above the start")
-        return up
 
     def clause(self, fields, rest):
         """Nested pairs to the name of a clause: the path behind '.ensures' or '.requires'."""
@@ -105,14 +100,8 @@ class Function:
                 raise Left(f"clause {step} of {fields}")
             at += 1
 
-    def path(self, place, words):
-        """A path from the record of a place, in today's names; a place itself gives None and the place."""
-        words = list(words)
-        while words and words[0] == "before":
-            place = self.parent(place)
-            words.pop(0)
-        if not words:
-            return None, place
+    def here(self, place, words):
+        """The path of a step that this place has, or None."""
         i = self.places[place]
         spec = self.about["places"][i]
         step, rest = words[0], words[1:]
@@ -123,21 +112,42 @@ class Function:
                 if same(old) == same(step) and rest[: len(way)] == way and (best is None or len(way) > len(best[1])):
                     best = (field, way)
             if best and best[1]:
-                return f"c.{arms[0]}.{best[0]}" + "".join("." + w for w in rest[len(best[1]) :]), None
-        if same(step) in ("args", "ranges"):
-            return "c." + ".".join([step] + rest), None
-        if step == "requires":
-            fields = (self.about["pre"] or {}).get("fields")
-            return self.clauses("c.requires", fields, rest), None
+                return f"c.{arms[0]}.{best[0]}" + "".join("." + w for w in rest[len(best[1]) :])
         if same(spec[2][0]) != same(step) and same(spec[2][1]) != same(step):
-            raise Left(f"step {step} at {place}, which has {spec[2]}")
+            return None
         new = "c." + spec[2][1]
         if arms and step == spec[2][0]:
             new = "c." + arms[0]
         if rest and rest[0] == "ensures":
             fields = (self.about["clauses"][i] or {}).get("fields")
-            return self.clauses(new + ".ensures", fields, rest[1:]), None
-        return new + "".join("." + w for w in rest), None
+            return self.clauses(new + ".ensures", fields, rest[1:])
+        return new + "".join("." + w for w in rest)
+
+    def path(self, place, words):
+        """A path from the record of a place, in today's names; a place itself gives None and the place."""
+        chain = [place]
+        while self.about["places"][self.places[chain[-1]]][1] is not None:
+            chain.append(self.about["places"][self.places[chain[-1]]][1])
+        words = list(words)
+        words[:] = ["all-ascii" if w == "all_IsAscii" else w for w in words]
+        up = 0
+        while words and words[0] == "before":
+            up += 1
+            words.pop(0)
+        if not words:
+            return None, place
+        step, rest = words[0], words[1:]
+        if same(step) in ("args", "ranges"):
+            return "c." + ".".join([step] + rest), None
+        if step == "requires":
+            fields = (self.about["pre"] or {}).get("fields")
+            return self.clauses("c.requires", fields, rest), None
+        # Where the older text had more or fewer places on the way, the step is the nearest of its name.
+        for at in sorted(range(len(chain)), key=lambda k: abs(k - up)):
+            found = self.here(chain[at], words)
+            if found:
+                return found, None
+        raise Left(f"no step {step} above {place}")
 
     def clauses(self, head, fields, rest):
         if not fields or len(fields) < 2:
@@ -244,6 +254,41 @@ def closes(text):
     return False
 
 
+def align(answers, named, needs):
+    """The goal of each answer, in order, where the check asks for other goals than it did."""
+    plain = lambda w: re.sub(r"_\d+$", "", re.sub(r"^overflow_", "", same(w)))
+
+    def cost(a, k):
+        if a in named:
+            label = plain(re.sub(r"^Need-", "", named[a][0]))
+            return 0 if label in (plain(needs[k][0]), plain(needs[k][1])) else 100
+        return 1
+
+    def dropped(a):
+        return 100 if a in named else 2 if "search rules)" in a and "let " not in a else 60
+
+    n, m = len(answers), len(needs)
+    best = [[0] * (m + 1) for _ in range(n + 1)]
+    for i in range(n - 1, -1, -1):
+        best[i][m] = best[i + 1][m] + dropped(answers[i])
+    for j in range(m - 1, -1, -1):
+        best[n][j] = best[n][j + 1] + 1
+    for i in range(n - 1, -1, -1):
+        for j in range(m - 1, -1, -1):
+            best[i][j] = min(best[i + 1][j + 1] + cost(answers[i], j), best[i + 1][j] + dropped(answers[i]), best[i][j + 1] + 1)
+    out, i, j = [], 0, 0
+    while i < n:
+        if j < m and best[i][j] == best[i + 1][j + 1] + cost(answers[i], j):
+            out.append(j if cost(answers[i], j) < 100 else None)
+            i, j = i + 1, j + 1
+        elif best[i][j] == best[i + 1][j] + dropped(answers[i]):
+            out.append(None)
+            i += 1
+        else:
+            j += 1
+    return out
+
+
 def turn(path, about):
     fn = Function(about)
     with open(path, encoding="utf-8") as f:
@@ -300,31 +345,24 @@ def turn(path, about):
             answers.remove(a)
     needs = about["needs"]
     fits = len(answers) == len(needs)
+    where = list(range(len(answers)))
     if not fits:
-        print(f"    {len(answers)} answers for {len(needs)} goals, so by name")
-    by = {}
-    for old, new in needs:
-        by.setdefault(same(old), new)
-    for old, new in needs:
-        by.setdefault(same(new), new)
+        where = align(answers, named, needs)
     got = []
     for k, a in enumerate(answers):
         if a in named:
-            label = same(re.sub(r"^Need-", "", named[a][0]))
-            # The goal by its place, unless the label says another one.
-            new = needs[k][1] if fits else by.get(label) or by.get(re.sub(r"^overflow_", "", label))
-            if not new:
+            if where[k] is None:
                 raise Left(f"no goal {named[a][0]}")
-            got.append((new, [n for n, x in enumerate(needs) if x[1] == new][0], named[a][1], named[a][2], a))
+            got.append((needs[where[k]][1], where[k], named[a][1], named[a][2], a))
         else:
             m = re.match(r"\(λ ((?:\S+ )*?\S+)\. (.*)\)$", a, re.S)
             if not m:
                 raise Left(f"an answer that is no λ: {a[:60]}")
             if m.group(2).strip() == "search rules":
                 continue
-            if not fits:
+            if where[k] is None:
                 raise Left("an answer with no name, and the goals do not fit")
-            got.append((needs[k][1], k, None, [m.group(2)], m.group(1)))
+            got.append((needs[where[k]][1], where[k], None, [m.group(2)], m.group(1)))
     out_given, out_answers = [], []
     variables = {}
     for (names, vars_), changed in zip(about["loops"], about["changed"]):

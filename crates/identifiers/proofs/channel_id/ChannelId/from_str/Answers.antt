@@ -1,0 +1,9 @@
+-- `identifiers::channel_id::ChannelId::from_str` meets its contract.
+use Rattle.identifiers.specs.Check.{fault_of}
+use Rattle.identifiers.specs.Owned.{as_written, made_channel}
+use Rattle.identifiers.proofs.channel_id.ChannelId.from_str.Goals as goal
+
+pub returns : goal.returns
+unfolding as_written made_channel fault_of
+returns c =
+    rw (c.write_accepted-made.ensures.value, c.write_accepted-made.ensures.out_after, c.validate_channel_identifier-fault.ensures)

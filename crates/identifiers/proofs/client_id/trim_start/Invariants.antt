@@ -1,0 +1,12 @@
+-- `identifiers::client_id::trim_start` meets its contract.
+use mathlib.Core.Path.{◌≡◌}
+use Prim.Native.Nat.{◌≤◌, ◌-◌}
+use lib.ListN.{length, drop}
+use Rattle.identifiers.specs.Owned.{trim_start}
+use Rattle.identifiers.proofs.client_id.trim_start.Given as goal
+
+abbrev pub invariant-loop-i : goal.invariant-loop-i
+invariant-loop-i l = (l.i ≤ length l.s) × (trim_start l.s ≡ trim_start (drop l.i l.s))
+
+abbrev pub decreases-loop-i : goal.decreases-loop-i
+decreases-loop-i l = length l.s - l.i
