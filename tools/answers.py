@@ -68,7 +68,7 @@ def split_top(text, sep=","):
             cur = ""
         else:
             cur += ch
-    return out + [cur.strip()]
+    return out + ([cur.strip()] if cur.strip() else [])
 
 
 class Left(Exception):
@@ -80,6 +80,10 @@ class Function:
         self.about = about
         self.places = {p[0]: i for i, p in enumerate(about["places"])}
 
+
+    def dashed(self, word):
+        """Whether a word with a dash is one that the check makes."""
+        return word in ("ref-ptr", "ghost-name")
 
     def clause(self, fields, rest):
         """Nested pairs to the name of a clause: the path behind '.ensures' or '.requires'."""
@@ -136,6 +140,12 @@ class Function:
             words.pop(0)
         if not words:
             return None, place
+        # A field of the source has no dash; a field of specs/ may.
+        words[1:2] = [same(w) for w in words[1:2] if not self.dashed(w)] or words[1:2]
+        if len(words) > 2 and words[1] in ("result", "new", "now"):
+            words[2] = same(words[2])
+        if len(words) > 3 and words[1] == "args" or words[0] == "args":
+            words[2:4] = [same(w) if re.fullmatch(r"[a-z-]+", w) and w != "ref-ptr" else w for w in words[2:4]]
         step, rest = words[0], words[1:]
         if same(step) in ("args", "ranges"):
             return "c." + ".".join([step] + rest), None

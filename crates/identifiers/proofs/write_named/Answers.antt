@@ -44,9 +44,9 @@ returns c =
     let d = length-decimal c.args.counter in
     record {
       value = ap done (omega arith) ∙ sym (answer-fits _ _ (omega arith));
-      out_after = (sym
+      out_after = sym
           (left-fits _ _ (omega arith)
-          ∙ put_next c.args.out.now 0 c.args.name.now _ c.write_text-dash.new.0 c.write_text-dash.result (omega arith) c.write_text-dash.ensures.value c.write_text-dash.ensures.out_after
-          ∙ put_next c.write_text-dash.new.0 c.write_text-dash.result (45 ∷ []) _ c.write_byte-index.new.0 c.write_byte-index.result (omega arith) c.write_byte-index.ensures.value c.write_byte-index.ensures.out_after
-          ∙ sym c.write_index-end.ensures.out_after), );
+          ∙ put_next c.args.out.now 0 c.args.name.now _ c.write_text-dash.new.out c.write_text-dash.result (omega arith) c.write_text-dash.ensures.value c.write_text-dash.ensures.out_after
+          ∙ put_next c.write_text-dash.new.out c.write_text-dash.result (45 ∷ []) _ c.write_byte-index.new.out c.write_byte-index.result (omega arith) c.write_byte-index.ensures.value c.write_byte-index.ensures.out_after
+          ∙ sym c.write_index-end.ensures.out_after);
     }

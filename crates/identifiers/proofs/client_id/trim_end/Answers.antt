@@ -1,4 +1,3 @@
-use mathlib.Core.Logic.{⊎_elim}
 use mathlib.Core.Path.{sym, ap, ◌∙◌}
 use Prim.Native.Nat.{◌-◌}
 use native.Mathlib.Nat.{sub-zero}
@@ -8,6 +7,7 @@ use borrow.Author.Rules.{rules}
 use Rattle.identifiers.specs.Owned.{trim_end}
 use Rattle.identifiers.specs.OwnedLaws.{end_none, end-stop, end_more}
 use Rattle.identifiers.proofs.client_id.trim_end.Goals as goal
+use Rattle.identifiers.proofs.client_id.trim_end.Goals.{then-loop-end-test+else-is_white, else-loop-end-test}
 
 pub loop-end-init : goal.loop-end-init
 loop-end-init c = (search rules, ap trim_end (sym (take-length _)))
@@ -21,4 +21,4 @@ returns c =
     rw sub-zero
     (sym
     (c.loop-end.invariant.1
-    ∙ ⊎_elim (λ w. end-stop c.args.s.now c.loop-end.end (c.loop-end.end - 1) (omega arith) (omega arith) (sym w.2.ensures ∙ w.3.left)) (λ w. end_none c.args.s.now c.loop-end.end (omega arith)) c.loop-end-test.branch))
+    ∙ (elim c.loop-end-test.branch [ then-loop-end-test+else-is_white w ↦ end-stop c.args.s.now c.loop-end.end (c.loop-end.end - 1) (omega arith) (omega arith) (sym w.is_white.ensures ∙ w.if-is_white.false) | else-loop-end-test w ↦ end_none c.args.s.now c.loop-end.end (omega arith) ])))

@@ -20,7 +20,7 @@ returns-then-refusal-ne0 c =
     let low = sym c.all_ascii.ensures ∙ c.if-not-all_ascii.false in
     let t = c.trim_end-name.ensures ∙ ap trim_end c.trim_start.ensures in
     let v = c.validate_client_type-refusal.ensures ∙ ap (check_of client_type) t in
-    let e = new-refused c.args.client-type.now c.args.counter low (λ z. c.if-refusal-ne0.true (v ∙ z)) ∙ ap refused (sym v) in
+    let e = new-refused c.args.client_type.now c.args.counter low (λ z. c.if-refusal-ne0.true (v ∙ z)) ∙ ap refused (sym v) in
     record {
       value = rw e;
       out_after = rw e;
@@ -32,7 +32,7 @@ returns c =
     let low = sym c.all_ascii.ensures ∙ c.if-not-all_ascii.false in
     let t = c.trim_end-name.ensures ∙ ap trim_end c.trim_start.ensures in
     let v = c.validate_client_type-refusal.ensures ∙ ap (check_of client_type) t in
-    let e = new-text c.args.client-type.now c.args.counter low (sym v ∙ c.if-refusal-ne0.false) in
+    let e = new-text c.args.client_type.now c.args.counter low (sym v ∙ c.if-refusal-ne0.false) in
     record {
       value = rw (e, ← t) c.write_named.ensures.value;
       out_after = rw (e, ← t) c.write_named.ensures.out_after;

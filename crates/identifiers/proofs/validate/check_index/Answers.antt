@@ -1,6 +1,5 @@
 -- `identifiers::validate::check_index` meets its contract.
 use mathlib.Core.Path.{◌∙◌}
-use mathlib.Core.Logic.{⊎_elim}
 use Prim.Native.Nat.{◌-◌}
 use native.Mathlib.Omega.{arith}
 use lib.ListN.{length, take, drop}
@@ -9,6 +8,7 @@ use Rattle.text.specs.PartLaws.{part-rest}
 use Rattle.identifiers.specs.CheckLaws.{index_short, index-other}
 use Rattle.identifiers.specs.FaultLaws.{index-refused, index-answers, index-room}
 use Rattle.identifiers.proofs.validate.check_index.Goals as goal
+use Rattle.identifiers.proofs.validate.check_index.Goals.{then-index-gt1+else-index-eq48, else-index-gt1}
 
 pub returns-then-index-eq48 : goal.returns-then-index-eq48
 returns-then-index-eq48 c =
@@ -22,4 +22,4 @@ pub returns : goal.returns
 returns c =
     let d = take (length c.args.id.now - c.args.start) (drop c.args.start c.args.id.now) in
     c.numeral_fault.ensures
-    ∙ index-answers c.args.id.now d c.args.start (part-rest c.args.start c.args.id.now) _ c.read_number.ensures (⊎_elim (λ w. index-other d (omega arith) w.2.left) (λ w. index_short d (omega arith)) c.if-index-gt1.branch)
+    ∙ index-answers c.args.id.now d c.args.start (part-rest c.args.start c.args.id.now) _ c.read_number.ensures (elim c.if-index-gt1.branch [ then-index-gt1+else-index-eq48 w ↦ index-other d (omega arith) w.if-index-eq48.false | else-index-gt1 w ↦ index_short d (omega arith) ])
