@@ -133,7 +133,7 @@ class Function:
         while self.about["places"][self.places[chain[-1]]][1] is not None:
             chain.append(self.about["places"][self.places[chain[-1]]][1])
         words = list(words)
-        words[:] = ["all-ascii" if w == "all_IsAscii" else w for w in words]
+        words[:] = ["all-ascii" if w == "all_IsAscii" else re.sub(r"_(lem|when|it|fn)$", "", w) for w in words]
         up = 0
         while words and words[0] == "before":
             up += 1
@@ -303,7 +303,7 @@ def turn(path, about):
     fn = Function(about)
     with open(path, encoding="utf-8") as f:
         items = blocks(f.read())
-    uses, helpers, invariants, named, final = [], [], {}, {}, None
+    uses, helpers, invariants, named, final, unfolded = [], [], {}, {}, None, ""
     for item in items:
         c = code(item)
         if re.match(r"(pub )?use ", c):
@@ -311,6 +311,9 @@ def turn(path, about):
             continue
         if re.match(r"(pub )?\S+_spec\b", c):
             final = (final or "") + "\n" + c
+            continue
+        if c.startswith("unfolding ") and final:
+            unfolded = c.strip() + "\n"
             continue
         m = re.match(rf"(?:abbrev )?(?:pub )?({NAME}) : tie\.({NAME})(.*)$", c.split("\n")[0])
         if m:
@@ -413,7 +416,7 @@ def turn(path, about):
         place = about["asked_at"][k][0]
         fields = about["asked"].get(needs[k][0])
         if item is None:
-            var, text, lead, comment = name.split()[0], rest[0], "", ""
+            var, text, lead, comment = name.split()[0], rest[0], unfolded, ""
         else:
             text = code("\n".join(rest)) if rest else "\n".join(code(item).split("\n")[1:])
             comment = "\n".join(l for l in item.split("\n") if l.startswith("--"))
@@ -422,6 +425,10 @@ def turn(path, about):
                 raise Left(f"an answer of another form: {text[:60]}")
             lead, var, text = m.group(1) or "", m.group(3).split()[0], text[m.end() :]
         done = body(fn, place, var, text).rstrip()
+        # What the earlier arms left is read by omega where it stands.
+        for gone in re.findall(r"let (\w+) = past \d+ \d+ \S+ c\.in_default\S* \S+ in ", done):
+            done = re.sub(rf"let {gone} = past \d+ \d+ \S+ c\.in_default\S* \S+ in ", "", done)
+            done = re.sub(rf"omega \(arith, {gone}(, [^()]*)?\)", "omega arith", done)
         # A test of a `!` says today what stands behind the `!`.
         done = re.sub(r"\bnot-(?:true|false) (?:_|\([^()]*\)) (c\.[^\s()]+)", r"\1", done)
         if fields and len(fields) > 1:

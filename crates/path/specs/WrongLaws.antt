@@ -100,12 +100,16 @@ pair-wrong c i (r ∷ (k ∷ (x ∷ xs))) w others e h = let z : ◌≡◌ {A = 
 -- a bad number is the first fault of its component
 bad_faults : (p : Part) (c : List ℕ) (i : ℕ) (w : Refusal) → BadNumber p c i w → (rest : List Refusal) × (part_faults p i c ≡ w ∷ rest)
 unfolding part_faults
+bad_faults (word _) c i w x = elim x [ ]
+bad_faults (name _) c i w x = elim x [ ]
 bad_faults count c i w (whole x) = ([], wrong_numeral c i w x)
 bad_faults pair c i w (before_dash {r = r} {h = h} e x) = (numeral_faults (i + length r + 1) (numeral_of h), rw (e, wrong_numeral r i w x))
 bad_faults pair c i w (behind_dash {r = r} {h = h} e n x) = ([], rw (e, n.1, wrong_numeral h (i + length r + 1) w x))
 
 bad-suits : (p : Part) (c : List ℕ) (i : ℕ) (w : Refusal) → BadNumber p c i w → suits p c ≡ true
 unfolding suits
+bad-suits (word _) c i w x = elim x [ ]
+bad-suits (name _) c i w x = elim x [ ]
 bad-suits count c i w (whole x) = refl
 bad-suits pair c i w (before_dash e x) = refl
 bad-suits pair c i w (behind_dash e n x) = refl
