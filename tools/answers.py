@@ -75,6 +75,24 @@ class Left(Exception):
     pass
 
 
+SIGNATURES = {}
+
+
+def lent_to(callee, params):
+    """The parameters of a function that are lent to be written, by its source."""
+    if not SIGNATURES:
+        for folder, _, files in os.walk("crates"):
+            for f in files:
+                if f.endswith(".rt"):
+                    with open(os.path.join(folder, f), encoding="utf-8") as text:
+                        for m in re.finditer(r"\bfn (\w+)[^(]*\(([^)]*)\)", text.read()):
+                            words = [w.strip() for w in m.group(2).split(",") if w.strip()]
+                            names = [w.split(":")[0].strip() for w in words]
+                            SIGNATURES.setdefault(m.group(1), []).append((names, [w.split(":")[0].strip() for w in words if "&mut" in w]))
+    found = [lent for names, lent in SIGNATURES.get(callee.split("::")[-1], []) if names == params]
+    return found[0] if found else []
+
+
 class Function:
     def __init__(self, about):
         self.about = about
@@ -125,6 +143,13 @@ class Function:
         if rest and rest[0] == "ensures":
             fields = (self.about["clauses"][i] or {}).get("fields")
             return self.clauses(new + ".ensures", fields, rest[1:])
+        if len(rest) > 1 and rest[0] == "new" and rest[1] in ("0", "1") and spec[3]:
+            lent = lent_to(spec[3], self.about["params"].get(spec[3], []))
+            if len(lent) == 1:
+                return self.clauses(f"{new}.new.{lent[0]}", None, rest[2:])
+            name, more = self.clause(lent, rest[1:])
+            if name:
+                return f"{new}.new{name}" + "".join("." + w for w in more)
         return new + "".join("." + w for w in rest)
 
     def path(self, place, words):
@@ -133,7 +158,7 @@ class Function:
         while self.about["places"][self.places[chain[-1]]][1] is not None:
             chain.append(self.about["places"][self.places[chain[-1]]][1])
         words = list(words)
-        words[:] = ["all-ascii" if w == "all_IsAscii" else re.sub(r"_(lem|when|it|fn)$", "", w) for w in words]
+        words[:] = ["all-ascii" if w == "all_IsAscii" else re.sub(r"_Is([A-Z])", lambda m: "-" + m.group(1).lower(), re.sub(r"_(lem|when|it|fn)$", "", w)) for w in words]
         up = 0
         while words and words[0] == "before":
             up += 1
@@ -264,15 +289,26 @@ def closes(text):
     return False
 
 
-def align(answers, named, needs):
-    """The goal of each answer, in order, where the check asks for other goals than it did."""
+def align(answers, named, needs, fits):
+    """The goal of each answer, in order, where the check asks for other goals than it did; fits says whether the answer's paths can be read at a goal."""
     plain = lambda w: re.sub(r"_\d+$", "", re.sub(r"^overflow_", "", same(w)))
 
+    known = {}
+
     def cost(a, k):
+        if (a, k) not in known:
+            known[a, k] = cost_of(a, k)
+        return known[a, k]
+
+    def cost_of(a, k):
         if a in named:
             label = plain(re.sub(r"^Need-", "", named[a][0]))
-            return 0 if label in (plain(needs[k][0]), plain(needs[k][1])) else 100
-        return 1
+            if label not in (plain(needs[k][0]), plain(needs[k][1])):
+                return 100
+            return 0 if fits(a, k) else 40
+        # The answer of a call's premise takes one argument more.
+        odd = ("κs" in a.split(".")[0]) != ("requires" in needs[k][0])
+        return 1 + 30 * odd + (0 if fits(a, k) else 40)
 
     def dropped(a):
         return 100 if a in named else 2 if "search rules)" in a and "let " not in a else 60
@@ -360,7 +396,17 @@ def turn(path, about):
     fits = len(answers) == len(needs)
     where = list(range(len(answers)))
     if not fits:
-        where = align(answers, named, needs)
+
+
+        def readable(a, k):
+            try:
+                text = code("\n".join([named[a][1]] + named[a][2])).split(" =", 1)[1] if a in named else re.match(r"\(λ ((?:\S+ )*?\S+)\. (.*)\)$", a, re.S).group(2)
+                body(fn, about["asked_at"][k][0], "c", text)
+                return True
+            except Left:
+                return False
+
+        where = align(answers, named, needs, readable)
     got = []
     for k, a in enumerate(answers):
         if a in named:
@@ -426,11 +472,18 @@ def turn(path, about):
             lead, var, text = m.group(1) or "", m.group(3).split()[0], text[m.end() :]
         done = body(fn, place, var, text).rstrip()
         # What the earlier arms left is read by omega where it stands.
-        for gone in re.findall(r"let (\w+) = past \d+ \d+ \S+ c\.in_default\S* \S+ in ", done):
-            done = re.sub(rf"let {gone} = past \d+ \d+ \S+ c\.in_default\S* \S+ in ", "", done)
+        for gone in re.findall(r"let (\w+) = past \d+ \d+ \S+ c\.in_default\S* (?:\([^()]*\)|\S+) in ", done):
+            done = re.sub(rf"let {gone} = past \d+ \d+ \S+ c\.in_default\S* (?:\([^()]*\)|\S+) in ", "", done)
             done = re.sub(rf"omega \(arith, {gone}(, [^()]*)?\)", "omega arith", done)
-        # A test of a `!` says today what stands behind the `!`.
-        done = re.sub(r"\bnot-(?:true|false) (?:_|\([^()]*\)) (c\.[^\s()]+)", r"\1", done)
+        # A test of a call behind a `!` says today what the call answered.
+        called = {(p[3] or "").split("::")[-1] for p in about["places"]}
+
+        def turned(m):
+            return f"(ap not {m.group(0)})" if re.sub(r"-\d+$", "", m.group(1)) in called else m.group(0)
+
+        step = r"c\.if-not-([^\s(),{};.]+)\.(?:true|false)\b"
+        done = re.sub(rf"\bnot-(true|false) (?:_|\([^()]*\)|c\.[^\s()]+) ({step})", lambda m: "«" + m.group(2) if re.sub(r"-\d+$", "", m.group(3)) in called else m.group(0).replace("c.if-not-", "«c.if-not-"), done)
+        done = re.sub(rf"(?<!«)\b{step}", turned, done).replace("«", "")
         if fields and len(fields) > 1:
             made = record(fields, done)
             if made is None:
@@ -455,6 +508,9 @@ def turn(path, about):
         out_answers.append((comment + "\n" if comment else "") + f"pub {new} : goal.{new}\n{lead}{new} c ={done}")
     module = next(re.search(r"use (\S+)\.Tie as tie", u).group(1) for u in uses if ".Tie as tie" in u)
     uses = [u for u in uses if ".Tie as tie" not in u and ".Statement." not in u]
+    if any("(ap not " in a for a in out_answers):
+        uses += [] if any(re.match(r"use mathlib\.Core\.Path\.\{(.*, )?ap[,}]", u) for u in uses) else ["use mathlib.Core.Path.{ap}"]
+        uses += [] if any(re.match(r"use mathlib\.Core\.Bool\.\{(.*, )?not[,}]", u) for u in uses) else ["use mathlib.Core.Bool.{not}"]
     comment = "\n".join(l for l in items[0].split("\n") if l.startswith("--") and "Assumes nothing" not in l)
     folder = os.path.dirname(path)
 
