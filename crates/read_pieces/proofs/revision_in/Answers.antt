@@ -23,7 +23,7 @@ pub slice_bounds-read_number-start-2 : goal.slice_bounds-read_number-start-2
 slice_bounds-read_number-start-2 c = omega (arith, dash-inside _ _ c.first_dash-dash.ensures c.if-dash-s.false)
 
 pub returns-in_default-read_number : goal.returns-in_default-read_number
-returns-in_default-read_number c = revision-no-height _ _ c.first_dash-dash.ensures c.if-dash-s.false _ c.read_number.ensures _ c.read_number-2.ensures (no_value c.read_number-2.result c.in_default-read_number.keys2)
+returns-in_default-read_number c = revision-no-height _ _ c.first_dash-dash.ensures c.if-dash-s.false _ c.read_number.ensures _ c.read_number-2.ensures (no_value c.read_number-2.result c.in_default-read_number.not-Value)
 
 pub returns : goal.returns
 returns c = revision-some _ _ c.first_dash-dash.ensures c.if-dash-s.false _ c.read_number.ensures _ c.read_number-2.ensures _ _ c.in-Value.is c.in-Value-read_number.is
