@@ -9,7 +9,9 @@ ghost use Rattle.std.specs.Prelude.{◌+◌, ◌-◌, ◌*◌, ◌≤◌, ◌<�
 ghost use Rattle.ask.specs.Answer.{extra};
 
 use ask::input::{answer_last, answer_lines};
-use libc::{EAGAIN, STDERR_FILENO, STDIN_FILENO, STDOUT_FILENO};
+use std::env::{Env, FillError};
+use std::io::{Eprint, Error, ErrorKind, Print, Read, Stdin};
+use std::thread;
 
 // What the arguments ask for.
 #[derive(Clone, Copy)]
@@ -33,68 +35,72 @@ struct Put {
     done: usize,
 }
 
+// A line on standard error, where nothing is left to do if that cannot be written either.
+fn say(rt: &impl Eprint, line: &str) {
+    let _ = rt.eprintln(line);
+}
+
 // Whether the call that just failed only had nothing to read, or no room to write, yet: a pipe or a terminal that does
 // not wait. Then it is asked again, after others had the processor.
-fn may_wait() -> bool {
-    if os::errno() == EAGAIN {
-        libc::sched_yield();
+fn may_wait(failed: Error) -> bool {
+    if failed.kind() == ErrorKind::WouldBlock {
+        thread::yield_now();
         return true;
     }
     false
 }
 
 // One write of what is left.
-fn write_once(out: &[u8], done: usize, used: usize) -> Put
+fn write_once(rt: &impl Print, out: &[u8], done: usize, used: usize) -> Put
     requires { (done < used) × (used ≤ length out.now) }
     ensures { result.done ≤ used }
 {
-    let put = libc::write(STDOUT_FILENO, &out[done..used]);
-    if put < 0 {
-        return Put {
-            go: may_wait(),
+    match rt.write_some(&out[done..used]) {
+        Ok(put) => Put {
+            go: put > 0,
+            done: done + put,
+        },
+        Err(failed) => Put {
+            go: may_wait(failed),
             done,
-        };
-    }
-    Put {
-        go: put > 0,
-        done: done + io::count(put, &out[done..used]),
+        },
     }
 }
 
 // Writes all of it, and answers whether that could be done. The turns are counted down as in `read_all`.
-fn write_out(out: &[u8], used: usize) -> bool
+fn write_out(rt: &impl Print, out: &[u8], used: usize) -> bool
     requires { used ≤ length out.now }
 {
     let mut p = Put { go: true, done: 0 };
     let mut turns = u64::MAX;
     while turns > 0 && p.go && p.done < used {
-        p = write_once(out, p.done, used);
+        p = write_once(rt, out, p.done, used);
         turns -= 1;
     }
     p.done == used
 }
 
 // Writes the answers out, and answers whether that could be done.
-fn show(out: &[u8], used: usize) -> bool
+fn show(rt: &(impl Print + Eprint), out: &[u8], used: usize) -> bool
     requires { used ≤ length out.now }
 {
-    if write_out(out, used) {
+    if write_out(rt, out, used) {
         return true;
     }
-    io::write_all(
-        STDERR_FILENO,
-        b"askpath: standard output cannot be written, so answers are missing: make room for them, and ask again\n",
+    say(
+        rt,
+        "askpath: standard output cannot be written, so answers are missing: make room for them, and ask again",
     );
     false
 }
 
 // The end of the input: the last line.
-fn finish(input: &[u8], held: usize, out: &mut [u8], why: bool)
+fn finish(rt: &(impl Print + Eprint), input: &[u8], held: usize, out: &mut [u8], why: bool)
     requires held_bound { (held ≤ 4097) × (65536 ≤ length input.now) }
     requires input_in_bounds { 2 * length input.now ≤ length out.old }
 {
     let used = answer_last(&input[0..held], out, why);
-    show(out, used);
+    show(rt, out, used);
 }
 
 // How far a read may go: where it is asked why, no further than the answers have room.
@@ -111,30 +117,38 @@ fn read_end(held: usize, length: usize, why: bool) -> usize
 
 // One read after what is held, and the answers to the lines that end in it. A read that fails is not the end of the
 // input, so what is held is then not answered as a last line; one that would have to wait is made again.
-fn read_once(input: &mut [u8], held: usize, out: &mut [u8], why: bool) -> Turn
+fn read_once(
+    rt: &(impl Print + Eprint),
+    stdin: &mut Stdin,
+    input: &mut [u8],
+    held: usize,
+    out: &mut [u8],
+    why: bool,
+) -> Turn
     requires held_bound { (held ≤ 4097) × (65536 ≤ length input.old) }
     requires input_in_bounds { 2 * length input.old ≤ length out.old }
     ensures { result.held ≤ 4097 }
 {
     let most = read_end(held, input.len(), why);
-    let got = libc::read(STDIN_FILENO, &mut input[held..most]);
-    if got < 0 {
-        if may_wait() {
-            return Turn { go: true, held };
+    let got = match stdin.read(&mut input[held..most]) {
+        Ok(got) => got,
+        Err(failed) => {
+            if may_wait(failed) {
+                return Turn { go: true, held };
+            }
+            say(
+                rt,
+                "askpath: standard input cannot be read to its end, so lines are not answered: mend the file or the pipe, and ask again",
+            );
+            return Turn { go: false, held };
         }
-        io::write_all(
-            STDERR_FILENO,
-            b"askpath: standard input cannot be read to its end, so lines are not answered: mend the file or the pipe, and ask again\n",
-        );
-        return Turn { go: false, held };
-    }
+    };
     if got == 0 {
-        finish(input, held, out, why);
+        finish(rt, input, held, out, why);
         return Turn { go: false, held };
     }
-    let end = held + io::count(got, &input[held..most]);
-    let step = answer_lines(input, held, end, out, why);
-    let go = show(out, step.used);
+    let step = answer_lines(input, held, held + got, out, why);
+    let go = show(rt, out, step.used);
     Turn {
         go,
         held: step.held,
@@ -142,47 +156,51 @@ fn read_once(input: &mut [u8], held: usize, out: &mut [u8], why: bool) -> Turn
 }
 
 // Reads to the end of the input: a proved loop ends, so it counts its turns down from a number that no run uses up.
-fn read_all(input: &mut [u8], out: &mut [u8], why: bool)
+fn read_all(
+    rt: &(impl Print + Eprint),
+    stdin: &mut Stdin,
+    input: &mut [u8],
+    out: &mut [u8],
+    why: bool,
+)
     requires in_bounds { 65536 ≤ length input.old }
     requires input_in_bounds { 2 * length input.old ≤ length out.old }
 {
     let mut t = Turn { go: true, held: 0 };
     let mut turns = u64::MAX;
     while turns > 0 && t.go {
-        t = read_once(input, t.held, out, why);
+        t = read_once(rt, stdin, input, t.held, out, why);
         turns -= 1;
     }
 }
 
 // What the program was called with: nothing, or `why`.
-fn arguments() -> Asked {
-    let count = os::arg_count();
-    if count < 2 {
-        return Asked::Answers;
-    }
-    if count > 2 {
-        return Asked::Unknown;
-    }
+fn arguments(rt: &impl Env) -> Asked {
     let mut word = [0; 4];
-    let n = os::arg(1, &mut word);
-    if text::part::equal(&word[..n], b"why") {
+    let n = match rt.arg(1, &mut word) {
+        Ok(n) => n,
+        Err(FillError::NotPresent) => return Asked::Answers,
+        Err(FillError::TooLong) => return Asked::Unknown,
+    };
+    let mut more = [0; 4];
+    let alone = matches!(rt.arg(2, &mut more), Err(FillError::NotPresent));
+    if alone && text::part::equal(&word[..n], b"why") {
         return Asked::Reasons;
     }
     Asked::Unknown
 }
 
 // The answers to what one read brings take at most twice as many bytes, and where it is asked why, 128 more for each that is new.
-fn main() {
-    let mut input = io::large_buffer();
+fn main(rt: HostRuntime) {
+    let mut stdin = rt.stdin();
+    let mut input = [0; 65536];
     let mut out = [0; 131072];
-    match arguments() {
-        Asked::Answers => read_all(&mut input, &mut out, false),
-        Asked::Reasons => read_all(&mut input, &mut out, true),
-        Asked::Unknown => {
-            io::write_all(
-                STDERR_FILENO,
-                b"askpath: the one word that can be asked is why: call it with that or with nothing, and give it path texts on standard input, one on a line\n",
-            );
-        }
+    match arguments(&rt) {
+        Asked::Answers => read_all(&rt, &mut stdin, &mut input, &mut out, false),
+        Asked::Reasons => read_all(&rt, &mut stdin, &mut input, &mut out, true),
+        Asked::Unknown => say(
+            &rt,
+            "askpath: the one word that can be asked is why: call it with that or with nothing, and give it path texts on standard input, one on a line",
+        ),
     }
 }

@@ -12,4 +12,4 @@ slice_bounds-give-end c = front-room _ _ _ _ (sentence-length c.args.number) c.w
 pub returns : goal.returns
 returns c =
     let e = front-part _ (sentence c.args.number) _ _ (sentence-length c.args.number) c.write_sentence-n.ensures.value c.write_sentence-n.ensures.out_after in
-    let p = rw e at (c.give.ensures.value, c.give.ensures.out_after) in record { value = p.0; out_after = p.1 }
+    record { value = rw e at c.give.ensures.value; out_after = rw e at c.give.ensures.out_after }

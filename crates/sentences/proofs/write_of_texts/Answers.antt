@@ -2,6 +2,7 @@ use mathlib.Core.Path.{◌≡◌}
 use Rattle.text.specs.Refusal.{sentence}
 use Rattle.text.specs.TableLaws.{past}
 use native.Mathlib.Omega.{arith}
+use borrow.Author.Rules.{rules}
 use Rattle.sentences.proofs.write_of_texts.Goals as goal
 
 pub write_text-requires : goal.write_text-requires
@@ -35,7 +36,7 @@ write_text-requires-in-6 c = rw c.in-6.is at c.requires.1
 pub write_text-requires-in_default : goal.write_text-requires-in_default
 unfolding sentence
 write_text-requires-in_default c =
-    let l = past 0 7 c.args.number c.in_default.rest (omega arith) in
+    let l = past 0 7 c.args.number (search rules) (omega arith) in
     let e : c.args.number ≡ 7 = omega arith in
     rw e at c.requires.1
 
@@ -91,7 +92,7 @@ returns-in-6 c = record {
 pub returns-in_default : goal.returns-in_default
 unfolding sentence
 returns-in_default c =
-    let l = past 0 7 c.args.number c.in_default.rest (omega arith) in
+    let l = past 0 7 c.args.number (search rules) (omega arith) in
     let e : c.args.number ≡ 7 = omega arith in
     record {
       value = rw e c.write_text-in_default.ensures.value;

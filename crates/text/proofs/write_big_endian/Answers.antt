@@ -23,6 +23,6 @@ loop-j-preserved c =
 pub returns : goal.returns
 unfolding put
 returns c = record {
-      value = search rules;
-      out_after = rw (length_big c.args.width c.args.v) (sym (c.loop-j.invariant.1 ∙ steps.put-none big_endian (λ m. m % 256) (λ m. m / 256) steps.big-nil steps.big_snoc c.loop-j.out c.args.at c.loop-j.j c.loop-j.m (omega arith)));
-    }
+  value = search rules;
+  out_after = rw (length_big c.args.width c.args.v) (sym (c.loop-j.invariant.1 ∙ steps.put-none big_endian (λ m. m % 256) (λ m. m / 256) steps.big-nil steps.big_snoc c.loop-j.out c.args.at c.loop-j.j c.loop-j.m (omega arith)));
+}

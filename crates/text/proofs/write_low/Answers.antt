@@ -18,6 +18,6 @@ loop-i-preserved c =
 pub returns : goal.returns
 unfolding put
 returns c = record {
-      value = search rules;
-      out_after = rw (length-low 8 c.args.v) (sym (c.loop-i.invariant.1 ∙ low-none c.loop-i.out (c.args.at + c.loop-i.i) (c.args.at + 8) (8 - c.loop-i.i) c.loop-i.m (omega arith) (omega arith)));
-    }
+  value = search rules;
+  out_after = rw (length-low 8 c.args.v) (sym (c.loop-i.invariant.1 ∙ low-none c.loop-i.out (c.args.at + c.loop-i.i) (c.args.at + 8) (8 - c.loop-i.i) c.loop-i.m (omega arith) (omega arith)));
+}

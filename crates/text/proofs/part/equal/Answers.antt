@@ -15,14 +15,13 @@ pub loop-i-init : goal.loop-i-init
 loop-i-init c = (omega arith, c.if-a-b.false, refl)
 
 pub loop-i-preserved : goal.loop-i-preserved
-loop-i-preserved c =
-    (
-      omega arith,
-      c.loop-i.invariant.1,
-      c.loop-i.invariant.2
-          ∙ same_more c.args.a.now c.args.b.now c.loop-i.i c.loop-i.differ (omega arith) (omega (arith, c.loop-i.invariant.1))
-          ∙ ap (λ v. eqb v 0 && same (drop (c.loop-i.i + 1) c.args.a.now) (drop (c.loop-i.i + 1) c.args.b.now)) (sym c.unlike-differ.ensures),
-    )
+loop-i-preserved c = (
+  omega arith,
+  c.loop-i.invariant.1,
+  c.loop-i.invariant.2
+      ∙ same_more c.args.a.now c.args.b.now c.loop-i.i c.loop-i.differ (omega arith) (omega (arith, c.loop-i.invariant.1))
+      ∙ ap (λ v. eqb v 0 && same (drop (c.loop-i.i + 1) c.args.a.now) (drop (c.loop-i.i + 1) c.args.b.now)) (sym c.unlike-differ.ensures),
+)
 
 pub returns : goal.returns
 returns c =

@@ -17,6 +17,6 @@ loop-i-preserved c = (search rules, c.loop-i.invariant.1 ∙ puts.copy_more c.lo
 pub returns : goal.returns
 unfolding put
 returns c = record {
-      value = search rules;
-      out_after = sym (c.loop-i.invariant.1 ∙ puts.copy-none c.loop-i.out c.args.src.now c.args.at c.loop-i.i (c.args.at + length c.args.src.now) (omega arith) (omega arith));
-    }
+  value = search rules;
+  out_after = sym (c.loop-i.invariant.1 ∙ puts.copy-none c.loop-i.out c.args.src.now c.args.at c.loop-i.i (c.args.at + length c.args.src.now) (omega arith) (omega arith));
+}
