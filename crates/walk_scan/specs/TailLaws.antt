@@ -191,7 +191,7 @@ module _ (w : List ℕ) (clear : without 47 w ≡ true) where
       let long : length (drop (length w) (drop 1 r)) ≡ 0 = simp length-drop (omega arith) in
       after-slash (word w) [] e r
       ∙ rw one (step-some (word w) (starts_with w) (λ x. length w) (scans-word w clear) [] (e + 1) (drop 1 r) (and_right (starts_with (47 ∷ []) r) _ two)
-      ∙ added-word w _ _ _ ∙ after-end _ (drop (length w) (drop 1 r)) long)
+      ∙ added-word w (take (length w) (drop 1 r)) (record { start = e + 1; len = length w }) _ ∙ after-end _ (drop (length w) (drop 1 r)) long)
 
   pub after-other : (e : ℕ) (r : List ℕ) → starts_with (47 ∷ w) r ≡ false → after_of (word w ∷ []) e r ≡ none
   after-other e r h =
@@ -212,13 +212,13 @@ module _ (w : List ℕ) (clear : without 47 w ≡ true) where
           let long : 0 < length (drop (length w) (drop 1 r)) = simp length-drop (omega (arith, room, l)) in
           after-slash (word w) [] e r
           ∙ rw one (step-some (word w) (starts_with w) (λ x. length w) (scans-word w clear) [] (e + 1) (drop 1 r) (and_right (starts_with (47 ∷ []) r) _ two)
-          ∙ added-word w _ _ _ ∙ after_more _ (drop (length w) (drop 1 r)) long)
+          ∙ added-word w (take (length w) (drop 1 r)) (record { start = e + 1; len = length w }) (after_of [] (e + 1 + length w) (drop (length w) (drop 1 r))) ∙ after_more (e + 1 + length w) (drop (length w) (drop 1 r)) long)
 
   -- a word alone
   pub word-last : (at : ℕ) (s : List ℕ) → starts_with w s ≡ true → length s ≡ length w → tail_of (word w ∷ []) at s ≡ some (carried nowhere nowhere 0 0) true
   word-last at s h l =
       let long : length (drop (length w) s) ≡ 0 = simp length-drop (omega arith) in
-      step-some (word w) (starts_with w) (λ x. length w) (scans-word w clear) [] at s h ∙ added-word w _ _ _ ∙ after-end _ (drop (length w) s) long
+      step-some (word w) (starts_with w) (λ x. length w) (scans-word w clear) [] at s h ∙ added-word w (take (length w) s) (record { start = at; len = length w }) _ ∙ after-end _ (drop (length w) s) long
 
   pub word-other : (at : ℕ) (s : List ℕ) → starts_with w s ≡ false → tail_of (word w ∷ []) at s ≡ none
   word-other at s h = step-none (word w) (starts_with w) (λ x. length w) (scans-word w clear) [] at s h
@@ -231,4 +231,4 @@ module _ (w : List ℕ) (clear : without 47 w ≡ true) where
       go true h =
           let room = starts-room w s h in
           let long : 0 < length (drop (length w) s) = simp length-drop (omega (arith, room, l)) in
-          step-some (word w) (starts_with w) (λ x. length w) (scans-word w clear) [] at s h ∙ added-word w _ _ _ ∙ after_more _ (drop (length w) s) long
+          step-some (word w) (starts_with w) (λ x. length w) (scans-word w clear) [] at s h ∙ added-word w (take (length w) s) (record { start = at; len = length w }) (after_of [] (at + length w) (drop (length w) s)) ∙ after_more (at + length w) (drop (length w) s) long

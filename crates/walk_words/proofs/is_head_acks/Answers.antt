@@ -1,0 +1,6 @@
+-- `is_head_acks` meets its contract.
+
+use Rattle.walk_words.proofs.is_head_acks.Goals as goal
+
+pub returns : goal.returns
+returns c = c.word8.ensures
