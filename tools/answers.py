@@ -499,6 +499,10 @@ def turn(path, about):
                     if inner:
                         pieces = re.findall(r"(?m)^      (\w+) = (.*);$", inner)
                         made = head.rstrip() + ("\n    " if head else "") + "record {\n" + "".join(f"      {f} = rw {again[1]} {t if closes(t) or ' ' not in t else '(' + t + ')'};\n" for f, t in pieces) + "    }"
+            if made is None and re.match(r"\s*(omega|grind|search)\b", lets(done)[1]):
+                # A tactic proves each field by itself.
+                head, tail = lets(done)
+                made = head.rstrip() + ("\n    " if head else "") + "record { " + "; ".join(f"{f} = {tail.strip()}" for f in fields) + " }"
             if made is None:
                 way = [f"p" + ".1" * j + (".0" if j < len(fields) - 1 else "") for j in range(len(fields))]
                 made = head.rstrip() + f"\n    let p = {tail.strip()} in record {{ " + "; ".join(f"{f} = {w}" for f, w in zip(fields, way)) + " }"

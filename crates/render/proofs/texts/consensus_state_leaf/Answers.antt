@@ -1,0 +1,11 @@
+use mathlib.Core.List.{[]}
+use Rattle.text.specs.PutLaws.{gives_same}
+use Rattle.path.specs.Kinds.{carried}
+use Rattle.path.specs.Parents.{text_of, consensus_leaf}
+use Rattle.render.specs.ParentLaws.{leaf-wanted}
+use Rattle.render.proofs.texts.consensus_state_leaf.Goals as goal
+
+pub returns : goal.returns
+returns c =
+    let v = carried [] [] c.args.number.0 c.args.height.0 in
+    let p = gives_same (text_of (consensus_leaf []) v) c.args.out.now (leaf-wanted v) (c.fit_leaf.ensures.value, c.fit_leaf.ensures.out_after) in record { value = p.0; out_after = p.1 }
