@@ -11,6 +11,7 @@ ghost use Rattle.ask.specs.Answer.{extra};
 use ask::input::{answer_last, answer_lines};
 use std::env::{Env, FillError};
 use std::io::{Eprint, Error, ErrorKind, Print, Read, Stdin};
+use std::process::ExitCode;
 use std::thread;
 
 // What the arguments ask for.
@@ -21,33 +22,48 @@ enum Asked {
     Unknown,
 }
 
-// Whether to go on after a read, and how much of the input is held.
+// What comes after a read or a write: the next one, or none, also as nobody reads the answers any more.
+#[derive(Clone, Copy)]
+enum Next {
+    More,
+    Done,
+    Unread,
+}
+
+// What comes after a read, and how much of the input is held.
 #[derive(Clone, Copy)]
 struct Turn {
-    go: bool,
+    next: Next,
     held: usize,
 }
 
-// Whether to go on after a write, and how many bytes are written.
+// What comes after a write, and how many bytes are written.
 #[derive(Clone, Copy)]
 struct Put {
-    go: bool,
+    next: Next,
     done: usize,
 }
+
+// The status where nobody reads the answers any more: that of a program which the signal PIPE ends. The program itself does
+// not get that signal, since the toolchain has it held back, and the script around it ends by the signal.
+const UNREAD: u8 = 141;
 
 // A line on standard error, where nothing is left to do if that cannot be written either.
 fn say(rt: &impl Eprint, line: &str) {
     let _ = rt.eprintln(line);
 }
 
-// Whether the call that just failed only had nothing to read, or no room to write, yet: a pipe or a terminal that does
-// not wait. Then it is asked again, after others had the processor.
-fn may_wait(failed: Error) -> bool {
+// What comes after a call that failed. One that only had nothing to read, or no room to write, yet, on a pipe or a terminal
+// that does not wait, is made again, after others had the processor.
+fn after_failure(failed: &Error) -> Next {
     if failed.kind() == ErrorKind::WouldBlock {
         thread::yield_now();
-        return true;
+        return Next::More;
     }
-    false
+    if failed.kind() == ErrorKind::BrokenPipe {
+        return Next::Unread;
+    }
+    Next::Done
 }
 
 // One write of what is left.
@@ -56,51 +72,68 @@ fn write_once(rt: &impl Print, out: &[u8], done: usize, used: usize) -> Put
     ensures { result.done ≤ used }
 {
     match rt.write_some(&out[done..used]) {
+        Ok(0) => Put {
+            next: Next::Done,
+            done,
+        },
         Ok(put) => Put {
-            go: put > 0,
+            next: Next::More,
             done: done + put,
         },
         Err(failed) => Put {
-            go: may_wait(failed),
+            next: after_failure(&failed),
             done,
         },
     }
 }
 
-// Writes all of it, and answers whether that could be done. The turns are counted down as in `read_all`.
-fn write_out(rt: &impl Print, out: &[u8], used: usize) -> bool
+// Writes all of it, and answers what comes then: more only where that could be done. The turns are counted down as in
+// `read_all`.
+fn write_out(rt: &impl Print, out: &[u8], used: usize) -> Next
     requires { used ≤ length out.now }
 {
-    let mut p = Put { go: true, done: 0 };
+    let mut p = Put {
+        next: Next::More,
+        done: 0,
+    };
     let mut turns = u64::MAX;
-    while turns > 0 && p.go && p.done < used {
+    while turns > 0 && matches!(p.next, Next::More) && p.done < used {
         p = write_once(rt, out, p.done, used);
         turns -= 1;
     }
-    p.done == used
+    if p.done == used {
+        return Next::More;
+    }
+    if matches!(p.next, Next::Unread) {
+        return Next::Unread;
+    }
+    Next::Done
 }
 
-// Writes the answers out, and answers whether that could be done.
-fn show(rt: &(impl Print + Eprint), out: &[u8], used: usize) -> bool
+// Writes the answers out, and answers what comes then: more only where that could be done.
+fn show(rt: &(impl Print + Eprint), out: &[u8], used: usize) -> Next
     requires { used ≤ length out.now }
 {
-    if write_out(rt, out, used) {
-        return true;
+    let next = write_out(rt, out, used);
+    if !matches!(next, Next::More) {
+        say(
+            rt,
+            "askpath: standard output cannot be written, so answers are missing: make room for them, and ask again",
+        );
     }
-    say(
-        rt,
-        "askpath: standard output cannot be written, so answers are missing: make room for them, and ask again",
-    );
-    false
+    next
 }
 
 // The end of the input: the last line.
-fn finish(rt: &(impl Print + Eprint), input: &[u8], held: usize, out: &mut [u8], why: bool)
+fn finish(rt: &(impl Print + Eprint), input: &[u8], held: usize, out: &mut [u8], why: bool) -> Next
     requires held_bound { (held ≤ 4097) × (65536 ≤ length input.now) }
     requires input_in_bounds { 2 * length input.now ≤ length out.old }
 {
     let used = answer_last(&input[0..held], out, why);
-    show(rt, out, used);
+    if matches!(show(rt, out, used), Next::Unread) {
+        return Next::Unread;
+    }
+    Next::Done
 }
 
 // How far a read may go: where it is asked why, no further than the answers have room.
@@ -133,45 +166,57 @@ fn read_once(
     let got = match stdin.read(&mut input[held..most]) {
         Ok(got) => got,
         Err(failed) => {
-            if may_wait(failed) {
-                return Turn { go: true, held };
+            let next = after_failure(&failed);
+            if matches!(next, Next::More) {
+                return Turn { next, held };
             }
             say(
                 rt,
                 "askpath: standard input cannot be read to its end, so lines are not answered: mend the file or the pipe, and ask again",
             );
-            return Turn { go: false, held };
+            return Turn {
+                next: Next::Done,
+                held,
+            };
         }
     };
     if got == 0 {
-        finish(rt, input, held, out, why);
-        return Turn { go: false, held };
+        let next = finish(rt, input, held, out, why);
+        return Turn { next, held };
     }
     let step = answer_lines(input, held, held + got, out, why);
-    let go = show(rt, out, step.used);
+    let next = show(rt, out, step.used);
     Turn {
-        go,
+        next,
         held: step.held,
     }
 }
 
-// Reads to the end of the input: a proved loop ends, so it counts its turns down from a number that no run uses up.
+// Reads to the end of the input, and answers the status: a proved loop ends, so it counts its turns down from a number that
+// no run uses up.
 fn read_all(
     rt: &(impl Print + Eprint),
     stdin: &mut Stdin,
     input: &mut [u8],
     out: &mut [u8],
     why: bool,
-)
+) -> ExitCode
     requires in_bounds { 65536 ≤ length input.old }
     requires input_in_bounds { 2 * length input.old ≤ length out.old }
 {
-    let mut t = Turn { go: true, held: 0 };
+    let mut t = Turn {
+        next: Next::More,
+        held: 0,
+    };
     let mut turns = u64::MAX;
-    while turns > 0 && t.go {
+    while turns > 0 && matches!(t.next, Next::More) {
         t = read_once(rt, stdin, input, t.held, out, why);
         turns -= 1;
     }
+    if matches!(t.next, Next::Unread) {
+        return ExitCode::from(UNREAD);
+    }
+    ExitCode::SUCCESS
 }
 
 // What the program was called with: nothing, or `why`.
@@ -191,16 +236,19 @@ fn arguments(rt: &impl Env) -> Asked {
 }
 
 // The answers to what one read brings take at most twice as many bytes, and where it is asked why, 128 more for each that is new.
-fn main(rt: HostRuntime) {
+fn main(rt: HostRuntime) -> ExitCode {
     let mut stdin = rt.stdin();
     let mut input = [0; 65536];
     let mut out = [0; 131072];
     match arguments(&rt) {
         Asked::Answers => read_all(&rt, &mut stdin, &mut input, &mut out, false),
         Asked::Reasons => read_all(&rt, &mut stdin, &mut input, &mut out, true),
-        Asked::Unknown => say(
-            &rt,
-            "askpath: the one word that can be asked is why: call it with that or with nothing, and give it path texts on standard input, one on a line",
-        ),
+        Asked::Unknown => {
+            say(
+                &rt,
+                "askpath: the one word that can be asked is why: call it with that or with nothing, and give it path texts on standard input, one on a line",
+            );
+            ExitCode::SUCCESS
+        }
     }
 }
