@@ -5,7 +5,7 @@
 # Last line: 'N passed, M failed'.
 . "$(dirname "$0")/lib/start.sh"
 
-mkdir -p "$work/bin" "$work/crates" "$work/tools"
+mkdir -p "$work/bin" "$work/crates/askpath" "$work/tools"
 cp -R bin/askpath bin/lib "$work/bin"
 printf '# a comment\ntext:\nother: text\nask: text\naskpath: text ask io\n' >"$work/crates.txt"
 for tool in awk cat chmod cp dirname find grep mkdir mktemp mv readlink rm sed tee touch; do
@@ -39,18 +39,21 @@ check 'the lines that say what to do' 1 "$(grep -c 'put its command rt on the PA
 cat >"$work/tools/rt" <<'END'
 #!/bin/sh
 cat >/dev/null
-echo "$*" >>calls
-echo 'note: a line of the prover'
-for crate in text ask askpath; do echo "rt: $crate proved (1 s)"; done
-echo 'rt: ok, 3 crates proved'
-mkdir -p target/bin
-cp program target/bin/askpath
+echo "${PWD##*/} $*" >>../../calls
+for crate in text ask askpath; do
+    echo 'note: a line of the prover'
+    echo "crate $crate: modules loaded=1 checked=2"
+    echo 'logic=proved functions=1'
+done
+echo 'rt: running out/askpath; to give it other input, run that file yourself'
+mkdir -p out
+cp ../../program out/askpath
 END
 chmod +x "$work/tools/rt"
 call
 check 'the first call' 'the program text' "$(printed)"
 check 'its status' 0 "$status"
-check 'what the toolchain was asked' 'check askpath' "$(cat "$work/calls")"
+check 'what the toolchain was asked' 'askpath run' "$(cat "$work/calls")"
 check 'what is shown of it' \
     'askpath: 3 crates are proved and built into the program, which may take eight minutes of processor time, this once|askpath: text, 1 of 3|askpath: ask, 2 of 3|askpath: askpath, 3 of 3|askpath: ready' \
     "$(told)"
@@ -65,7 +68,7 @@ call
 check 'the status where it is not proved' 1 "$status"
 check 'what is shown of that' 'what went wrong' "$(sed -n 2p "$work/err")"
 check 'what is printed then' '' "$(printed)"
-printf '#!/bin/sh\ncat >/dev/null\necho again >>calls\n' >"$work/tools/rt" # all is proved: the program stays as it is
+printf '#!/bin/sh\ncat >/dev/null\necho again >>../../calls\n' >"$work/tools/rt" # all is proved: the program stays as it is
 call
 call
 check 'calls where a source is newer' 2 "$(grep -c . "$work/calls")"

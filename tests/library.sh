@@ -4,11 +4,11 @@
 # names, also by a relative path, and says what to do where something is missing. Last line: 'N passed, M failed'.
 . "$(dirname "$0")/lib/start.sh"
 
-mkdir -p "$work/top/bin" "$work/top/oracle" "$work/top/crates" "$work/tools"
+mkdir -p "$work/top/bin" "$work/top/oracle" "$work/top/crates/hostpath_c" "$work/tools"
 cp -R bin/lib "$work/top/bin"
 cp oracle/library oracle/start.sh "$work/top/oracle"
-printf 'text:\nhostpath: text\ndemands: text hostpath\n' >"$work/top/crates.txt"
-for tool in awk cat dirname find mkdir mktemp rm tee touch; do ln -s "$(command -v "$tool")" "$work/tools"; done
+printf 'text:\nhostpath: text\nhostpath_c staticlib: text hostpath\ndemands: text hostpath\n' >"$work/top/crates.txt"
+for tool in awk cat cp dirname find mkdir mktemp rm tee; do ln -s "$(command -v "$tool")" "$work/tools"; done
 printf '#!/bin/sh\necho x86_64\n' >"$work/tools/uname"
 chmod +x "$work/tools/uname"
 
@@ -24,19 +24,24 @@ check 'the lines that say what to do' 1 "$(grep -c 'put its command rt on the PA
 
 cat >"$work/tools/rt" <<'END'
 #!/bin/sh
-echo "$*" >>calls
-echo 'note: a line of the prover'
-echo 'rt: text proved (1 s)'
-echo 'rt: target/staticlib/libhostpath.a has the functions of hostpath that are marked'
-mkdir -p target/staticlib
-touch target/staticlib/libhostpath.a
+echo "${PWD##*/} $*" >>../../calls
+for crate in text hostpath hostpath_c; do
+    echo 'note: a line of the prover'
+    echo "crate $crate: modules loaded=1 checked=2"
+    echo 'logic=proved functions=1'
+done
+echo 'crate hostpath_c: modules loaded=3 checked=0'
+echo 'logic=proved functions=1'
+mkdir -p out
+echo archive >out/libhostpath_c.a
 END
 chmod +x "$work/tools/rt"
 call
 check 'what it prints' "$work/top/target/staticlib" "$(cat "$work/out")"
-check 'what the toolchain was asked' 'staticlib hostpath' "$(cat "$work/top/calls")"
-check 'what is shown of it' 'library: text, 1 of 2 library: hostpath, 2 of 2 library: ready' "$(sed -n '2,4p' "$work/err" | tr '\n' ' ' | sed 's/ $//')"
-check 'what is said first' 1 "$(head -n 1 "$work/err" | grep -c '^library: 2 crates are proved and built into the archive, which may take ')"
+check 'what is there' archive "$(cat "$work/top/target/staticlib/libhostpath.a")"
+check 'what the toolchain was asked' 'hostpath_c lib' "$(cat "$work/top/calls")"
+check 'what is shown of it' 'library: text, 1 of 3 library: hostpath, 2 of 3 library: hostpath_c, 3 of 3 library: ready' "$(sed -n '2,5p' "$work/err" | tr '\n' ' ' | sed 's/ $//')"
+check 'what is said first' 1 "$(head -n 1 "$work/err" | grep -c '^library: 3 crates are proved and built into the archive, which may take ')"
 call
 check 'calls of the toolchain where nothing changed' 1 "$(grep -c . "$work/top/calls")"
 check 'what it prints then' "$work/top/target/staticlib" "$(cat "$work/out")"

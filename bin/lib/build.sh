@@ -10,18 +10,18 @@ need() {
     exit 2
 }
 
-# Whether a file was made after the last change to others: fresh FILE SOURCE ..
+# Whether a file was made after the last change to others, of which what is made in folders `out` is none: fresh FILE SOURCE ..
 fresh() {
     made=$1
     shift
-    [ -f "$made" ] && [ -z "$(find "$@" -newer "$made" -type f -print -quit)" ]
+    [ -f "$made" ] && [ -z "$(find "$@" -name out -prune -o -newer "$made" -type f -print -quit)" ]
 }
 
 # How many crates of crates.txt a crate needs, itself among them; the kit's own are not listed there.
 crates_of() {
     awk -F: -v crate="$1" '
         { sub(/#.*/, "") }
-        NF { needs[$1] = $2 }
+        NF { sub(/ .*/, "", $1); needs[$1] = $2 }
         function count(c,    parts, n, i, all) {
             if (seen[c]++ || !(c in needs)) return 0
             all = 1
@@ -39,8 +39,8 @@ room() {
     trap 'rm -rf "$work"' EXIT
 }
 
-# Runs a command of the toolchain that proves a crate and all that it needs, and shows a line for each of these that is
-# proved. Where the command fails, all that it said is shown: build CRATE WHAT COMMAND ..
+# Runs a command of the toolchain in a crate's folder, which proves the crate and all that it needs, and shows a line for each
+# of these that is proved now. Where the command fails, all that it said is shown: build CRATE WHAT COMMAND ..
 build() {
     crate=$1
     what=$2
@@ -49,16 +49,20 @@ build() {
     all=$(crates_of "$crate")
     room
     echo "$name: $all crates are proved and built into $what, this once" >&2
-    { "$@" </dev/null 2>&1 && : >"$work/done"; } | tee "$work/said" | {
+    { (cd "crates/$crate" && "$@") </dev/null 2>&1 && : >"$work/done"; } | tee "$work/said" | {
         some=0
-        while read -r who one said rest; do
-            case "$who $said" in
-            'rt: proved') ;;
-            'rt: has') one=$crate ;; # the archive, which is made of a crate as that is proved
-            *) continue ;;
+        shown=' '
+        one=
+        while read -r word next rest; do
+            case $word in
+            crate) one=${next%:} ;; # what the prover says of a crate ends with its modules, and then its verdict
+            logic=proved)
+                case $shown in *" $one "*) continue ;; esac
+                shown="$shown$one "
+                some=$((some + 1))
+                echo "$name: $one, $some of $all" >&2
+                ;;
             esac
-            some=$((some + 1))
-            echo "$name: $one, $some of $all" >&2
         done
     }
     if [ ! -f "$work/done" ]; then

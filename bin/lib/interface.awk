@@ -2,7 +2,7 @@
 # what it makes of them in the places that the file has for it.
 #
 # Call n is call[n]: it says says[n], under heads[n] where a heading stands before it, answers answer[n], and its arguments
-# are name[n, i] and type[n, i], i from 1 to count[n]. Refusal k is refusal[k], with number[k] and sentence[refusal[k]]; 0, which
+# are name[n, i] and type[n, i], i from 1 to count[n]; before its body stands head[n], whose clauses take names by imports. Refusal k is refusal[k], with number[k] and sentence[refusal[k]]; 0, which
 # is none, is DONE.
 # Answer k is struct answers[k]; the fields of struct s are field[s, i] and width[s, i], i from 1 to fields[s].
 
@@ -75,6 +75,12 @@ open {
 }
 !/^#/ && !open { said = "" }
 
+# What stands before a body, its clauses among them, line by line; and where the clauses take their names from.
+source && /^ghost use / { imports = imports (imports == "" ? "" : "\n") $0 }
+source && /^pub extern "C" fn / { stands = ""; heading_on = 1 }
+heading_on && $0 == "{" { head[calls] = stands; heading_on = 0 }
+heading_on { stands = stands (stands == "" ? "" : "\n") $0 }
+
 function take(    n, inner, parts, i) {
     open = 0
     n = ++calls
@@ -137,6 +143,7 @@ function same(n,    k, i, other) {
 function make(what,    k) {
     if (what == "version in c") say("#define HP_VERSION \"" version "\"")
     else if (what == "version in sh") say("version=" version)
+    else if (what == "imports of clauses") say(imports)
     else if (what ~ /refusal/) for (k = 1; k <= refusals; k++) of_refusal(what, k)
     else if (what ~ /answer/) for (k = 1; k <= structs; k++) of_answer(what, answers[k])
     else for (k = 1; k <= calls; k++) of_call(what, k)
@@ -222,7 +229,8 @@ function of_call(what, n) {
     if (what == "calls in c") {
         if (heads[n] != "") say("\n" c_comment(heads[n]) "\n")
         say(c_comment(says[n]) "\n" c_prototype(n) ";")
-    } else if (what == "calls around others") {
+    } else if (what == "exports") say("\n#[unsafe(no_mangle)]\n" head[n] "\n{\n    hostpath::hp_" call[n] "(" named(n) ")\n}")
+    else if (what == "calls around others") {
         if (answer[n] != "u8" && fields[answer[n]] > 2) around(n)
     } else if (what == "calls on pointers") {
         say("/// [`" call[n] "`] on pointers.")
@@ -260,6 +268,12 @@ function c_arguments(n,    i, all) {
         if (type[n, i] ~ /^u/) all = all c_type(type[n, i]) " " name[n, i]
         else all = all (type[n, i] ~ /mut/ ? "" : "const ") "uint8_t *" name[n, i] ", size_t " name[n, i] "_len"
     }
+    return all
+}
+
+# A call's arguments by their names alone.
+function named(n,    i, all) {
+    for (i = 1; i <= count[n]; i++) all = all (i > 1 ? ", " : "") name[n, i]
     return all
 }
 
