@@ -135,7 +135,7 @@ class Function:
                     best = (field, way)
             if best and best[1]:
                 return f"c.{arms[0]}.{best[0]}" + "".join("." + w for w in rest[len(best[1]) :])
-        if same(spec[2][0]) != same(step) and same(spec[2][1]) != same(step):
+        if same(step).lower() not in (same(spec[2][0]).lower(), same(spec[2][1]).lower()):
             return None
         new = "c." + spec[2][1]
         if arms and step == spec[2][0]:
