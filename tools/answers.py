@@ -503,6 +503,14 @@ def turn(path, about):
                 # A tactic proves each field by itself.
                 head, tail = lets(done)
                 made = head.rstrip() + ("\n    " if head else "") + "record { " + "; ".join(f"{f} = {tail.strip()}" for f in fields) + " }"
+            if made is None and lets(done)[1].strip().startswith("rw "):
+                # A pair behind a rewriting: what is rewritten stands in the first field, mostly what the call answered.
+                head, tail = lets(done)
+                words = arguments(tail.strip())
+                if len(words) == 3:
+                    way = [f"p" + ".1" * j + (".0" if j < len(fields) - 1 else "") for j in range(len(fields))]
+                    inner = words[2][1:-1] if closes(words[2]) else words[2]
+                    made = head.rstrip() + f"\n    let p = {inner} in record {{ " + "; ".join(f"{f} = {f'rw {words[1]} ' if j == 0 else ''}{w}" for j, (f, w) in enumerate(zip(fields, way))) + " }"
             if made is None:
                 way = [f"p" + ".1" * j + (".0" if j < len(fields) - 1 else "") for j in range(len(fields))]
                 made = head.rstrip() + f"\n    let p = {tail.strip()} in record {{ " + "; ".join(f"{f} = {w}" for f, w in zip(fields, way)) + " }"

@@ -1,0 +1,28 @@
+-- `wide::rendering::render` meets its contract.
+use native.Mathlib.Omega.{arith}
+use Rattle.text.specs.PutLaws.{gives-refusal, gives_same}
+use Rattle.path.specs.Kinds.{carried}
+use Rattle.wide.specs.Mode.{wide}
+use Rattle.wide.specs.Render.{render_in}
+use Rattle.wide.specs.StepLaws.{render-low, render-high, render-word, render-kind}
+use Rattle.wide.proofs.rendering.render.Goals as goal
+
+pub returns-then-kind-lt1 : goal.returns-then-kind-lt1
+returns-then-kind-lt1 c =
+    let v = carried c.args.first.now c.args.second.now c.args.a c.args.b in
+    let p = gives-refusal (render_in wide c.args.kind v) c.args.out.now 14 (render-low wide c.args.kind v (omega arith)) in record { value = p.0; out_after = p.1 }
+
+pub returns-then-kind-gt19 : goal.returns-then-kind-gt19
+returns-then-kind-gt19 c =
+    let v = carried c.args.first.now c.args.second.now c.args.a c.args.b in
+    let p = gives-refusal (render_in wide c.args.kind v) c.args.out.now 14 (render-high wide c.args.kind v (omega arith)) in record { value = p.0; out_after = p.1 }
+
+pub returns-then-kind-lt4 : goal.returns-then-kind-lt4
+returns-then-kind-lt4 c =
+    let v = carried c.args.first.now c.args.second.now c.args.a c.args.b in
+    let p = gives_same (render_in wide c.args.kind v) c.args.out.now (render-word wide c.args.kind v (omega arith) (omega arith)) (c.fit_kind.ensures.value, c.fit_kind.ensures.out_after) in record { value = p.0; out_after = p.1 }
+
+pub returns : goal.returns
+returns c =
+    let v = carried c.args.first.now c.args.second.now c.args.a c.args.b in
+    let p = gives_same (render_in wide c.args.kind v) c.args.out.now (render-kind wide c.args.kind v (omega arith) (omega arith)) (c.checked_kind.ensures.value, c.checked_kind.ensures.out_after) in record { value = p.0; out_after = p.1 }

@@ -1,0 +1,7 @@
+-- `wide::validate::validate_prefix_length` meets its contract.
+use Rattle.wide.specs.Check.{prefix_length_in}
+use Rattle.wide.proofs.validate.validate_prefix_length.Goals as goal
+
+pub returns : goal.returns
+unfolding prefix_length_in
+returns c = rw (← c.less.ensures, ← c.less-2.ensures) c.validate_identifier_length.ensures
