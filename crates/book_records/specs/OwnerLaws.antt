@@ -11,7 +11,7 @@ use Rattle.text.specs.Order.{by, cmp}
 use Rattle.text.specs.OrderLaws.{cmp-eq, Keys, key-lt, key-eq, key_gt, keys}
 use Rattle.book_records.specs.Records.{Key, get, put, del, After, Sorted}
 use Rattle.book_records.specs.RecordLaws.{after_trans}
-use Rattle.book_records.specs.Act.{Rec, Meaning, refuses, writes, removes, looks, Answer, says, add_to, take_from, look_in, act, count_by, full_by}
+use Rattle.book_records.specs.Act.{Rec, Meaning, refuses, writes, removes, looks, add_to, take_from, look_in, act, count_by, full_by}
 use Rattle.book_records.specs.ActLaws.{key_meant, other-cost}
 
 -- a key before all others is put in front

@@ -12,7 +12,7 @@ use Rattle.text.specs.Number.{numeral_of}
 use Rattle.text.specs.Part.{every, ascii, starts_with}
 use Rattle.text.specs.declared.Fault.{Fault}
 use Rattle.text.specs.declared.Numeral.{Numeral}
-use Rattle.identifiers.specs.Check.{first, unless, identifier_byte, chars_of, within, index_of, named_of, named_index_of, named_index_fault, index_place, plain, indexed, check_of, fault_of}
+use Rattle.identifiers.specs.Check.{first, unless, identifier_byte, chars_of, within, index_of, named_of, named_index_of, index_place, plain, indexed, check_of, fault_of}
 use Rattle.identifiers.specs.CheckLaws.{first-none, first_some, check-plain, check-form, index-zero}
 
 -- ---- the index d that a text has from `start` on

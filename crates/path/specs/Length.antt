@@ -3,8 +3,6 @@
 use Rattle.std.specs.Prelude.{ℕ, zero, suc, ◌+◌, List, [], ◌∷◌, length}
 use Rattle.text.specs.Number.{width}
 use Rattle.path.specs.Kinds.{Part, word, name, count, pair, Carried, name_in}
-use Rattle.path.specs.declared.name.Name.{Name}
-use Rattle.path.specs.declared.name.Name.TheVariants.{Client as client, Connection as connection, Port as port, Channel as channel, Upgrade as upgrade}
 
 abbrev pub part_length : Part → Carried ℕ → ℕ
 part_length (word w) v = length w

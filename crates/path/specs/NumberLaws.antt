@@ -1,7 +1,7 @@
 -- Laws of `Number`: the reader's answer is the first fault exactly where the number alone is wrong, and its place marks what to mend. What
 -- the reader computes is `Faulty`; that it is `NumberWrong`, said of the text, is in WrongLaws.
 -- Assumes nothing.
-use Rattle.std.specs.Prelude.{ℕ, ◌+◌, ◌≤◌, ◌≡◌, refl, Bool, true, false, cond, ◌&&◌, List, [], ◌∷◌, ◌++◌, eqb, length, get_or, drop}
+use Rattle.std.specs.Prelude.{ℕ, ◌+◌, ◌≤◌, ◌≡◌, refl, Bool, true, false, cond, List, [], ◌∷◌, ◌++◌, eqb, length, get_or, drop}
 use Rattle.std.proofs.Common.{sym, ap, subst, ◌∙◌, append_assoc, arith, length-append, length-drop, take-append-drop, take_at, drop_at, drop-drop}
 use Rattle.std.proofs.Math.Nat.{add-sub_cancel_left}
 use Rattle.text.specs.Fault.{has_place, numeral_fault, numeral_place}
@@ -11,8 +11,6 @@ use Rattle.text.specs.PartLaws.{and_left, and_right}
 use Rattle.text.specs.declared.Numeral.{Numeral}
 use Rattle.text.specs.declared.Numeral.TheVariants.{Value, NoDigits, NotADigit, TooLarge}
 use Rattle.identifiers.specs.Check.{is_value}
-use Rattle.path.specs.declared.Place.{Place}
-use Rattle.path.specs.declared.Path.{Path}
 use Rattle.path.specs.declared.PathAnswer.{PathAnswer}
 use Rattle.path.specs.declared.PathAnswer.TheVariants.{Found, Nothing}
 use Rattle.path.specs.declared.Refusal.{Refusal}

@@ -1,7 +1,7 @@
 -- The places of what was read lie in the text, so that what is shown of each is what stands there.
 -- Assumes nothing.
-use Rattle.std.specs.Prelude.{ℕ, ◌+◌, ◌-◌, ◌≤◌, ◌≡◌, refl, List, [], ◌∷◌, Bool, true, false, cond, ◌&&◌, length}
-use Rattle.std.proofs.Common.{sym, ap, ◌∙◌, arith, le-leb}
+use Rattle.std.specs.Prelude.{ℕ, ◌+◌, ◌-◌, ◌≤◌, ◌≡◌, List, [], ◌∷◌, length}
+use Rattle.std.proofs.Common.{ap, ◌∙◌, arith, le-leb}
 use Rattle.path.specs.declared.Place.{Place}
 use Rattle.path.specs.declared.Path.{Path}
 use Rattle.path.specs.Text.{place_at, part_of, shown_of}
@@ -9,7 +9,7 @@ use Rattle.path.specs.TextLaws.{place-within}
 use Rattle.path.specs.Kinds.{Part, word, name, count, pair, Carried, set_name}
 use Rattle.path.specs.declared.name.Name.{Name}
 use Rattle.path.specs.declared.name.Name.TheVariants.{Client as client, Connection as connection, Port as port, Channel as channel, Upgrade as upgrade}
-use Rattle.path.specs.Read.{adds, carried_from, texts_of}
+use Rattle.path.specs.Read.{carried_from}
 use Rattle.path.specs.View.{carried_of}
 use Rattle.path.specs.Reads.{Reads}
 use Rattle.path.specs.ReadLaws.{made-carried}

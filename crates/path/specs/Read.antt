@@ -1,7 +1,6 @@
 -- Reading and rendering, both from the table of kinds.
 -- Assumes nothing.
-use Rattle.std.specs.Prelude.{ℕ, suc, ◌+◌, ◌-◌, Bool, true, false, cond, not, ◌&&◌, List, [], ◌∷◌, ◌++◌, map, eqb, ltb, leb, length, get_or}
-use Rattle.text.specs.Bytes.{bytes}
+use Rattle.std.specs.Prelude.{ℕ, ◌+◌, ◌-◌, Bool, true, false, cond, not, ◌&&◌, List, [], ◌∷◌, ◌++◌, map, eqb, ltb, leb, length, get_or}
 use Rattle.text.specs.Number.{numeral_of, decimal, big_endian}
 use Rattle.text.specs.Part.{every, ascii, same}
 use Rattle.text.specs.Refusal.{too_long, not_ascii, not_aPath, bad_segment, bad_kind, no_digits, not_aDigit, too_large}

@@ -1,9 +1,9 @@
 -- Laws of a text's components and places: what stands at the places are the components, and joining them gives the text back.
 -- Assumes nothing.
-use Rattle.std.specs.Prelude.{ℕ, zero, suc, min, ◌+◌, ◌-◌, ◌≤◌, ◌<◌, ◌≡◌, Bool, false, cond, not, ◌&&◌, eqb, length, take, drop, get_or}
+use Rattle.std.specs.Prelude.{ℕ, zero, suc, ◌+◌, ◌-◌, ◌≤◌, ◌<◌, ◌≡◌, Bool, false, not, ◌&&◌, eqb, length, take, drop, get_or}
 use Rattle.std.proofs.Math.Path.{refl}
-use Rattle.std.proofs.Common.{sym, ap, ◌∙◌, arith, add-one, suc-add, length-append, drop-cons, drop_at, le-leb, eq-eqb, eqb-true}
-use mathlib.Core.List.{List, [], ◌∷◌, ◌++◌, map, append_assoc, append-nil}
+use Rattle.std.proofs.Common.{sym, ap, ◌∙◌, arith, suc-add, length-append, drop_at, le-leb, eq-eqb, eqb-true}
+use mathlib.Core.List.{List, [], ◌∷◌, ◌++◌, map}
 use Rattle.std.proofs.Math.Bool.{true}
 use Rattle.std.proofs.Math.ListN.{get_or-map}
 use Rattle.std.proofs.lemmas.List.{length-map}
@@ -12,7 +12,7 @@ use Rattle.std.proofs.lemmas.Bool.{not-true}
 use Rattle.text.specs.Part.{every}
 use Rattle.text.specs.PartLaws.{and_left, and_right}
 use Rattle.path.specs.declared.Place.{Place}
-use Rattle.path.specs.Text.{components, component, cut_at, join_by, join, onto, cut_step, place_step, places, places_from, place_at, longer, part_of, nowhere, shown_of}
+use Rattle.path.specs.Text.{components, component, cut_at, join_by, onto, cut_step, place_step, places, places_from, place_at, longer, part_of, nowhere, shown_of}
 
 -- ---- the places of the components
 -- places that stand one after the other, a byte between two, the last of them up to e

@@ -4,8 +4,6 @@ use Rattle.std.specs.Prelude.{ℕ, ◌≤◌, ◌<◌, ◌^◌, ◌≡◌, true,
 use Rattle.path.specs.declared.Path.{Path}
 use Rattle.path.specs.declared.Reading.TheVariants.{Read}
 use Rattle.path.specs.Kinds.{Part, word, name, count, pair, Carried, carried, name_in, set_name}
-use Rattle.path.specs.declared.name.Name.{Name}
-use Rattle.path.specs.declared.name.Name.TheVariants.{Client as client, Connection as connection, Port as port, Channel as channel, Upgrade as upgrade}
 use Rattle.path.specs.Read.{render, parts_of, texts_of, names_fault, read_path}
 use Rattle.path.specs.View.{kind_of, carried_of}
 

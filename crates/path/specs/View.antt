@@ -1,6 +1,6 @@
 -- This paper's number and values for each case of the typed path and of the reader's answer.
 -- Assumes nothing.
-use Rattle.std.specs.Prelude.{ℕ, Bool, true, false, cond, not, ◌&&◌, ◌||◌, List, eqb, leb}
+use Rattle.std.specs.Prelude.{ℕ, Bool, cond, not, ◌&&◌, ◌||◌, List, eqb, leb}
 use Rattle.std.specs.Borrow.{Bor}
 use Rattle.text.specs.Refusal.{bad_kind}
 use Rattle.text.specs.Stands.{Stands}

@@ -8,7 +8,7 @@ use borrow.Author.Tests.{eqb-true, eq-eqb}
 use Rattle.text.specs.declared.Fault.{Fault}
 use Rattle.text.specs.declared.Numeral.{Numeral}
 use Rattle.text.specs.declared.Numeral.TheVariants.{Value, NoDigits, NotADigit, TooLarge}
-use Rattle.text.specs.Fault.{has_place, numeral_fault, numeral_place, IsNumber}
+use Rattle.text.specs.Fault.{has_place, numeral_fault, IsNumber}
 use Rattle.text.specs.Number.{numeral_of}
 use Rattle.text.specs.PartLaws.{and_left, and_right}
 use Rattle.path.specs.declared.PathAnswer.TheVariants.{Nothing}

@@ -1,9 +1,9 @@
 -- Calls that may be left out: where a call that stays answers by what is seen of the state, and one that goes changes nothing of that, the
 -- others are answered as if it had not been made.
 -- Assumes nothing.
-use Rattle.std.specs.Prelude.{◌≡◌, Bool, true, false, cond, List, [], ◌∷◌}
+use Rattle.std.specs.Prelude.{◌≡◌, Bool, true, false, cond, List, ◌∷◌}
 use Rattle.std.proofs.Math.Path.{refl}
-use Rattle.std.proofs.Common.{sym, ap, ◌∙◌}
+use Rattle.std.proofs.Common.{sym, ◌∙◌}
 use Rattle.runs.specs.Runs.{Runs, stop, next}
 use Rattle.runs.specs.Without.{without, answers_without}
 

@@ -6,7 +6,7 @@ use Rattle.text.specs.Number.{is_digit, with_digit, digits_from, digits_at, nume
 use Rattle.text.specs.declared.Numeral.{Numeral}
 use Rattle.text.specs.declared.Numeral.TheVariants.{Value, NoDigits, NotADigit, TooLarge}
 use Rattle.text.specs.Refusal.{no_digits}
-use Rattle.text.specs.Fault.{fault, has_place, numeral_fault, numeral_place, IsNumber, Mends}
+use Rattle.text.specs.Fault.{fault, has_place, numeral_fault, numeral_place, Mends}
 
 -- a numeral is a fault
 abbrev Faulty : Numeral → Type 0

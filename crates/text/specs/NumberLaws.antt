@@ -1,15 +1,14 @@
 -- Laws of `Number`. No contract cites this file.
 -- Assumes nothing.
-use Rattle.std.specs.Prelude.{◌≡◌, refl, Bool, true, false, cond, ℕ, zero, suc, ◌+◌, ◌*◌, ◌-◌, ◌/◌, ◌%◌, ◌^◌, ◌≤◌, ◌<◌, List, [], ◌∷◌, ◌++◌, ltb, leb, eqb, length, take, drop, get_or}
-use Rattle.std.proofs.Common.{sym, ap, ◌∙◌, pow-suc, add-zero, zero-add, le_refl, add-one, arith, append_assoc, append-nil, length-append, length-take, length-drop, get_or-drop, drop-cons, take_at, drop_at, lt-ltb, le-ltb, le-leb, ne_eqb, ltb-true, leb-true}
+use Rattle.std.specs.Prelude.{◌≡◌, refl, Bool, true, false, cond, ℕ, zero, suc, ◌+◌, ◌*◌, ◌/◌, ◌%◌, ◌^◌, ◌≤◌, ◌<◌, List, [], ◌∷◌, ◌++◌, ltb, leb, eqb, length, take, drop, get_or}
+use Rattle.std.proofs.Common.{ap, ◌∙◌, pow-suc, add-zero, zero-add, le_refl, add-one, arith, append_assoc, append-nil, length-append, length-take, length-drop, get_or-drop, drop-cons, take_at, drop_at, lt-ltb, le-ltb, le-leb, ne_eqb, ltb-true, leb-true}
 use Rattle.std.proofs.Math.Decide.{dec_lt}
 use Rattle.std.proofs.Math.ListN.{get_or-append}
 use Rattle.std.proofs.lemmas.List.{get_or_at}
-use Rattle.std.proofs.lemmas.Bool.{lt-leb}
 use Rattle.text.specs.PartLaws.{and_left, and_right}
 use Rattle.text.specs.Number.{numeral_of, digits_at, digits_from, is_digit, with_digit, width, width_by, digits, decimal, big_endian, low_bytes, big_from, big_at, Bytes}
 use Rattle.text.specs.declared.Numeral.{Numeral}
-use Rattle.text.specs.declared.Numeral.TheVariants.{Value, NoDigits, NotADigit, TooLarge}
+use Rattle.text.specs.declared.Numeral.TheVariants.{Value, NotADigit, TooLarge}
 
 -- what holds of the numbers below ten, and of n where it holds of n / 10, holds of each number
 module _ (P : ℕ → Type 0) (small : (n : ℕ) → n < 10 → P n) (more : (n : ℕ) → 10 ≤ n → P (n / 10) → P n) where

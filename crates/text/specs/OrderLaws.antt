@@ -1,7 +1,7 @@
 -- Laws of `Order`.
 -- Assumes nothing.
 use Rattle.std.specs.Prelude.{◌≡◌, refl, List, [], ◌∷◌, ◌++◌, length}
-use Rattle.std.proofs.Common.{sym, ap, ◌∙◌, not-suc-le-zero, le_of_suc-le-suc, arith}
+use Rattle.std.proofs.Common.{sym, ◌∙◌, not-suc-le-zero, le_of_suc-le-suc, arith}
 use Prim.Native.Nat.{ℕ, zero, suc, ◌<◌, compare, Ordering}
 use Rattle.std.proofs.Math.Decide.{dec_lt}
 use Rattle.text.specs.Order.{by, then, cmp, Before}

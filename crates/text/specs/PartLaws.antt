@@ -8,7 +8,7 @@ use Rattle.std.proofs.Math.Numerals.{add-one}
 use Rattle.std.proofs.Math.ListN.{drop_of_length-le}
 use Rattle.std.proofs.Math.Seq.{drop-cons}
 use borrow.Author.Tests.{eq-eqb, ne_eqb, eqb-true}
-use Rattle.text.specs.Part.{every, ascii, starts_with, same}
+use Rattle.text.specs.Part.{every, starts_with, same}
 
 -- ---- both tests hold
 pub and_left : (a b : Bool) → (a && b) ≡ true → a ≡ true

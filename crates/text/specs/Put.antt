@@ -1,6 +1,6 @@
 -- What a call that writes a text leaves in the buffer that is lent to it, and what it answers.
 -- Assumes nothing.
-use Rattle.std.specs.Prelude.{ℕ, ◌+◌, ◌≤◌, ◌≡◌, Bool, cond, List, ◌++◌, eqb, leb, length, take, drop}
+use Rattle.std.specs.Prelude.{ℕ, ◌+◌, ◌≤◌, ◌≡◌, cond, List, ◌++◌, eqb, leb, length, take, drop}
 use Rattle.text.specs.declared.Written.{Written}
 use Rattle.text.specs.Refusal.{no_room}
 

@@ -4,7 +4,6 @@ use mathlib.Core.List.{◌++◌}
 use Prim.Native.Nat.{◌+◌, ◌≤◌}
 use lib.ListN.{length, take, drop}
 use Rattle.text.specs.Number.{big_endian}
-use Rattle.text.specs.Put.{put}
 use Rattle.text.proofs.write_big_endian.Given as goal
 
 -- the text that is to be there is what stands there, with the j bytes that are left put in

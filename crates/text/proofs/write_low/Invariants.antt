@@ -4,7 +4,6 @@ use mathlib.Core.List.{◌++◌}
 use Prim.Native.Nat.{◌+◌, ◌-◌, ◌≤◌}
 use lib.ListN.{length, take, drop}
 use Rattle.text.specs.Number.{low_bytes}
-use Rattle.text.specs.Put.{put}
 use Rattle.text.proofs.write_low.Given as goal
 
 -- the text that is to be there is what stands there, with the bytes of m put in

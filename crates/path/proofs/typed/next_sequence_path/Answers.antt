@@ -1,6 +1,5 @@
 -- `typed::next_sequence_path` meets its contract.
 use mathlib.Core.Path.{◌≡◌}
-use Rattle.text.specs.TableLaws.{past}
 use Rattle.path.specs.Kinds.{carried, kinds}
 use Rattle.path.specs.TypedLaws.{by_kind}
 use native.Mathlib.Omega.{arith}
