@@ -31,9 +31,9 @@ cited() {
             gsub(/[][(){},;]/, " ", rest)
             n = split(rest, word, / +/)
             for (i = 1; i <= n; i++) {
-                alias = word[i]
+                alias = word[i] # a name, also with a projection behind it, or what stands before a name of a module
                 sub(/\..*/, ".", alias)
-                if (word[i] in laws || alias in laws) print FILENAME ":" FNR ": " word[i]
+                if (substr(alias, 1, length(alias) - (alias ~ /\.$/)) in laws || alias in laws) print FILENAME ":" FNR ": " word[i]
             }
         }' "$1"
 }

@@ -33,7 +33,7 @@ for crate in $(sort -u "$work/crates"); do
         echo "$title" >>"$work/edits"
         case $title in "$crate"::*) ;; *) fail "in the edits of $crate: $title" ;; esac
         grep -qxF "${title%%: *}" "$work/functions" || fail "of no public function: $title"
-        make_edit "$record" "$crate" >"$work/edited" 2>&1 || fail "nothing to edit, or no single place: $title"
+        place_edits "$record" "$crate" >"$work/places" 2>&1 || fail "nothing to edit, or no single place: $title"
     done
 done
 

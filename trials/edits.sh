@@ -1,4 +1,4 @@
-# What trials/run and tests/trials.sh share: the list of the edits on record, and the making of one.
+# What trials/run and tests/trials.sh share: the list of the edits on record, and the places of one.
 
 # Lays each wrong answer's edit of a crate down as a file of its own: those of trials/CRATE.edits, then the must-fail
 # edits whose first line names a function of the crate.
@@ -19,43 +19,48 @@ title_of() {
     sed -n '1s/^# //p' "$1"
 }
 
-# Prints the record's file with its edits made. The status is 1 where a place is not found, or is one of several.
-make_edit() {
-    awk '
+# Prints what the record's edits make of the crate's files, a line each that they change: the file, the line's number and the
+# line, with tabs between. The status is 1 where a place is not found, or is one of several.
+place_edits() {
+    awk -v crate="$2" '
         # The line that holds the old text: the first in the function, its contract left out, or the only one in the file;
         # 0 where there is none.
-        function place(old,    i, inside, last, found) {
-            for (i = 1; i <= lines; i++) {
-                if (fn != "" && !inside && index(line[i], "fn " fn "(")) {
+        function place(old,    i, text, inside, last, found) {
+            for (i = 1; i <= lines[file]; i++) {
+                text = line[file, i]
+                if (fn != "" && !inside && index(text, "fn " fn "(")) {
                     inside = 1
-                    match(line[i], /^ */)
-                    last = substr(line[i], 1, RLENGTH) "}"
+                    match(text, /^ */)
+                    last = substr(text, 1, RLENGTH) "}"
                 }
-                if (inside && line[i] == last) return 0
-                if ((fn != "" && !inside) || !index(line[i], old)) continue
-                if (inside && line[i] ~ /^ *(requires|ensures) /) continue
+                if (inside && text == last) return 0
+                if ((fn != "" && !inside) || !index(text, old)) continue
+                if (inside && text ~ /^ *(requires|ensures) /) continue
                 if (inside) return i
-                if (found || index(substr(line[i], index(line[i], old) + 1), old)) return 0
+                if (found || index(substr(text, index(text, old) + 1), old)) return 0
                 found = i
             }
             return found
         }
-        FNR == NR {
-            if (sub(/^fn: /, "")) fn = $0
-            else if (sub(/^old: /, "")) old[++edits] = $0
-            else if (sub(/^new: /, "")) new[edits] = $0
-            next
+        sub(/^file: /, "") {
+            file = $0
+            if (file in lines) next
+            lines[file] = 0
+            while ((getline text <("crates/" crate "/" file)) > 0) line[file, ++lines[file]] = text
         }
-        { line[++lines] = $0 }
+        sub(/^fn: /, "") { fn = $0 }
+        sub(/^old: /, "") { old = $0 }
+        sub(/^new: ?/, "") {
+            i = place(old)
+            at = index(line[file, i], old)
+            if (!i || old == $0) bad = 1
+            else line[file, i] = substr(line[file, i], 1, at - 1) $0 substr(line[file, i], at + length(old))
+            changed[file "\t" i] = file SUBSEP i
+            old = ""
+            pairs++
+        }
         END {
-            bad = !edits
-            for (k = 1; k <= edits; k++) {
-                i = place(old[k])
-                if (!i || !(k in new) || old[k] == new[k]) { bad = 1; continue }
-                at = index(line[i], old[k])
-                line[i] = substr(line[i], 1, at - 1) new[k] substr(line[i], at + length(old[k]))
-            }
-            for (i = 1; i <= lines; i++) print line[i]
-            exit bad
-        }' "$1" "crates/$2/$(sed -n 's/^file: //p' "$1")"
+            if (bad || !pairs) exit 1
+            for (i in changed) print i "\t" line[changed[i]]
+        }' "$1"
 }

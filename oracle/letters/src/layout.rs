@@ -35,6 +35,21 @@ fn each<T: Display>(all: impl IntoIterator<Item = T>, behind: &str) -> String {
     all.into_iter().map(|one| format!("{one}{behind}")).collect()
 }
 
+/// Numbers in lines of a source, of at most 99 characters each, as the toolchain lays them out.
+fn filled(numbers: &[u32]) -> String {
+    let mut lines = String::new();
+    let mut line = String::from("   ");
+    for number in numbers {
+        let next = format!(" {number},");
+        if line.len() + next.len() > 99 {
+            lines += &(line + "\n");
+            line = "   ".into();
+        }
+        line += &next;
+    }
+    lines + &line + "\n"
+}
+
 impl Table {
     fn head(&self) -> String {
         format!(
@@ -47,8 +62,7 @@ impl Table {
     /// crates/letters/src/table.rt
     pub fn source(&self) -> String {
         let array = |said: String, name: String, bounds: &[u32]| {
-            let (count, numbers) = (bounds.len(), bounds.iter().map(|n| format!("    {n}")));
-            let numbers = each(numbers, ",\n");
+            let (count, numbers) = (bounds.len(), filled(bounds));
             format!("\n// {said}\npub const {name}: [u32; {count}] = [\n{numbers}];\n")
         };
         let mut all = format!("// {}\n", self.head());
@@ -66,7 +80,7 @@ impl Table {
         };
         let of = |bounds: &[u32]| each(bounds, " ∷ ") + "[]";
         let mut all = format!(
-            "-- {}\n-- Assumes nothing.\nuse Prim.Native.Nat.{{ℕ}}\nuse mathlib.Core.List.{{List, [], _∷_, _++_}}\n",
+            "-- {}\n-- Assumes nothing.\nuse Rattle.std.specs.Prelude.{{ℕ, List, [], ◌∷◌, ◌++◌}}\n",
             self.head()
         );
         for (number, Part { first, last, bounds }) in (1..).zip(parts(&self.letters)) {
