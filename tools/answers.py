@@ -204,6 +204,7 @@ def body(fn, place, var, text):
     """A body with its paths turned."""
     alias = {var: (place, [])}
     out, at = "", 0
+    depth, hidden = 0, []
     let = re.compile(rf"let ({NAME}) = ({NAME})((?:\.[^\s(){{}}.;,@\"«»\[\]|]+)*) in(?=\s)")
     while at < len(text):
         m = let.match(text, at)
@@ -215,6 +216,17 @@ def body(fn, place, var, text):
             while at < len(text) and text[at].isspace():
                 at += 1
             continue
+        # A name that a λ binds is its own, up to where the brackets round the λ end.
+        m = re.match(rf"λ (?:\(({NAME}) :|({NAME})\.\s)", text[at:])
+        if m and (m.group(1) or m.group(2)) in alias:
+            hidden.append((depth, m.group(1) or m.group(2), alias.pop(m.group(1) or m.group(2))))
+        if text[at] in "([{":
+            depth += 1
+        elif text[at] in ")]}":
+            depth -= 1
+            while hidden and depth < hidden[-1][0]:
+                _, name, was = hidden.pop()
+                alias[name] = was
         m = PATH.match(text, at)
         if m and (at == 0 or not re.match(r"[\w.'-]", text[at - 1])) and m.group(1) in alias:
             p, way = alias[m.group(1)]
@@ -499,6 +511,13 @@ def turn(path, about):
                     if inner:
                         pieces = re.findall(r"(?m)^      (\w+) = (.*);$", inner)
                         made = head.rstrip() + ("\n    " if head else "") + "record {\n" + "".join(f"      {f} = rw {again[1]} {t if closes(t) or ' ' not in t else '(' + t + ')'};\n" for f, t in pieces) + "    }"
+            if made is None and lets(done)[1].strip().startswith("rw "):
+                # A pair that is rewritten: each part by itself.
+                head, tail = lets(done)
+                words = arguments(tail.strip())
+                inner = record(fields, words[3]) if len(words) == 4 and words[2] == "at" else None
+                if inner:
+                    made = head.rstrip() + ("\n    " if head else "") + re.sub(r"(?m)^      (\w+) = ", lambda m: f"      {m.group(1)} = rw {words[1]} at ", inner)
             if made is None and re.match(r"\s*(omega|grind|search)\b", lets(done)[1]):
                 # A tactic proves each field by itself.
                 head, tail = lets(done)
