@@ -1,0 +1,15 @@
+-- `book_oldest::older` meets its contract.
+use Rattle.book_oldest.specs.OldestLaws.{none_first, none-second, second-lower, second-no-lower}
+use Rattle.book_oldest.proofs.older.Goals as goal
+
+pub returns-in_default : goal.returns-in_default
+returns-in_default c = none_first _ _ c.in_default.is
+
+pub returns-in_default-y : goal.returns-in_default-y
+returns-in_default-y c = none-second _ _ _ c.in-State.is c.in_default-y.is
+
+pub returns-then-is_below : goal.returns-then-is_below
+returns-then-is_below c = second-lower _ _ _ _ c.in-State.is c.in-State-y.is _ c.is_below.ensures c.if-is_below.true
+
+pub returns : goal.returns
+returns c = second-no-lower _ _ _ _ c.in-State.is c.in-State-y.is _ c.is_below.ensures c.if-is_below.false
