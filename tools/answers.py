@@ -25,7 +25,7 @@ def blocks(text):
     for line in text.split("\n"):
         if line.startswith("--") or not line.strip():
             pending.append(line)
-        elif line[0] in " \t":
+        elif line[0] in " \t)]}":
             out[-1] += "\n" + "\n".join(pending + [line]) if pending else "\n" + line
             pending = []
         else:

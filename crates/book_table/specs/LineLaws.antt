@@ -1,6 +1,6 @@
 -- Laws of `lines`: the first text, and the rest.
 -- Assumes nothing.
-use Rattle.std.specs.Prelude.{◌≡◌, ℕ, zero, suc, ◌+◌, ◌-◌, ◌<◌, ◌≤◌, List, [], ◌∷◌, ◌++◌, length, drop, ◌==◌, ◌≢◌, slice_index, slice_range, refl}
+use Rattle.std.specs.Prelude.{◌≡◌, ℕ, suc, ◌+◌, ◌-◌, ◌<◌, ◌≤◌, List, [], ◌∷◌, ◌++◌, length, drop, ◌==◌, ◌≢◌, slice_index, slice_range, refl}
 use Rattle.std.proofs.Common.{sym, ap, ◌∙◌, subst, arith, ne_eqb, length-take, length-drop, take-append-drop, drop_of_length-le, drop-cons, drop-drop, get_or-take, get_or-drop, take_all}
 use Rattle.std.proofs.Math.Decide.{dec_lt}
 use Rattle.book_table.specs.Lines.{ahead, lines, Line, Next}

@@ -1,7 +1,7 @@
 -- Laws of `probe`: in the table that is filled from keys in rising order it gives a key's slot, counted from 1, and 0 where the key is not
 -- among them.
 -- Assumes nothing.
-use Rattle.std.specs.Prelude.{◌≡◌, ℕ, zero, suc, ◌+◌, ◌-◌, ◌<◌, ◌≤◌, Bool, true, false, cond, ◌||◌, ◌↔◌, List, [], length, ◌≢◌, nat_lt, slice_index_or, refl}
+use Rattle.std.specs.Prelude.{◌≡◌, ℕ, suc, ◌-◌, ◌<◌, Bool, true, false, cond, ◌||◌, ◌↔◌, List, [], length, ◌≢◌, nat_lt, slice_index_or, refl}
 use Rattle.std.proofs.Common.{sym, ap, ◌∙◌}
 use Rattle.std.proofs.Math.Decide.{dec_lt}
 use native.Mathlib.Omega.{arith}
@@ -15,7 +15,7 @@ use Rattle.book_table.specs.First.{first}
 use Rattle.book_table.specs.FirstLaws.{Least, Sought, seek, first-stop}
 use Rattle.book_table.specs.Probe.{Holds, Lacks}
 use Rattle.book_table.specs.Table.{home, bucket, free, filled, fill, ends, probe}
-use Rattle.book_table.specs.TableLaws.{Sound, sound-filled, Passed, walk-found, walk-missing}
+use Rattle.book_table.specs.TableLaws.{Sound, sound-filled, walk-found, walk-missing}
 
 abbrev pub Rising : (ℕ → Key) → ℕ → Type 0
 Rising f n = (i j : ℕ) → i < j → j < n → Before (f i) (f j)

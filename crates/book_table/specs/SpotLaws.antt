@@ -1,26 +1,23 @@
 -- What a probe tells of a book is what the search by order tells.
 -- Assumes nothing.
-use Rattle.std.specs.Prelude.{◌≡◌, ℕ, ◌<◌, ◌≤◌, Bool, true, false, List, ◌∷◌, length, ◌≢◌, refl}
+use Rattle.std.specs.Prelude.{◌≡◌, ℕ, ◌<◌, Bool, true, false, List, ◌∷◌, ◌≢◌, refl}
 use Rattle.std.proofs.Common.{sym, ap, ◌∙◌, arith}
 use Prim.Native.Nat.{Ordering}
-use Rattle.std.proofs.Math.ListN.{get_elem?}
-use Rattle.text.specs.Order.{cmp, by, Before}
+use Rattle.text.specs.Order.{cmp}
 use Rattle.text.specs.OrderLaws.{cmp_flip, cmp_self, cmp-eq}
 use Rattle.text.specs.PlaceLaws.{at_some}
-use Rattle.text.specs.declared.Written.{Written}
 use Rattle.text.specs.Put.{put}
 use Rattle.text.specs.Put as buffer
 use Rattle.book_records.specs.Act.{looks}
 use Rattle.book_records.specs.SplitLaws.{sorted-at}
 use Rattle.book_form.specs.Form.{key_at}
-use Rattle.book_form.specs.Counted.{stored}
 use Rattle.book.specs.Book.{Current, Counts}
 use Rattle.book.specs.BookLaws.{lawful, key_is}
-use Rattle.book.specs.Find.{Placed, Spotted}
+use Rattle.book.specs.Find.{Spotted}
 use Rattle.book.specs.Outcome.{Found}
 use Rattle.book.specs.RecordLaws.{look-free}
 use Rattle.book.specs.declared.find.Spot.TheVariants.{Taken, Free}
-use Rattle.book_table.specs.FirstLaws.{Least, Sought, seek}
+use Rattle.book_table.specs.FirstLaws.{Sought, seek}
 use Rattle.book_table.specs.Probe.{Holds, Lacks, Told}
 use Rattle.book_table.specs.ProbeLaws.{Rising}
 use Rattle.book_table.specs.declared.Slot.{Slot}

@@ -1,6 +1,6 @@
 -- What the ways through the functions on a table come to.
 -- Assumes nothing.
-use Rattle.std.specs.Prelude.{◌≡◌, ℕ, zero, suc, ◌+◌, ◌-◌, ◌*◌, ◌<◌, ◌≤◌, true, false, List, [], ◌∷◌, ◌++◌, length, ◌≢◌, slice_index, slice_set, refl}
+use Rattle.std.specs.Prelude.{◌≡◌, ℕ, zero, suc, ◌+◌, ◌-◌, ◌*◌, ◌<◌, ◌≤◌, false, List, [], ◌∷◌, ◌++◌, length, ◌≢◌, slice_index, slice_set, refl}
 use Rattle.std.proofs.Math.Path.{sym, ap}
 use Rattle.std.proofs.Common.{◌∙◌, add-one, arith, below_none, below_more, drop_of_length-le}
 use mathlib.Core.List.{append-nil}
@@ -20,7 +20,6 @@ use Rattle.book_form.specs.VersionLaws.{owned-key}
 use Rattle.book.specs.Book.{Current, Counts}
 use Rattle.book.specs.BookLaws.{lawful, sizes}
 use Rattle.book.specs.FindLaws.{code-eq, code-not}
-use Rattle.book_table.specs.First.{first}
 use Rattle.book_table.specs.FirstLaws.{first-stop}
 use Rattle.book_table.specs.Probe.{Holds, Lacks}
 use Rattle.book_table.specs.Table.{home, spot, bucket, free, free_spot, filled}
