@@ -1,0 +1,6 @@
+use mathlib.Core.Path.{ap, ◌∙◌}
+use Rattle.iteration.specs.Key.{pair_of}
+use Rattle.hostpath.proofs.hp_first_above.Goals as goal
+
+pub returns : goal.returns
+returns c = c.pair_of.ensures ∙ ap pair_of c.first_above.ensures
