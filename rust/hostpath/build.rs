@@ -1,6 +1,6 @@
-//! Links libhostpath.a, which `rt staticlib hostpath` writes for x86-64. HOSTPATH_LIB names its folder;
-//! without it, the repository's own target/staticlib is taken, or on another processor target/native,
-//! where `oracle/library` writes a build for tests and figures.
+//! Links libhostpath.a, which `oracle/library` has the toolchain make for x86-64. HOSTPATH_LIB names its
+//! folder; without it, the repository's own target/staticlib is taken, or on another processor
+//! target/native, where `oracle/library` writes a build for tests and figures.
 use std::env;
 use std::path::PathBuf;
 
