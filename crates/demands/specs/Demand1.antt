@@ -201,7 +201,7 @@ pub hp_client_id_new_holds : Demand1 hp-client-id-new.Pre hp-client-id-new.Post 
 hp_client_id_new_holds = writes clients _ _ (λ κs a. tt) (λ κs r. r) (λ κs a. new_client a.0.now a.1.0) refl refl (λ κs a. client_wants _ _) (λ κs a r s p. p)
 
 pub hp_channel_id_new_holds : Demand1 hp-channel-id-new.Pre hp-channel-id-new.Post room (λ κs r. r.refusal) (λ κs r. r.length ∷ []) (λ κs a. a.1.0.now) (λ κs s. s.1.0.now)
-hp_channel_id_new_holds = writes room _ _ (λ κs a. tt) (λ κs r. r) (λ κs a. new_channel a.0) refl refl (λ κs a. channel_wants _ _) (λ κs a r s p. p)
+hp_channel_id_new_holds = writes room _ _ (λ κs a. tt) (λ κs r. r) (λ κs a. new_channel a.0) refl refl (λ κs a. channel_wants room a.0) (λ κs a r s p. p)
 
 pub hp_key_holds : Demand1 hp-key.Pre hp-key.Post readings (λ κs r. r.refusal) (λ κs r. r.length ∷ []) (λ κs a. a.1.0.now) (λ κs s. s.1.0.now)
 hp_key_holds = writes readings _ _ (λ κs a. tt) (λ κs r. r) (λ κs a. key_of a.0.now) refl refl (λ κs a. key_wants _) (λ κs a r s p. p)
@@ -225,13 +225,13 @@ pub hp_consensus_state_parent_holds : Demand1 hp-consensus-state-parent.Pre hp-c
 hp_consensus_state_parent_holds = writes clients _ _ (λ κs a. tt) (λ κs r. r) (λ κs a. text_of consensus_parent (carried a.0.now [] 0 0)) refl refl (λ κs a. parent_wants _) (λ κs a r s p. p)
 
 pub hp_consensus_state_leaf_holds : Demand1 hp-consensus-state-leaf.Pre hp-consensus-state-leaf.Post room (λ κs r. r.refusal) (λ κs r. r.length ∷ []) (λ κs a. a.1.1.0.now) (λ κs s. s.1.1.0.now)
-hp_consensus_state_leaf_holds = writes room _ _ (λ κs a. tt) (λ κs r. r) (λ κs a. text_of (consensus_leaf []) (carried [] [] a.0 a.1.0)) refl refl (λ κs a. leaf_wants _ _ _) (λ κs a r s p. p)
+hp_consensus_state_leaf_holds = writes room _ _ (λ κs a. tt) (λ κs r. r) (λ κs a. text_of (consensus_leaf []) (carried [] [] a.0 a.1.0)) refl refl (λ κs a. leaf_wants room (carried [] [] a.0 a.1.0) (bytes "consensusStates")) (λ κs a r s p. p)
 
 pub hp_update_time_leaf_holds : Demand1 hp-update-time-leaf.Pre hp-update-time-leaf.Post room (λ κs r. r.refusal) (λ κs r. r.length ∷ []) (λ κs a. a.1.1.0.now) (λ κs s. s.1.1.0.now)
-hp_update_time_leaf_holds = writes room _ _ (λ κs a. tt) (λ κs r. r) (λ κs a. text_of (consensus_leaf (word (bytes "processedTime") ∷ [])) (carried [] [] a.0 a.1.0)) refl refl (λ κs a. update_wants _ _ _ _) (λ κs a r s p. p)
+hp_update_time_leaf_holds = writes room _ _ (λ κs a. tt) (λ κs r. r) (λ κs a. text_of (consensus_leaf (word (bytes "processedTime") ∷ [])) (carried [] [] a.0 a.1.0)) refl refl (λ κs a. update_wants room (carried [] [] a.0 a.1.0) (bytes "consensusStates") (bytes "processedTime")) (λ κs a r s p. p)
 
 pub hp_update_height_leaf_holds : Demand1 hp-update-height-leaf.Pre hp-update-height-leaf.Post room (λ κs r. r.refusal) (λ κs r. r.length ∷ []) (λ κs a. a.1.1.0.now) (λ κs s. s.1.1.0.now)
-hp_update_height_leaf_holds = writes room _ _ (λ κs a. tt) (λ κs r. r) (λ κs a. text_of (consensus_leaf (word (bytes "processedHeight") ∷ [])) (carried [] [] a.0 a.1.0)) refl refl (λ κs a. update_wants _ _ _ _) (λ κs a r s p. p)
+hp_update_height_leaf_holds = writes room _ _ (λ κs a. tt) (λ κs r. r) (λ κs a. text_of (consensus_leaf (word (bytes "processedHeight") ∷ [])) (carried [] [] a.0 a.1.0)) refl refl (λ κs a. update_wants room (carried [] [] a.0 a.1.0) (bytes "consensusStates") (bytes "processedHeight")) (λ κs a r s p. p)
 
 pub hp_connection_prefix_holds : Demand1 hp-connection-prefix.Pre hp-connection-prefix.Post room (λ κs r. r.refusal) (λ κs r. r.length ∷ []) (λ κs a. a.0.now) (λ κs s. s.0.now)
 hp_connection_prefix_holds = writes room _ _ (λ κs a. tt) (λ κs r. r) (λ κs a. text (bytes "connections")) refl refl (λ κs a. tt) (λ κs a r s p. p)
@@ -437,7 +437,7 @@ pub write_client_id_holds : Demand1 write-client-id.Pre write-client-id.Post cli
 write_client_id_holds = writes clients _ _ (λ κs a. tt) (λ κs r. r) (λ κs a. new_client a.0.now a.1.0) refl refl (λ κs a. client_wants _ _) (λ κs a r s p. p)
 
 pub write_channel_id_holds : Demand1 write-channel-id.Pre write-channel-id.Post room (λ κs r. r.refusal) (λ κs r. r.length ∷ []) (λ κs a. a.1.0.now) (λ κs s. s.1.0.now)
-write_channel_id_holds = writes room _ _ (λ κs a. tt) (λ κs r. r) (λ κs a. new_channel a.0) refl refl (λ κs a. channel_wants _ _) (λ κs a r s p. p)
+write_channel_id_holds = writes room _ _ (λ κs a. tt) (λ κs r. r) (λ κs a. new_channel a.0) refl refl (λ κs a. channel_wants room a.0) (λ κs a r s p. p)
 
 pub client_state_prefix_holds : Demand1 client-state-prefix.Pre client-state-prefix.Post room (λ κs r. r.refusal) (λ κs r. r.length ∷ []) (λ κs a. a.0.now) (λ κs s. s.0.now)
 client_state_prefix_holds = writes room _ _ (λ κs a. tt) (λ κs r. r) (λ κs a. text (bytes "clients")) refl refl (λ κs a. tt) (λ κs a r s p. p)
@@ -449,13 +449,13 @@ pub consensus_state_parent_holds : Demand1 consensus-state-parent.Pre consensus-
 consensus_state_parent_holds = writes clients _ _ (λ κs a. tt) (λ κs r. r) (λ κs a. text_of consensus_parent (carried a.0.now [] 0 0)) refl refl (λ κs a. parent_wants _) (λ κs a r s p. p)
 
 pub consensus_state_leaf_holds : Demand1 consensus-state-leaf.Pre consensus-state-leaf.Post room (λ κs r. r.refusal) (λ κs r. r.length ∷ []) (λ κs a. a.1.1.0.now) (λ κs s. s.1.1.0.now)
-consensus_state_leaf_holds = writes room _ _ (λ κs a. tt) (λ κs r. r) (λ κs a. text_of (consensus_leaf []) (carried [] [] a.0.0 a.1.0.0)) refl refl (λ κs a. leaf_wants _ _ _) (λ κs a r s p. p)
+consensus_state_leaf_holds = writes room _ _ (λ κs a. tt) (λ κs r. r) (λ κs a. text_of (consensus_leaf []) (carried [] [] a.0.0 a.1.0.0)) refl refl (λ κs a. leaf_wants room (carried [] [] a.0.0 a.1.0.0) (bytes "consensusStates")) (λ κs a r s p. p)
 
 pub update_time_leaf_holds : Demand1 update-time-leaf.Pre update-time-leaf.Post room (λ κs r. r.refusal) (λ κs r. r.length ∷ []) (λ κs a. a.1.1.0.now) (λ κs s. s.1.1.0.now)
-update_time_leaf_holds = writes room _ _ (λ κs a. tt) (λ κs r. r) (λ κs a. text_of (consensus_leaf (word (bytes "processedTime") ∷ [])) (carried [] [] a.0.0 a.1.0.0)) refl refl (λ κs a. update_wants _ _ _ _) (λ κs a r s p. p)
+update_time_leaf_holds = writes room _ _ (λ κs a. tt) (λ κs r. r) (λ κs a. text_of (consensus_leaf (word (bytes "processedTime") ∷ [])) (carried [] [] a.0.0 a.1.0.0)) refl refl (λ κs a. update_wants room (carried [] [] a.0.0 a.1.0.0) (bytes "consensusStates") (bytes "processedTime")) (λ κs a r s p. p)
 
 pub update_height_leaf_holds : Demand1 update-height-leaf.Pre update-height-leaf.Post room (λ κs r. r.refusal) (λ κs r. r.length ∷ []) (λ κs a. a.1.1.0.now) (λ κs s. s.1.1.0.now)
-update_height_leaf_holds = writes room _ _ (λ κs a. tt) (λ κs r. r) (λ κs a. text_of (consensus_leaf (word (bytes "processedHeight") ∷ [])) (carried [] [] a.0.0 a.1.0.0)) refl refl (λ κs a. update_wants _ _ _ _) (λ κs a r s p. p)
+update_height_leaf_holds = writes room _ _ (λ κs a. tt) (λ κs r. r) (λ κs a. text_of (consensus_leaf (word (bytes "processedHeight") ∷ [])) (carried [] [] a.0.0 a.1.0.0)) refl refl (λ κs a. update_wants room (carried [] [] a.0.0 a.1.0.0) (bytes "consensusStates") (bytes "processedHeight")) (λ κs a r s p. p)
 
 pub connection_prefix_holds : Demand1 connection-prefix.Pre connection-prefix.Post room (λ κs r. r.refusal) (λ κs r. r.length ∷ []) (λ κs a. a.0.now) (λ κs s. s.0.now)
 connection_prefix_holds = writes room _ _ (λ κs a. tt) (λ κs r. r) (λ κs a. text (bytes "connections")) refl refl (λ κs a. tt) (λ κs a r s p. p)

@@ -2,7 +2,7 @@
 -- Assumes nothing.
 use Rattle.std.specs.Prelude.{refl, List, [], ◌∷◌, ◌++◌, ℕ}
 use Rattle.std.proofs.Common.{sym, subst}
-use Rattle.std.specs.Borrow.{Bor}
+use Rattle.std.specs.Borrow.{Bor, MutBor}
 use Rattle.runs.specs.Runs.{Runs, stop, next}
 use Rattle.runs.specs.Without.{without}
 use Rattle.text.specs.declared.Written.{Written}
@@ -32,13 +32,17 @@ use Rattle.demands.specs.BookCalls.{WritePost, RemovePost, LookPost, Writes, Rem
 abbrev lent : List ℕ → Bor (List ℕ)
 lent l = record { ref_ptr = (0, 0); now = l }
 
+-- the same, lent to be written
+abbrev given : List ℕ → MutBor (List ℕ)
+given l = record { ref_ptr = (0, 0); ghost_name = 0; now = l }
+
 writes : (m : Manner) (b : List ℕ) (o : ℕ) (t v : List ℕ) (r : ℕ) (b₁ : List ℕ) → Recorded Current m b o t v r b₁ → Writes m b o t v r b₁
 writes m b o t v r b₁ w =
     record {
       lifetimes = ([], ([], ([], tt)));
-      args = (lent b, (o, (lent t, (lent v, tt))));
+      args = (given b, (o, (lent t, (lent v, tt))));
       result = r;
-      exits = (lent b₁, (o, (lent t, (lent v, tt))));
+      exits = (given b₁, (o, (lent t, (lent v, tt))));
       book_in = refl;
       owner_in = refl;
       text_in = refl;
@@ -48,15 +52,15 @@ writes m b o t v r b₁ w =
       ensures = go m w;
     }
   where
-    go : (n : Manner) → Recorded Current n b o t v r b₁ → WritePost n ([], ([], ([], tt))) (lent b, (o, (lent t, (lent v, tt)))) r (lent b₁, (o, (lent t, (lent v, tt))))
+    go : (n : Manner) → Recorded Current n b o t v r b₁ → WritePost n ([], ([], ([], tt))) (given b, (o, (lent t, (lent v, tt)))) r (given b₁, (o, (lent t, (lent v, tt))))
     go Plain p = p
     go Lenient p = p
 
 removes : (m : Manner) (b : List ℕ) (o : ℕ) (t : List ℕ) (r : ℕ) (b₁ : List ℕ) → Removed Current m b o t r b₁ → Removes m b o t r b₁
 removes m b o t r b₁ w =
-    record { lifetimes = ([], ([], tt)); args = (lent b, (o, (lent t, tt))); result = r; exits = (lent b₁, (o, (lent t, tt))); book_in = refl; owner_in = refl; text_in = refl; number_out = refl; book_out = refl; ensures = go m w }
+    record { lifetimes = ([], ([], tt)); args = (given b, (o, (lent t, tt))); result = r; exits = (given b₁, (o, (lent t, tt))); book_in = refl; owner_in = refl; text_in = refl; number_out = refl; book_out = refl; ensures = go m w }
   where
-    go : (n : Manner) → Removed Current n b o t r b₁ → RemovePost n ([], ([], tt)) (lent b, (o, (lent t, tt))) r (lent b₁, (o, (lent t, tt)))
+    go : (n : Manner) → Removed Current n b o t r b₁ → RemovePost n ([], ([], tt)) (given b, (o, (lent t, tt))) r (given b₁, (o, (lent t, tt)))
     go Plain p = p
     go Lenient p = p
 
@@ -64,9 +68,9 @@ looks : (m : Manner) (b : List ℕ) (o : ℕ) (t out : List ℕ) (r : Written) (
 looks m b o t out r out₁ w =
     record {
       lifetimes = ([], ([], ([], tt)));
-      args = (lent b, (o, (lent t, (lent out, tt))));
+      args = (lent b, (o, (lent t, (given out, tt))));
       result = r;
-      exits = (lent b, (o, (lent t, (lent out₁, tt))));
+      exits = (lent b, (o, (lent t, (given out₁, tt))));
       book_in = refl;
       owner_in = refl;
       text_in = refl;
@@ -76,7 +80,7 @@ looks m b o t out r out₁ w =
       ensures = go m w;
     }
   where
-    go : (n : Manner) → Looked Current n b o t out r out₁ → LookPost n ([], ([], ([], tt))) (lent b, (o, (lent t, (lent out, tt)))) r (lent b, (o, (lent t, (lent out₁, tt))))
+    go : (n : Manner) → Looked Current n b o t out r out₁ → LookPost n ([], ([], ([], tt))) (lent b, (o, (lent t, (given out, tt)))) r (lent b, (o, (lent t, (given out₁, tt))))
     go Plain p = p
     go Lenient p = p
 
@@ -121,9 +125,9 @@ unfolding left_by
 clears b x o client keep =
     record {
       lifetimes = ([], ([], tt));
-      args = (lent b, (o, (lent client, (keep, tt))));
+      args = (given b, (o, (lent client, (keep, tt))));
       result = (clear_in o client keep x.records).0;
-      exits = (lent (bytes_with x (clear_in o client keep x.records).1), (o, (lent client, (keep, tt))));
+      exits = (given (bytes_with x (clear_in o client keep x.records).1), (o, (lent client, (keep, tt))));
       book_in = refl;
       owner_in = refl;
       client_in = refl;

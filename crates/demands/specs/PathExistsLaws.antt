@@ -2,7 +2,7 @@
 -- the calls is not empty.
 -- Assumes nothing.
 use Rattle.std.specs.Prelude.{refl, List, [], ℕ, length}
-use Rattle.std.specs.Borrow.{Bor}
+use Rattle.std.specs.Borrow.{Bor, MutBor}
 use Rattle.text.specs.Put.{text, answer, left}
 use Rattle.path.specs.Read.{reading_bytes, read_fault, key_of, render_of}
 use Rattle.path.specs.Kinds.{carried}
@@ -13,13 +13,17 @@ use Rattle.demands.specs.Walk.{WalkCall}
 abbrev lent : List ℕ → Bor (List ℕ)
 lent l = record { ref_ptr = (0, 0); now = l }
 
+-- the same, lent to be written
+abbrev given : List ℕ → MutBor (List ℕ)
+given l = record { ref_ptr = (0, 0); ghost_name = 0; now = l }
+
 pub a-reading : (t out : List ℕ) → ReadCall t out (read_fault t (length out)) (left (reading_bytes t) out)
 a-reading t out =
     record {
       lifetimes = ([], ([], tt));
-      args = (lent t, (lent out, tt));
+      args = (lent t, (given out, tt));
       result = read_fault t (length out);
-      exits = (lent t, (lent (left (reading_bytes t) out), tt));
+      exits = (lent t, (given (left (reading_bytes t) out), tt));
       text_in = refl;
       out_in = refl;
       fault_out = refl;
@@ -31,9 +35,9 @@ pub a_walk : (t out : List ℕ) → WalkCall t out (read_fault t (length out)) (
 a_walk t out =
     record {
       lifetimes = ([], ([], tt));
-      args = (lent t, (lent out, tt));
+      args = (lent t, (given out, tt));
       result = read_fault t (length out);
-      exits = (lent t, (lent (left (reading_bytes t) out), tt));
+      exits = (lent t, (given (left (reading_bytes t) out), tt));
       text_in = refl;
       out_in = refl;
       fault_out = refl;
@@ -45,9 +49,9 @@ pub a_key : (t out : List ℕ) → KeyCall t out (answer (key_of t) (length out)
 a_key t out =
     record {
       lifetimes = ([], ([], tt));
-      args = (lent t, (lent out, tt));
+      args = (lent t, (given out, tt));
       result = answer (key_of t) (length out);
-      exits = (lent t, (lent (left (key_of t) out), tt));
+      exits = (lent t, (given (left (key_of t) out), tt));
       text_in = refl;
       out_in = refl;
       answer_out = refl;
@@ -60,9 +64,9 @@ pub a-rendering : (kind : ℕ) (one two : List ℕ) (a b : ℕ) (out : List ℕ)
 a-rendering kind one two a b out =
     record {
       lifetimes = ([], ([], ([], tt)));
-      args = (kind, (lent one, (lent two, (a, (b, (lent out, tt))))));
+      args = (kind, (lent one, (lent two, (a, (b, (given out, tt))))));
       result = answer (render_of kind (carried one two a b)) (length out);
-      exits = (kind, (lent one, (lent two, (a, (b, (lent (left (render_of kind (carried one two a b)) out), tt))))));
+      exits = (kind, (lent one, (lent two, (a, (b, (given (left (render_of kind (carried one two a b)) out), tt))))));
       kind_in = refl;
       first_in = refl;
       second_in = refl;
@@ -79,9 +83,9 @@ pub an-iteration_key : (number height : ℕ) (out : List ℕ)
 an-iteration_key number height out =
     record {
       lifetimes = ([], tt);
-      args = (number, (height, (lent out, tt)));
+      args = (number, (height, (given out, tt)));
       result = answer (text (iteration_key number height)) (length out);
-      exits = (number, (height, (lent (left (text (iteration_key number height)) out), tt)));
+      exits = (number, (height, (given (left (text (iteration_key number height)) out), tt)));
       number_in = refl;
       height_in = refl;
       out_in = refl;

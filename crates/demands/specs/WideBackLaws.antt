@@ -277,6 +277,8 @@ module _ (t s : List ℕ) (alongside : places s ≡ places t) where
   mixed-same : (k : ℕ) (ps : List Part) (cs : List (List ℕ)) → drop k (components t) ≡ cs → words_unmarked ps ≡ true → Alikes cs (mixed_from k ps s s) → mixed_from k ps t s ≡ cs
   unfolding show
   mixed-same k [] [] d w nil = refl
+  mixed-same k [] (c ∷ cs) d w x = elim x [ ]
+  mixed-same k (p ∷ ps) [] d w x = elim x [ ]
   mixed-same k (p ∷ ps) (c ∷ cs) d w (cons x y) =
       let e = drop-step (components t) k c cs d in
       go p w x e.0 (λ h. mixed-same (k + 1) ps cs e.1 h y)
