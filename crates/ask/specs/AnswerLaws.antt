@@ -23,7 +23,7 @@ use Rattle.path.specs.View.{kind_of, carried_of, view_of, viewed_by}
 use Rattle.path.specs.ViewLaws.{is_seen, is-unread}
 use Rattle.path.specs.ReadLaws.{made_range, has_both, kind-has, kind-parts}
 use Rattle.path.specs.BackLaws.{read_reads}
-use Rattle.path.specs.WrongLaws.{why-wrong, wrong-marks}
+use Rattle.path.proofs.WrongLaws.{why-wrong, wrong-marks}
 use Rattle.path.specs.Length.{fixed}
 use Rattle.path.specs.ExactLaws.{rendering-not-longer}
 use Rattle.path.specs.MeasureLaws.{lengths, render-length, length_sums}

@@ -34,7 +34,7 @@ use Rattle.demands.specs.ToldLaws.{bytes26, told_back, length26}
 use Rattle.text.specs.declared.Fault.{Fault}
 use Rattle.text.specs.Fault.{has_place}
 use Rattle.path.specs.Number.{NumberWrong}
-use Rattle.path.specs.WrongLaws.{as_refusal, back-fault, wrong-why, why-wrong, wrong-unread, wrong-marks}
+use Rattle.path.proofs.WrongLaws.{as_refusal, back-fault, wrong-why, why-wrong, wrong-unread, wrong-marks}
 use Rattle.packet.specs.KeyLaws.{clash}
 use Rattle.demands.specs.Written.{Done, Back, NoKind, WhenRead, NoNumber}
 

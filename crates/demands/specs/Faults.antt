@@ -13,7 +13,7 @@ use Rattle.path.specs.declared.Place.{Place}
 use Rattle.path.specs.declared.Refusal.{Refusal}
 use Rattle.path.specs.Text.{part_of}
 use Rattle.path.specs.Number.{Marks}
-use Rattle.path.specs.WrongLaws.{wrong-marks}
+use Rattle.path.proofs.WrongLaws.{wrong-marks}
 use Rattle.path.specs.Read.{suits_kind}
 use Rattle.path.specs.Read as paths
 use Rattle.path.specs.Reads.{kind_at}

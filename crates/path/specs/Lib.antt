@@ -24,4 +24,3 @@ pub mod TypedLaws
 pub mod Valid
 pub mod View
 pub mod ViewLaws
-pub mod WrongLaws

@@ -20,7 +20,8 @@ use Rattle.path.specs.Read.{fits, component_count, all_from, suits, suits_kind, 
 use Rattle.path.specs.Reads.{Has}
 use Rattle.path.specs.ReadLaws.{has_both}
 use Rattle.path.specs.Number.{Wrong, BadNumber, whole, before_dash, behind_dash, NumberWrong, Marks}
-use Rattle.path.specs.NumberLaws.{Faulty, part_none, parts_none, part-suits, parts_suit, faulty-why, why_faulty, faulty-unread, faulty-marks}
+use Rattle.path.specs.NumberLaws.{Faulty, faulty-why, why_faulty}
+use Rattle.path.proofs.NumberLaws.{part_none, parts_none, part-suits, parts_suit, faulty-unread, faulty-marks}
 
 -- ---- no kind has two parts that are numbers
 abbrev fixed : Part → Bool
