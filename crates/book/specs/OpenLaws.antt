@@ -6,7 +6,8 @@ use borrow.Author.Tests.{eq-eqb, ne_eqb}
 use Rattle.text.specs.Put as buffer
 use Rattle.book_records.specs.declared.Manner.{Manner}
 use Rattle.book_records.specs.Calls.{Asked, Call, is_owner, kind_in, is_retired, meaning, key_for}
-use Rattle.book_records.specs.TextLaws.{Keyed, nobody-means}
+use Rattle.book_records.specs.TextLaws.{Keyed}
+use Rattle.book_records.proofs.TextLaws.{nobody-means}
 use Rattle.book_key.specs.Field.{made_key}
 use Rattle.book_key.specs.MadeLaws.{made-refuses, made-keyed, made-kind}
 use Rattle.book.specs.declared.Opened.{Opened}

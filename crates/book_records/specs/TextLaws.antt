@@ -1,6 +1,6 @@
 -- Laws of the calls: what stands in for the refusals of a text, and what a call with a key means.
 -- Assumes nothing.
-use Rattle.std.specs.Prelude.{◌≡◌, refl, Bool, true, false, cond, List, ◌∷◌, ℕ, ◌≤◌, ◌<◌, leb, length, take, drop}
+use Rattle.std.specs.Prelude.{◌≡◌, refl, Bool, true, false, cond, List, ◌∷◌, ℕ, ◌≤◌, leb, length, take, drop}
 use Rattle.std.proofs.Common.{sym, ap, ◌∙◌, arith, take_at, leb-true}
 use Rattle.text.specs.PutLaws.{left-fits, length-left, put-zero}
 use Rattle.text.specs.Put.{Wanted, text}
@@ -12,8 +12,8 @@ use Rattle.path.specs.declared.Reading.TheVariants.{Read, Refused}
 use Rattle.path.specs.Read.{key_of, read_path, refusal_of}
 use Rattle.book_records.specs.declared.Manner.{Manner}
 use Rattle.book_records.specs.Act.{Meaning, refuses, writes, removes, looks}
-use Rattle.book_records.specs.Refusals.{HasKey, bad_owner_when, retired, bad_length_when, no_room_when}
-use Rattle.book_records.specs.CallLaws.{declined-means, writing-means, removing-means, looking-means}
+use Rattle.book_records.specs.Refusals.{HasKey}
+use Rattle.book_records.specs.CallLaws.{writing-means, removing-means, looking-means}
 use Rattle.book_records.specs.Calls.{Asked, to_write, to_remove, to_look, write, remove, look, is_owner, meaning, Spelled, key_for, is_retired, ValueFits, keyed, key_answer}
 use Rattle.book_records.specs.MannerLaws.{key-read, key-refused, KeyFor, unread, other, own as keeps, key_for_lem}
 
@@ -121,7 +121,7 @@ module _ (m : Manner) (o : ℕ) (w : is_owner o ≡ true) (t field : List ℕ) (
   abbrev key : List ℕ
   key = o ∷ k.key
 
-  has : (q : Asked) → HasKey (record { manner = m; owner = o; text = t; asked = q }) key
+  pub has : (q : Asked) → HasKey (record { manner = m; owner = o; text = t; asked = q }) key
   has q =
       record {
         path = record { rendering = k.key; known = w; renders = k.reads; is = refl };
@@ -132,21 +132,8 @@ module _ (m : Manner) (o : ℕ) (w : is_owner o ≡ true) (t field : List ℕ) (
   pub look-means : (room : ℕ) → 64 ≤ room → meaning (look m o t room) ≡ looks key
   look-means room h = looking-means (look m o t room) key room (record { asked = refl; key = has (to_look room); wide = h })
 
-  pub look-short : (room : ℕ) → room < 64 → meaning (look m o t room) ≡ refuses 4
-  look-short room h = declined-means (look m o t room) (no_room_when refl (has (to_look room)) h)
-
-  pub write-retired : (v : List ℕ) → is_retired key ≡ true → meaning (write m o t v) ≡ refuses 25
-  write-retired v r = declined-means (write m o t v) (retired refl (has (to_write v)) r)
-
   pub write_means : (v : List ℕ) → is_retired key ≡ false → ValueFits v → meaning (write m o t v) ≡ writes key v
   write_means v r h = writing-means (write m o t v) key v (record { asked = refl; key = has (to_write v); not_retired = r; size = h })
 
-  pub write-bad : (v : List ℕ) → is_retired key ≡ false → (ValueFits v → ⊥) → meaning (write m o t v) ≡ refuses 6
-  write-bad v r h = declined-means (write m o t v) (bad_length_when refl (has (to_write v)) r h)
-
   pub remove-means : meaning (remove m o t) ≡ removes key
   remove-means = removing-means (remove m o t) key (record { asked = refl; key = has to_remove })
-
--- and one of nobody's
-pub nobody-means : (m : Manner) (o : ℕ) (t : List ℕ) (q : Asked) → is_owner o ≡ false → meaning (record { manner = m; owner = o; text = t; asked = q }) ≡ refuses 23
-nobody-means m o t q w = declined-means (record { manner = m; owner = o; text = t; asked = q }) (bad_owner_when w)

@@ -18,7 +18,8 @@ use Rattle.book_records.specs.declared.Manner.{Manner}
 use Rattle.book_records.specs.declared.Manner.TheVariants.{Plain, Lenient}
 use Rattle.book_records.specs.Calls.{Call, write, remove, look, is_owner, Spelled, meaning}
 use Rattle.book_records.specs.Refusals.{GoodWrite, GoodRemoval, GoodLookup, Declined, bad_owner_when, too_long_when, not_ascii_when, not_a_path, loose, key_too_long_when, retired, bad_length_when, no_room_when}
-use Rattle.book_records.specs.CallLaws.{Means, declines, writing, removing, looking, means}
+use Rattle.book_records.specs.CallLaws.{Means, declines, writing, removing, looking}
+use Rattle.book_records.proofs.CallLaws.{means}
 use Rattle.book.specs.Book.{Current, bytes_with, full_in}
 use Rattle.book.specs.Outcome.{Outcome, no_book, this_book, Changed, Looked, Made, no_size, no_slots, new_book, quotas}
 use Rattle.book_convert.specs.Convert.{Converted, ConvertedOwners}

@@ -15,7 +15,8 @@ use Rattle.book_records.specs.RecordLaws.{records_ext}
 use Rattle.book_records.specs.Act.{Rec, Seen, count_by}
 use Rattle.book_records.specs.OwnerLaws.{only}
 use Rattle.book_records.specs.Calls.{Call, owner_of, PathOf}
-use Rattle.book_records.specs.CallLaws.{means, path-owner, path-owned}
+use Rattle.book_records.specs.CallLaws.{path-owner, path-owned}
+use Rattle.book_records.proofs.CallLaws.{means}
 use Rattle.book.specs.Book.{Current, quota_in, bytes_with}
 use Rattle.book_oldest.specs.Oldest.{oldest_in, Oldest}
 use Rattle.book_clear.specs.declared.Count.{Count}

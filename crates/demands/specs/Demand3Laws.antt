@@ -19,7 +19,8 @@ use Rattle.book_records.specs.Calls.{Call, meaning, PathOf, SamePath}
 use Rattle.book.specs.Book.{bytes_with, full_in, acts}
 use Rattle.demands.specs.Held.{Holds, Looks, leaves, ProperBook}
 use Rattle.demands.specs.Permitted.{Permitted}
-use Rattle.book_records.specs.CallLaws.{Means, declines, writing, removing, looking, means, declined-not}
+use Rattle.book_records.specs.CallLaws.{Means, declines, writing, removing, looking, declined-not}
+use Rattle.book_records.proofs.CallLaws.{means}
 use Rattle.demands.specs.HeldLaws.{holds_in}
 use Rattle.demands.specs.Refusals.{Refused, not_found}
 use Rattle.demands.specs.PermittedLaws.{no-look-write, no-look-remove, permitted-book, refused_exactly}

@@ -11,7 +11,8 @@ use Rattle.book_records.specs.Records.{Key, get, put, del}
 use Rattle.book_records.specs.RecordLaws.{get-put-same, get-put-other, get-del-same, get-del-other}
 use Rattle.book_records.specs.Act.{Meaning, Answer, add_to, take_from, look_in, act, Seen, seen}
 use Rattle.book_records.specs.Calls.{Asked, to_write, to_remove, to_look, Call, meaning, PathOf}
-use Rattle.book_records.specs.CallLaws.{Means, declines, writing, removing, looking, means, writing-means, removing-means, looking-means, declined-not, one-path}
+use Rattle.book_records.specs.CallLaws.{Means, declines, writing, removing, looking, writing-means, removing-means, looking-means, declined-not, one-path}
+use Rattle.book_records.proofs.CallLaws.{means}
 use Rattle.book.specs.Book.{Current, quota_in, full_in, acts}
 use Rattle.book.specs.BookLaws.{lawful, one-book}
 use Rattle.book.specs.Outcome.{Outcome, no_book, this_book}

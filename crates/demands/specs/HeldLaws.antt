@@ -15,7 +15,8 @@ use Rattle.book_records.specs.Calls.{Call, owner_of, Owned, meaning}
 use Rattle.book.specs.Book.{Current, quota_in, bytes_with, full_in}
 use Rattle.book.specs.BookLaws.{lawful, size_is, one-book}
 use Rattle.demands.specs.Held.{count, Full, Holds, ProperBook}
-use Rattle.book_records.specs.CallLaws.{Means, declines, writing, removing, looking, means, path-owned}
+use Rattle.book_records.specs.CallLaws.{Means, declines, writing, removing, looking, path-owned}
+use Rattle.book_records.proofs.CallLaws.{means}
 
 -- ---- facts of every record, kept by each call
 module _ (All : List Rec → Type 0) (P : Rec → Type 0) (nil : All []) (cons : (r : Rec) (s : List Rec) → P r → All s → All (r ∷ s))

@@ -16,7 +16,8 @@ use Rattle.book_records.specs.Act as act
 use Rattle.book_records.specs.ActLaws.{key_meant}
 use Rattle.book_records.specs.OwnerLaws.{only, get-only, Own, own-act, other-act}
 use Rattle.book_records.specs.Calls.{Call, owner_of, meaning}
-use Rattle.book_records.specs.CallLaws.{means, path-owner}
+use Rattle.book_records.specs.CallLaws.{path-owner}
+use Rattle.book_records.proofs.CallLaws.{means}
 use Rattle.book.specs.Book.{Current, quota_in, bytes_with, full_in}
 use Rattle.book.specs.BookLaws.{lawful, one-book}
 use Rattle.book_oldest.specs.Oldest.{oldest_in, Oldest}

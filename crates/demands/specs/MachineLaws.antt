@@ -15,7 +15,8 @@ use Rattle.book_form.specs.Form.{AllFit, AllExact}
 use Rattle.book.specs.Book.{Current, quota_in, bytes_with, full_in}
 use Rattle.demands.specs.Held.{Room, own_write, Updates, Accepted, left_by, ProperBook}
 use Rattle.demands.specs.Permitted.{Permitted}
-use Rattle.book_records.specs.CallLaws.{Means, writing, removing, looking, means, one-path, path-owner, declined-not}
+use Rattle.book_records.specs.CallLaws.{Means, writing, removing, looking, one-path, path-owner, declined-not}
+use Rattle.book_records.proofs.CallLaws.{means}
 use Rattle.book_records.specs.CallLaws as by_case
 use Rattle.demands.specs.HeldLaws.{fit-act, exact-act, length_with}
 use Rattle.demands.specs.PermittedLaws.{permitted-book}

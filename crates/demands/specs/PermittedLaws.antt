@@ -13,7 +13,8 @@ use Rattle.book.specs.Outcome.{Outcome, no_book, this_book, written_by, Found, s
 use Rattle.demands.specs.Held.{Looks, ProperBook}
 use Rattle.demands.specs.Permitted.{PermittedTo, Permitted}
 use Rattle.demands.specs.Refusals.{Refused, bad_book_when, declined, book_full, absent, not_found}
-use Rattle.book_records.specs.CallLaws.{Means, declines, writing, removing, looking, means, declined-means, writing-means, removing-means, looking-means}
+use Rattle.book_records.specs.CallLaws.{Means, declines, writing, removing, looking, declined-means, writing-means, removing-means, looking-means}
+use Rattle.book_records.proofs.CallLaws.{means}
 use Rattle.book.specs.BookLaws.{lawful}
 use Rattle.book.specs.OutcomeLaws.{one-outcome}
 use Rattle.demands.specs.HeldLaws.{holds_in, is-full, full_is, full_as}

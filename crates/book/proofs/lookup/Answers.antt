@@ -1,7 +1,7 @@
 -- `book::lookup` meets its contract.
 use mathlib.Core.Path.{refl}
 use Rattle.book_records.specs.Calls.{to_look}
-use Rattle.book_records.specs.TextLaws.{look-short}
+use Rattle.book_records.proofs.TextLaws.{look-short}
 use Rattle.book.specs.Book.{Current}
 use Rattle.book.specs.FindLaws.{looked-refused}
 use Rattle.book.specs.OpenLaws.{open-found, open-counts, open-keyed, open-owner}

@@ -1,7 +1,7 @@
 -- `book::write` meets its contract.
 use mathlib.Core.Path.{refl}
 use Rattle.book_records.specs.Calls.{to_write}
-use Rattle.book_records.specs.TextLaws.{write-retired, write-bad}
+use Rattle.book_records.proofs.TextLaws.{write-retired, write-bad}
 use Rattle.book.specs.Book.{Current}
 use Rattle.book.specs.FindLaws.{changed-refused}
 use Rattle.book.specs.OpenLaws.{open_changed, open-counts, open-owner, open-keyed, open-retired, open_live}
