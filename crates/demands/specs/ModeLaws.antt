@@ -21,7 +21,7 @@ use Rattle.letters.specs.Character.{utf8}
 use Rattle.wide.specs.Mode.{Mode, plain, wide}
 use Rattle.wide.specs.Check.{chars_in, check_in}
 use Rattle.wide.specs.Render.{name_fault_in, names_fault_in, render_in}
-use Rattle.wide.specs.PlainLaws.{name-plain}
+use Rattle.wide.proofs.PlainLaws.{name-plain}
 use Rattle.demands.specs.ShapeLaws.{one_of, both_of, named-number}
 use Rattle.demands.specs.Rendered.{OfAName, WhenRendered, WhenRenderedBy}
 use Rattle.demands.specs.RenderedLaws.{Apart, Checks, names_by, when_rendered}

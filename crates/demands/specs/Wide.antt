@@ -29,6 +29,7 @@ use Rattle.letters.specs.Character.{characters, utf8}
 use Rattle.letters.specs.Trimmed.{trim_front, trim_back}
 use Rattle.letters.specs.Narrow.{narrow}
 use Rattle.wide.specs.AsciiLaws as ascii-laws
+use Rattle.wide.proofs.AsciiLaws as ascii-proofs
 use Rattle.demands.specs.PathCalls.{ReadCall, KeyCall, RenderCall, reading, keying, rendering}
 use Rattle.demands.specs.Told.{told}
 use Rattle.demands.specs.Written.{Done, Back}
@@ -74,13 +75,13 @@ pub client_ascii : (κs : _) (a : _) (r : _) (s : _) → hp-wide-validate-client
 client_ascii κs a r s p low = p ∙ ascii-laws.check-ascii a.0.now low client
 
 pub connection_ascii : (κs : _) (a : _) (r : _) (s : _) → hp-wide-validate-connection-identifier.Post κs a r s → ascii a.0.now ≡ true → r ≡ fault_of connection a.0.now
-connection_ascii κs a r s p low = p ∙ ascii-laws.fault-ascii a.0.now low connection
+connection_ascii κs a r s p low = p ∙ ascii-proofs.fault-ascii a.0.now low connection
 
 pub port_ascii : (κs : _) (a : _) (r : _) (s : _) → hp-wide-validate-port-identifier.Post κs a r s → ascii a.0.now ≡ true → r ≡ check_of port a.0.now
 port_ascii κs a r s p low = p ∙ ascii-laws.check-ascii a.0.now low port
 
 pub channel_ascii : (κs : _) (a : _) (r : _) (s : _) → hp-wide-validate-channel-identifier.Post κs a r s → ascii a.0.now ≡ true → r ≡ fault_of channel a.0.now
-channel_ascii κs a r s p low = p ∙ ascii-laws.fault-ascii a.0.now low channel
+channel_ascii κs a r s p low = p ∙ ascii-proofs.fault-ascii a.0.now low channel
 
 pub named_ascii : (κs : _) (a : _) (r : _) (s : _) → hp-wide-validate-named-u64-index.Post κs a r s → ascii a.0.now ≡ true → ascii a.1.0.now ≡ true → r ≡ named_index_fault a.0.now a.1.0.now
 named_ascii κs a r s p low name = p ∙ ascii-laws.named_ascii a.0.now low a.1.0.now name
@@ -91,7 +92,7 @@ same_wanted x y e r out o p = rw e at p
 
 pub new_ascii : (κs : _) (a : _) (r : _) (s : _) → hp-wide-client-id-new.Post κs a r s → ascii a.0.now ≡ true
     → (r ≡ answer (new_client a.0.now a.1.0) (length a.1.1.0.now)) × (s.1.1.0.now ≡ left (new_client a.0.now a.1.0) a.1.1.0.now)
-new_ascii κs a r s p low = same_wanted _ _ (ascii-laws.new_ascii a.0.now low a.1.0) r _ _ p
+new_ascii κs a r s p low = same_wanted _ _ (ascii-proofs.new_ascii a.0.now low a.1.0) r _ _ p
 
 -- ---- "wide client types are trimmed of the same release's white space": a new identifier is the characters of the client type without what is white
 -- at its ends, `-` and the counter
@@ -102,19 +103,19 @@ new_trims κs a r s p z = trims.new_trims a.0.now a.1.0 _ r _ p.0 p.1 z
 pub parent_ascii : (κs : _) (a : _) (r : _) (s : _) → hp-wide-consensus-state-parent.Post κs a r s → ascii a.0.now ≡ true
     → (r ≡ answer (text_of consensus_parent (carried a.0.now [] 0 0)) (length a.1.0.now)) × (s.1.0.now ≡ left (text_of consensus_parent (carried a.0.now [] 0 0)) a.1.0.now)
 unfolding ascii every
-parent_ascii κs a r s p low = same_wanted _ _ (ascii-laws.text-ascii (carried a.0.now [] 0 0) low refl consensus_parent) r _ _ p
+parent_ascii κs a r s p low = same_wanted _ _ (ascii-proofs.text-ascii (carried a.0.now [] 0 0) low refl consensus_parent) r _ _ p
 
 pub commitments_ascii : (κs : _) (a : _) (r : _) (s : _) → hp-wide-commitments-path.Post κs a r s → ascii a.0.now ≡ true → ascii a.1.0.now ≡ true
     → (r ≡ answer (text_of (packets_path (bytes "commitments")) (carried a.0.now a.1.0.now 0 0)) (length a.1.1.0.now)) × (s.1.1.0.now ≡ left (text_of (packets_path (bytes "commitments")) (carried a.0.now a.1.0.now 0 0)) a.1.1.0.now)
-commitments_ascii κs a r s p low low₂ = same_wanted _ _ (ascii-laws.text-ascii (carried a.0.now a.1.0.now 0 0) low low₂ (packets_path (bytes "commitments"))) r _ _ p
+commitments_ascii κs a r s p low low₂ = same_wanted _ _ (ascii-proofs.text-ascii (carried a.0.now a.1.0.now 0 0) low low₂ (packets_path (bytes "commitments"))) r _ _ p
 
 pub acks_ascii : (κs : _) (a : _) (r : _) (s : _) → hp-wide-acks-path.Post κs a r s → ascii a.0.now ≡ true → ascii a.1.0.now ≡ true
     → (r ≡ answer (text_of (packets_path (bytes "acks")) (carried a.0.now a.1.0.now 0 0)) (length a.1.1.0.now)) × (s.1.1.0.now ≡ left (text_of (packets_path (bytes "acks")) (carried a.0.now a.1.0.now 0 0)) a.1.1.0.now)
-acks_ascii κs a r s p low low₂ = same_wanted _ _ (ascii-laws.text-ascii (carried a.0.now a.1.0.now 0 0) low low₂ (packets_path (bytes "acks"))) r _ _ p
+acks_ascii κs a r s p low low₂ = same_wanted _ _ (ascii-proofs.text-ascii (carried a.0.now a.1.0.now 0 0) low low₂ (packets_path (bytes "acks"))) r _ _ p
 
 pub receipts_ascii : (κs : _) (a : _) (r : _) (s : _) → hp-wide-receipts-path.Post κs a r s → ascii a.0.now ≡ true → ascii a.1.0.now ≡ true
     → (r ≡ answer (text_of (packets_path (bytes "receipts")) (carried a.0.now a.1.0.now 0 0)) (length a.1.1.0.now)) × (s.1.1.0.now ≡ left (text_of (packets_path (bytes "receipts")) (carried a.0.now a.1.0.now 0 0)) a.1.1.0.now)
-receipts_ascii κs a r s p low low₂ = same_wanted _ _ (ascii-laws.text-ascii (carried a.0.now a.1.0.now 0 0) low low₂ (packets_path (bytes "receipts"))) r _ _ p
+receipts_ascii κs a r s p low low₂ = same_wanted _ _ (ascii-proofs.text-ascii (carried a.0.now a.1.0.now 0 0) low low₂ (packets_path (bytes "receipts"))) r _ _ p
 
 -- reading, keys and rendering: the same answer and the same bytes as the plain call
 pub read_same : (t out : List ℕ) (f g : Fault) (out₁ out₂ : List ℕ) → WideReadCall t out f out₁ → ReadCall t out g out₂ → ascii t ≡ true → (f ≡ g) × (out₁ ≡ out₂)
@@ -132,7 +133,7 @@ key_same t out x y out₁ out₂ c d low =
 pub render_same : (kind : ℕ) (one two : List ℕ) (a b : ℕ) (out : List ℕ) (x y : Written) (out₁ out₂ : List ℕ) → WideRenderCall kind one two a b out x out₁ → RenderCall kind one two a b out y out₂
     → ascii one ≡ true → ascii two ≡ true → (x ≡ y) × (out₁ ≡ out₂)
 render_same kind one two a b out x y out₁ out₂ c d low low₂ =
-    let p = same_wanted _ _ (ascii-laws.render-ascii (carried one two a b) low low₂ kind) x out out₁ (wide_rendering c) in
+    let p = same_wanted _ _ (ascii-proofs.render-ascii (carried one two a b) low low₂ kind) x out out₁ (wide_rendering c) in
     let q = rendering d in
     (p.0 ∙ sym q.0, p.1 ∙ sym q.1)
 

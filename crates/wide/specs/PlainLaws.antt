@@ -4,23 +4,18 @@ use Rattle.std.specs.Prelude.{ℕ, suc, ◌-◌, ◌≤◌, ◌≡◌, refl, Boo
 use Rattle.std.proofs.Common.{ap, arith}
 use Rattle.std.proofs.Math.Bool.{true, false}
 use Rattle.text.specs.Part.{ascii}
-use Rattle.text.specs.Put.{answer}
-use Rattle.identifiers.specs.Check.{chars_of, length_of, prefix_length_of, named_index_of, named_index_fault, Rule, check_of, fault_of, client_type}
-use Rattle.identifiers.specs.Owned.{blank, keep, trim_start, trim_end, trim, new_client}
+use Rattle.identifiers.specs.Check.{chars_of, length_of, prefix_length_of, named_index_of, named_index_fault, Rule, check_of}
+use Rattle.identifiers.specs.Owned.{blank, keep, trim_start, trim_end, trim}
 use Rattle.path.specs.declared.Refusal.TheVariants.{TooLong, NotAscii}
 use Rattle.path.specs.declared.Reading.{Reading}
 use Rattle.path.specs.declared.Reading.TheVariants.{Refused}
-use Rattle.path.specs.declared.name.Name.{Name}
-use Rattle.path.specs.declared.name.Name.TheVariants.{Client as client, Connection as connection, Port as port, Channel as channel, Upgrade as upgrade}
-use Rattle.path.specs.Kinds.{Part, word, name, count, pair, Carried, name_in, kinds}
-use Rattle.path.specs.Parents.{text_of}
-use Rattle.path.specs.Read.{name_fault, names_fault, render_of, read_first, reading_of, read_path, read_place, key_by, key_of, bytes_by, reading_bytes, read_fault}
+use Rattle.path.specs.Kinds.{kinds}
+use Rattle.path.specs.Read.{read_first, reading_of, read_path, read_place, key_by, key_of, bytes_by, reading_bytes, read_fault}
 use Rattle.wide.specs.declared.read.WideReading.{WideReading}
 use Rattle.wide.specs.declared.read.WideReading.TheVariants.{Of, NotTaken}
 use Rattle.wide.specs.Mode.{plain}
-use Rattle.wide.specs.Check.{chars_in, length_in, prefix_length_in, named_index_in, named_index_fault_in, check_in, fault_in, trim_in, new_client_in}
+use Rattle.wide.specs.Check.{chars_in, length_in, prefix_length_in, named_index_in, named_index_fault_in, check_in, trim_in}
 use Rattle.wide.specs.Read.{read_in, place_in, key_by_in, key_in, bytes_by_in, reading_bytes_in, read_fault_in}
-use Rattle.wide.specs.Render.{name_fault_in, names_fault_in, render_in, text_in}
 
 -- ---- the checks
 pub chars-plain : (s : List ℕ) → chars_in plain s ≡ chars_of s
@@ -42,10 +37,6 @@ named-plain s w = refl
 pub check-plain : (r : Rule) (s : List ℕ) → check_in plain r s ≡ check_of r s
 unfolding check_in check_of
 check-plain r s = rw (chars-plain s)
-
-pub fault-plain : (r : Rule) (s : List ℕ) → fault_in plain r s ≡ fault_of r s
-unfolding fault_in fault_of
-fault-plain r s = rw (check-plain r s)
 
 -- ---- trimming: what is left of a text is a part of it
 start_shorter : (s : List ℕ) → length (trim_start s) ≤ length s
@@ -82,35 +73,6 @@ end-part (b ∷ s) = go (trim_end s) (end-part s)
 pub trim-plain : (s : List ℕ) → trim_in plain s ≡ trim s
 unfolding plain trim_in trim
 trim-plain s = rw (start-part s) (end-part (trim_start s))
-
-pub new-plain : (s : List ℕ) (n : ℕ) → new_client_in plain s n ≡ new_client s n
-unfolding plain new_client_in new_client
-new-plain s n = rw (trim-plain s, check-plain client_type (trim s))
-
--- ---- rendering
-pub name-plain : (n : Name) (c : List ℕ) → name_fault_in plain n c ≡ name_fault n c
-unfolding plain name_fault_in name_fault
-name-plain client c = check-plain _ c
-name-plain connection c = check-plain _ c
-name-plain port c = check-plain _ c
-name-plain channel c = check-plain _ c
-name-plain upgrade c = refl
-
-pub names-plain : (ps : List Part) (v : Carried (List ℕ)) → names_fault_in plain ps v ≡ names_fault ps v
-unfolding names_fault_in names_fault
-names-plain [] v = refl
-names-plain (word w ∷ ps) v = names-plain ps v
-names-plain (name n ∷ ps) v = rw (name-plain n (name_in n v), names-plain ps v)
-names-plain (count ∷ ps) v = names-plain ps v
-names-plain (pair ∷ ps) v = names-plain ps v
-
-pub render-plain : (k : ℕ) (v : Carried (List ℕ)) → render_in plain k v ≡ render_of k v
-unfolding render_in render_of
-render-plain k v = rw names-plain
-
-pub text-plain : (ps : List Part) (v : Carried (List ℕ)) → text_in plain ps v ≡ text_of ps v
-unfolding text_in text_of
-text-plain ps v = rw (names-plain ps v)
 
 -- ---- reading: what is said of each answer, and of a text that is not ASCII, holds of the reading
 module _ (t : List ℕ) (P : WideReading → Reading → Type 0) (of : (r : Reading) → P (Of r) r) (other : P NotTaken (Refused NotAscii)) where

@@ -1,6 +1,6 @@
 -- The ways through the code of the wide calls.
 -- Assumes nothing.
-use Rattle.std.specs.Prelude.{ℕ, ◌-◌, ◌≤◌, ◌<◌, Bool, ◌&&◌, leb, take, drop}
+use Rattle.std.specs.Prelude.{ℕ, ◌-◌, ◌≤◌, ◌<◌, Bool, leb, take, drop}
 use Rattle.std.proofs.Math.Path.{◌≡◌, refl}
 use Rattle.std.proofs.Common.{sym, ◌∙◌, arith, take_at}
 use Rattle.std.proofs.Math.Bool.{true, false, cond, and-false}
@@ -10,17 +10,14 @@ use Rattle.std.proofs.Math.Dec.{ltb}
 use Rattle.std.proofs.Math.ListN.{length}
 use borrow.Author.Tests.{le-leb, lt-leb, lt-ltb, le-ltb, ltb-true, ne_eqb, leb-true}
 use Rattle.text.specs.Bytes.{bytes}
-use Rattle.text.specs.Fault.{fault, has_place}
-use Rattle.text.specs.FaultLaws.{refuses}
 use Rattle.text.specs.Number.{decimal}
-use Rattle.text.specs.Part.{every}
 use Rattle.text.specs.PartLaws.{and_left, and_right}
 use Rattle.text.specs.Put.{put, refused, text, accepted, answer}
 use Rattle.text.specs.PutLaws.{put-zero}
 use Rattle.text.specs.TableLaws.{agree_at}
 use Rattle.identifiers.specs.Check.{first, unless, identifier_byte, within, named_of, index_place, Form, indexed, Rule, client_type, form_of}
 use Rattle.identifiers.specs.Check as check
-use Rattle.identifiers.specs.CheckLaws.{first-zero, first_some, first-none, first-last, first-first, unless-zero}
+use Rattle.identifiers.specs.CheckLaws.{first-zero, first-last, first-first, unless-zero}
 use Rattle.identifiers.specs.OwnedLaws.{accepted-some, accepted-none}
 use Rattle.path.specs.declared.Refusal.TheVariants.{TooLong}
 use Rattle.path.specs.declared.Reading.{Reading}
@@ -43,7 +40,7 @@ use Rattle.key.specs.KeyLaws.{shown-key}
 use Rattle.wide.specs.declared.read.WideReading.{WideReading}
 use Rattle.wide.specs.declared.read.WideReading.TheVariants.{Of, NotTaken}
 use Rattle.wide.specs.Mode.{Mode, wide}
-use Rattle.wide.specs.Check.{chars_in, check_in, fault_in, trim_in, new_client_in}
+use Rattle.wide.specs.Check.{chars_in, check_in, trim_in, new_client_in}
 use Rattle.wide.specs.Read.{read_in, key_in, reading_bytes_in, read_fault_in}
 use Rattle.wide.specs.Render.{name_fault_in, names_fault_in, limited_in, render_in, text_in}
 
@@ -63,32 +60,9 @@ module _ (m : Mode) (least most : ℕ) (s : List ℕ) where
   unfolding check_in
   check-short = rw (first-last (within least most (length s)))
 
-  check-form : (f : Form) → check_in m (record { least = least; most = most; form = f }) s ≡ first (check_in m (record { least = least; most = most; form = check.plain }) s) (form_of f s)
+  pub check-form : (f : Form) → check_in m (record { least = least; most = most; form = f }) s ≡ first (check_in m (record { least = least; most = most; form = check.plain }) s) (form_of f s)
   unfolding check_in
   check-form f = rw (first-last (within least most (length s))) (first-first (chars_in m s) (within least most (length s)) (form_of f s))
-
--- 21, 5 and 6 have no place
-short-placeless : (least most : ℕ) (s : List ℕ) → has_place (check_in wide (record { least = least; most = most; form = check.plain }) s) ≡ false
-unfolding wide chars_in within
-short-placeless least most s = rw (check-short wide least most s) (go (utf8 s) (every identifier_byte (narrow s)) (leb least (length s) && leb (length s) most))
-  where
-    go : (a b d : Bool) → has_place (first (first (unless 21 a) (unless 5 b)) (unless 6 d)) ≡ false
-    go true true true = refl
-    go true true false = refl
-    go true false d = refl
-    go false b d = refl
-
-module _ (least most : ℕ) (name s : List ℕ) (n : ℕ) (e : n ≡ check_in wide (record { least = least; most = most; form = check.plain }) s) where
-  abbrev asked : ℕ
-  asked = check_in wide (record { least = least; most = most; form = indexed name }) s
-
-  pub short-first : (n ≡ 0 → ⊥) → record { refusal = n; place = 0 } ≡ fault_in wide (record { least = least; most = most; form = indexed name }) s
-  unfolding fault_in
-  short-first h = refuses n asked (index_place name s) (check-form wide least most s (indexed name) ∙ rw (← e) (first_some n (named_of name s) h)) (rw e (short-placeless least most s))
-
-  pub named-last : n ≡ 0 → fault (named_of name s) (index_place name s) ≡ fault_in wide (record { least = least; most = most; form = indexed name }) s
-  unfolding fault_in
-  named-last h = let k : asked ≡ named_of name s = check-form wide least most s (indexed name) ∙ rw (← e) (first-none n (named_of name s) h) in rw k
 
 -- ---- a new client identifier
 pub trim-wide : (s : List ℕ) → wide_trim s ≡ trim_in wide s
@@ -216,8 +190,3 @@ module _ (m : Mode) (v : Carried (List ℕ)) where
   pub packets-wanted : (w f : List ℕ) → f ≡ w ++ bytes "/ports/" → text_in m (packets_path w) v ≡ accepted (fault_by (name_fault_in m) PortAndChannel v.first v.second) (packets_text f v.first v.second)
   unfolding text_in names_fault_in
   packets-wanted w f e = rw (packets-text v w f e, first-last (name_fault_in m channel v.second))
-
--- accepted identifiers are short
-pub ends-most : (m : Mode) (p h : List ℕ) → fault_by (name_fault_in m) PortAndChannel p h ≡ 0 → (length p ≤ 128) × (length h ≤ 64)
-unfolding name_fault_in
-ends-most m p h e = let z = first-zero (name_fault_in m port p) (name_fault_in m channel h) e in ((accepted-length m check.port p z.0).1, (accepted-length m check.channel h z.1).1)

@@ -8,7 +8,7 @@ use Rattle.render.specs.Render.{fault_by}
 use Rattle.render.specs.ParentLaws.{accepted-not, accepted-text}
 use Rattle.wide.specs.Mode.{wide}
 use Rattle.wide.specs.Render.{name_fault_in}
-use Rattle.wide.specs.StepLaws.{ends-most}
+use Rattle.wide.proofs.StepLaws.{ends-most}
 use Rattle.wide.proofs.rendering.checked_packets.Goals as goal
 
 pub returns-then-refusal-ne0 : goal.returns-then-refusal-ne0

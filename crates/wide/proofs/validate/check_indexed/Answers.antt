@@ -1,6 +1,6 @@
 -- `wide::validate::check_indexed` meets its contract.
 use mathlib.Core.Path.{◌∙◌}
-use Rattle.wide.specs.StepLaws.{short-first, named-last}
+use Rattle.wide.proofs.StepLaws.{short-first, named-last}
 use Rattle.wide.proofs.validate.check_indexed.Goals as goal
 
 pub returns-then-plain-ne0 : goal.returns-then-plain-ne0

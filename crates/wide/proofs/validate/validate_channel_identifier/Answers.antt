@@ -1,7 +1,7 @@
 -- `wide::validate::validate_channel_identifier` meets its contract.
 use mathlib.Core.Path.{sym, ◌∙◌}
 use Rattle.identifiers.specs.Check.{channel}
-use Rattle.wide.specs.AsciiLaws.{fault-ascii}
+use Rattle.wide.proofs.AsciiLaws.{fault-ascii}
 use Rattle.wide.proofs.validate.validate_channel_identifier.Goals as goal
 
 pub returns-then-all_ascii : goal.returns-then-all_ascii
