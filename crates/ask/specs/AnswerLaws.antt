@@ -1,6 +1,6 @@
 -- Laws of `Answer`: the ways through it, and how long an answer is.
 -- Assumes nothing.
-use Rattle.std.specs.Prelude.{ℕ, suc, ◌+◌, ◌-◌, ◌*◌, ◌≤◌, ◌≡◌, refl, Bool, true, false, cond, List, [], ◌∷◌, ◌++◌, map, leb, ltb, length, drop}
+use Rattle.std.specs.Prelude.{ℕ, suc, ◌+◌, ◌*◌, ◌≤◌, ◌≡◌, refl, Bool, true, false, cond, List, [], ◌∷◌, ◌++◌, map, leb, ltb, length, drop}
 use Rattle.std.proofs.Common.{◌∙◌, arith, length-append, length-take, leb-true, ltb-false}
 use Rattle.std.proofs.Math.Path.{ap}
 use Rattle.text.specs.Number.{decimal, digits, width, width_by}
