@@ -37,7 +37,7 @@ use Rattle.book.specs.Find.{Placed, Spotted}
 use Rattle.book.specs.Outcome.{Changed, Found, Recorded, Removed, Looked, Made}
 use Rattle.book.specs.Outcome as o
 use Rattle.book.specs.ShareLaws.{book-told}
-use Rattle.book.specs.FindLaws.{slot-left, looked-found, looked-absent, write_replaced, write-inserted, write-full, remove-done, remove_absent}
+use Rattle.book.specs.FindLaws.{slot-left, looked-absent, write_replaced, write-inserted, write-full, remove-done, remove_absent}
 
 pub spotted : (b k : List ℕ) (n : ℕ) (s : Spot) (q : Spot) → Spotted Current b k n s → s ≡ q → Spotted Current b k n q
 spotted b k n s q h e = rw e at h
@@ -69,7 +69,7 @@ module _ (b : List ℕ) (owner : ℕ) (key : List ℕ) (n p : ℕ) (h : Counts C
   abbrev x : Book Current b
   x = h.0
 
-  at_place : Placed Current b k n p → Placed Current b k (length x.records) p
+  pub at_place : Placed Current b k n p → Placed Current b k (length x.records) p
   at_place pl = rw (← h.1) at pl
 
   pub record Room : Type 0 where
@@ -94,13 +94,10 @@ module _ (b : List ℕ) (owner : ℕ) (key : List ℕ) (n p : ℕ) (h : Counts C
   told : quotas_in b ≡ x.extra
   told = book-told Three b x
 
-  inside : Spotted Current b k n (Taken p) → p < length x.records
+  pub inside : Spotted Current b k n (Taken p) → p < length x.records
   inside s = let l : p < n = s.1 in omega (arith, h.1)
 
   module _ (s : Spotted Current b k n (Taken p)) where
-    pub look-taken : (out out₁ v : List ℕ) (n : ℕ) → v ≡ stored b (12 + 322 * p + 1 + 256) → n ≡ length v → out₁ ≡ put out 0 v → Found Current b (looks k) out (buffer.done n) out₁
-    look-taken out out₁ v n e l w = rw l (looked-found Current lawful b k x p (at_place s.0) (inside s) s.2 out out₁ v (e ∙ value-at b (12 + 322 * p)) w)
-
     pub write-taken : (v b₁ : List ℕ) → length key ≤ 255 → ValueFits v → b₁ ≡ put b (12 + 322 * p) (Current.slot (k, v)) → Changed Current b (writes k v) 0 b₁
     write-taken v b₁ hk hv w = write_replaced Current lawful b k x p (at_place s.0) (inside s) s.2 v b₁ (fit v hk hv) w
 

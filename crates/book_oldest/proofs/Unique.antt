@@ -3,7 +3,7 @@
 use Rattle.text.specs.Outcome.{One}
 use Rattle.book.specs.Book.{Current}
 use Rattle.book.specs.BookLaws.{lawful}
-use Rattle.book_oldest.specs.OldestLaws.{one-oldest}
+use Rattle.book_oldest.proofs.OldestLaws.{one-oldest}
 use Rattle.book_oldest.proofs.oldest.Reads as oldest
 
 pub one-oldest-call : One oldest.Post

@@ -23,7 +23,7 @@ use Rattle.book.specs.Book.{Current}
 use Rattle.book.specs.BookLaws.{one-book, lawful}
 use Rattle.book_oldest.specs.Oldest.{state_of, own_state, oldest_state, oldest_in, Oldest}
 use Rattle.book_oldest.specs.Oldest as oldest
-use Rattle.book_oldest.specs.OldestLaws.{oldest-nothing, oldest-held, oldest-least}
+use Rattle.book_oldest.proofs.OldestLaws.{oldest-nothing, oldest-held, oldest-least}
 use Rattle.demands.specs.Held.{ProperBook}
 use Rattle.demands.specs.ShapeLaws.{plain_of}
 use Rattle.demands.specs.OldestCall.{OldestCall, HoldsState, OldestSays, OldestDemand}

@@ -9,7 +9,7 @@ use Rattle.book.specs.OutcomeLaws.{one_changed, one_found, one-made}
 use Rattle.book_clear.specs.ClearLaws.{one-cleared}
 use Rattle.book_convert.specs.ConvertLaws.{one-converted}
 use Rattle.book_convert.specs.OwnersLaws.{one-owners}
-use Rattle.book_oldest.specs.OldestLaws.{one-oldest}
+use Rattle.book_oldest.proofs.OldestLaws.{one-oldest}
 use Rattle.book_table.specs.OneLaws.{one-fills, one_many}
 use Rattle.hostpath.proofs.hp_validate_identifier_chars.Reads as hp-validate-identifier-chars
 use Rattle.hostpath.proofs.hp_validate_identifier_length.Reads as hp-validate-identifier-length

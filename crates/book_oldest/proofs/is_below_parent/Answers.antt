@@ -1,7 +1,7 @@
 -- `book_oldest::is_below_parent` meets its contract.
 use mathlib.Core.Path.{ap, ◌∙◌}
 use Rattle.text.specs.Part.{starts_with}
-use Rattle.book_oldest.specs.OldestLaws.{below_other, below-same}
+use Rattle.book_oldest.proofs.OldestLaws.{below_other, below-same}
 use native.Mathlib.Omega.{arith}
 use Rattle.book_oldest.proofs.is_below_parent.Goals as goal
 

@@ -1,5 +1,5 @@
 -- `book_oldest::older` meets its contract.
-use Rattle.book_oldest.specs.OldestLaws.{none_first, none-second, second-lower, second-no-lower}
+use Rattle.book_oldest.proofs.OldestLaws.{none_first, none-second, second-lower, second-no-lower}
 use Rattle.book_oldest.proofs.older.Goals as goal
 
 pub returns-in_default : goal.returns-in_default

@@ -4,7 +4,7 @@ use Rattle.identifiers.specs.Check as check
 use Rattle.identifiers.specs.CheckLaws.{accepted-length}
 use Rattle.book.specs.Book.{Current}
 use Rattle.book_oldest.specs.Oldest as o
-use Rattle.book_oldest.specs.OldestLaws.{oldest_nobody, oldest-refused, oldest-by}
+use Rattle.book_oldest.proofs.OldestLaws.{oldest_nobody, oldest-refused, oldest-by}
 use Rattle.book.specs.RecordLaws.{judged-holds, judged-none}
 use Rattle.book_oldest.proofs.oldest.Goals as goal
 

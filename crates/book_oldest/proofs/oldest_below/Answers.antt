@@ -3,7 +3,7 @@ use Prim.Native.Nat.{ℕ, ◌≤◌}
 use native.Mathlib.Omega.{arith}
 use Rattle.book.specs.Book.{Current, Counts}
 use Rattle.book.specs.BookLaws.{lawful, sizes}
-use Rattle.book_oldest.specs.OldestLaws.{oldest-start, oldest-next, oldest-stop, oldest-end}
+use Rattle.book_oldest.proofs.OldestLaws.{oldest-start, oldest-next, oldest-stop, oldest-end}
 use Rattle.book_oldest.proofs.oldest_below.Goals as goal
 
 few : (b : List ℕ) (n : ℕ) → Counts Current b n → n ≤ 200

@@ -1,6 +1,6 @@
 -- `book_oldest::oldest_below` meets its contract.
 use Prim.Native.Nat.{◌≤◌, ◌-◌}
-use Rattle.book_oldest.specs.OldestLaws.{OldestFrom}
+use Rattle.book_oldest.proofs.OldestLaws.{OldestFrom}
 use Rattle.book_oldest.proofs.oldest_below.Given as goal
 
 abbrev pub invariant-loop-i : goal.invariant-loop-i

@@ -1,7 +1,7 @@
 -- `book_oldest::state_in` meets its contract.
 use mathlib.Core.Path.{refl, sym, ◌∙◌}
 use Rattle.path.specs.ViewLaws.{is_seen, is-unread}
-use Rattle.book_oldest.specs.OldestLaws.{state-refused, state-other, state_elsewhere, state-is}
+use Rattle.book_oldest.proofs.OldestLaws.{state-refused, state-other, state_elsewhere, state-is}
 use Rattle.book_oldest.proofs.state_in.Goals as goal
 
 pub returns-in_default : goal.returns-in_default

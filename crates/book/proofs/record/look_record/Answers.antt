@@ -1,7 +1,8 @@
 -- `book::record::look_record` meets its contract.
 use mathlib.Core.Path.{◌≡◌, ap}
 use lib.ListN.{length}
-use Rattle.book.specs.RecordLaws.{spotted, room, look-free, look-taken}
+use Rattle.book.specs.RecordLaws.{spotted, room, look-free}
+use Rattle.book.proofs.RecordLaws.{look-taken}
 use native.Mathlib.Omega.{arith}
 use Rattle.book.proofs.record.look_record.Goals as goal
 

@@ -1,6 +1,7 @@
 -- `book_table::look::look_key` meets its contract.
 use Rattle.std.proofs.Common.{◌≡◌, length, ap, arith}
-use Rattle.book.specs.RecordLaws.{room, look-taken}
+use Rattle.book.specs.RecordLaws.{room}
+use Rattle.book.proofs.RecordLaws.{look-taken}
 use Rattle.book_table.specs.SpotLaws.{told-taken, told-nowhere}
 use Rattle.book_table.proofs.look.look_key.Goals as goal
 
