@@ -4,7 +4,7 @@
 use Rattle.std.specs.Prelude.{ℕ, ◌*◌, Bool, true, false, cond, List, [], ◌∷◌, ◌++◌}
 use Rattle.text.specs.Bytes.{bytes}
 use Rattle.text.specs.Number.{decimal}
-use Rattle.text.specs.Refusal.{too_long, not_ascii, not_aPath, no_digits, not_aDigit, too_large, sentence}
+use Rattle.text.specs.Refusal.{too_long, not_ascii, not_a_path, no_digits, not_a_digit, too_large, sentence}
 use Rattle.path.specs.declared.PathView.{PathView}
 use Rattle.path.specs.declared.Refusal.{Refusal}
 use Rattle.path.specs.declared.Refusal.TheVariants.{TooLong, NotAscii, NotAPath, NoDigits, NotADigit, TooLarge}
@@ -42,9 +42,9 @@ placed i n = bytes " " ++ (decimal i ++ spoken n)
 unfoldable pub reason : Refusal → List ℕ
 reason TooLong = spoken too_long
 reason NotAscii = spoken not_ascii
-reason NotAPath = spoken not_aPath
+reason NotAPath = spoken not_a_path
 reason (NoDigits i) = placed i no_digits
-reason (NotADigit i) = placed i not_aDigit
+reason (NotADigit i) = placed i not_a_digit
 reason (TooLarge i) = placed i too_large
 
 -- what follows the number of a refusal

@@ -13,7 +13,7 @@ use Rattle.path.specs.Read.{read_first, why_not, refusal_of, reading_of, read_pa
 use Rattle.book_records.specs.Records.{Key}
 use Rattle.book_records.specs.Act.{refuses, writes, looks}
 use Rattle.book_records.specs.Calls.{keyed, key_for, Asked, to_write, to_remove, to_look, Call, is_owner, is_retired, under, meaning, PathOf}
-use Rattle.book_records.specs.Refusals.{HasKey, Declined, bad_owner_when, too_long_when, not_ascii_when, not_a_path, loose, key_too_long_when, retired, bad_length_when, no_room_when}
+use Rattle.book_records.specs.Refusals.{HasKey, Declined, bad_owner_when, too_long_when, not_ascii_when, not_a_path_when, loose, key_too_long_when, retired, bad_length_when, no_room_when}
 use Rattle.book_records.specs.MannerLaws.{KeyFor, unread, other, own, key_for_lem}
 use Rattle.book_records.specs.CallLaws.{Means, declines, writing, removing, looking}
 
@@ -34,7 +34,7 @@ key-refused c n w e = go (ltb 4096 (length t)) refl (ascii t) refl (read_first k
     go true l a ea r er q = let z : n ≡ 1 = cc in rw z (too_long_when w (ltb-true 4096 (length t) l))
     go false l false ea r er q = let z : n ≡ 2 = cc in rw z (not_ascii_when w (ltb-false 4096 (length t) l) ea)
     go false l true ea (Found p) er q = let z : ◌≡◌ {A = ℕ} 0 1 = cc in absurd (omega arith)
-    go false l true ea Nothing er q = let z : n ≡ refusal_of (why_not t) = cc in rw z (not_a_path w (ltb-false 4096 (length t) l) ea er)
+    go false l true ea Nothing er q = let z : n ≡ refusal_of (why_not t) = cc in rw z (not_a_path_when w (ltb-false 4096 (length t) l) ea er)
 
 under-means : (c : Call) (k : Key) → HasKey c k → (q : Asked) → c.asked ≡ q → Means c (under q k)
 under-means c k h (to_write v) p = kind (is_retired k) refl

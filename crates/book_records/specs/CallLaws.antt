@@ -11,7 +11,7 @@ use Rattle.path.specs.Read.{why_not, refusal_of, read_path, key_of}
 use Rattle.book_records.specs.Records.{Key}
 use Rattle.book_records.specs.Act.{Meaning, refuses, writes, removes, looks}
 use Rattle.book_records.specs.Calls.{keyed, to_write, Call, is_owner, owner_of, Owned, is_retired, under, meaning, PathOf, ValueFits}
-use Rattle.book_records.specs.Refusals.{HasKey, GoodWrite, GoodRemoval, GoodLookup, Declined, bad_owner_when, too_long_when, not_ascii_when, not_a_path, loose, key_too_long_when, retired, bad_length_when, no_room_when}
+use Rattle.book_records.specs.Refusals.{HasKey, GoodWrite, GoodRemoval, GoodLookup, Declined, bad_owner_when, too_long_when, not_ascii_when, not_a_path_when, loose, key_too_long_when, retired, bad_length_when, no_room_when}
 use Rattle.book_records.specs.MannerLaws.{for-unread, for-other, for-own}
 
 -- ---- the cases
@@ -46,7 +46,7 @@ unfolding key_of read_path meaning keyed
 declined-means c (bad_owner_when w) = rw w
 declined-means c (too_long_when w h) = keyed-refused c 1 w (rw (lt-ltb 4096 (length c.text) h))
 declined-means c (not_ascii_when w h a) = keyed-refused c 2 w (rw (le-ltb 4096 (length c.text) h, a))
-declined-means c (not_a_path w h a r) = keyed-refused c _ w (rw (le-ltb 4096 (length c.text) h, a, r))
+declined-means c (not_a_path_when w h a r) = keyed-refused c _ w (rw (le-ltb 4096 (length c.text) h, a, r))
 declined-means c (loose p s) = rw (p.known, for-other c.manner c.text p.rendering p.renders s)
 declined-means c (key_too_long_when p s l) =
     rw (p.known, for-own c.manner c.text s, p.renders, lt-leb (length p.rendering) 255 (omega (arith, l, ap length p.is)))
@@ -76,7 +76,7 @@ pub declined-not : {c : Call} {n : ℕ} → Declined c n → ((n ≡ 0) → ⊥)
 declined-not (bad_owner_when w) = (λ e. omega arith, λ e. omega arith, λ e. omega arith, λ e. omega arith)
 declined-not (too_long_when w h) = (λ e. omega arith, λ e. omega arith, λ e. omega arith, λ e. omega arith)
 declined-not (not_ascii_when w h a) = (λ e. omega arith, λ e. omega arith, λ e. omega arith, λ e. omega arith)
-declined-not {c} (not_a_path w h a r) = unread-not (why_not c.text)
+declined-not {c} (not_a_path_when w h a r) = unread-not (why_not c.text)
 declined-not (loose p s) = (λ e. omega arith, λ e. omega arith, λ e. omega arith, λ e. omega arith)
 declined-not (key_too_long_when p s l) = (λ e. omega arith, λ e. omega arith, λ e. omega arith, λ e. omega arith)
 declined-not (retired q h r) = (λ e. omega arith, λ e. omega arith, λ e. omega arith, λ e. omega arith)

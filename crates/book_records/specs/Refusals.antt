@@ -41,7 +41,7 @@ pub data Declined (c : Call) : ℕ → Type 0 where
   bad_owner_when : is_owner c.owner ≡ false → Declined c bad_owner
   too_long_when : is_owner c.owner ≡ true → 4096 < length c.text → Declined c too_long
   not_ascii_when : is_owner c.owner ≡ true → length c.text ≤ 4096 → ascii c.text ≡ false → Declined c not_ascii
-  not_a_path : is_owner c.owner ≡ true → length c.text ≤ 4096 → ascii c.text ≡ true → read_first kinds c.text ≡ Nothing → Declined c (refusal_of (why_not c.text))
+  not_a_path_when : is_owner c.owner ≡ true → length c.text ≤ 4096 → ascii c.text ≡ true → read_first kinds c.text ≡ Nothing → Declined c (refusal_of (why_not c.text))
   loose : {k : Key} → PathOf c k → (Spelled c.manner c.text → ⊥) → Declined c refusal.loose
   key_too_long_when : {k : Key} → PathOf c k → Spelled c.manner c.text → 256 < length k → Declined c key_too_long
   retired : {k : Key} {v : List ℕ} → c.asked ≡ to_write v → HasKey c k → is_retired k ≡ true → Declined c refusal.retired

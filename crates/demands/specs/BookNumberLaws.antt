@@ -17,7 +17,7 @@ use Rattle.book_records.specs.Act.{Rec, Meaning, Answer, act, add_to, take_from,
 use Rattle.book_records.specs.declared.Manner.{Manner}
 use Rattle.book_records.specs.declared.Manner.TheVariants.{Plain, Lenient}
 use Rattle.book_records.specs.Calls.{Call, write, remove, look, is_owner, Spelled, meaning}
-use Rattle.book_records.specs.Refusals.{GoodWrite, GoodRemoval, GoodLookup, Declined, bad_owner_when, too_long_when, not_ascii_when, not_a_path, loose, key_too_long_when, retired, bad_length_when, no_room_when}
+use Rattle.book_records.specs.Refusals.{GoodWrite, GoodRemoval, GoodLookup, Declined, bad_owner_when, too_long_when, not_ascii_when, not_a_path_when, loose, key_too_long_when, retired, bad_length_when, no_room_when}
 use Rattle.book_records.specs.CallLaws.{Means, declines, writing, removing, looking}
 use Rattle.book_records.proofs.CallLaws.{means}
 use Rattle.book.specs.Book.{Current, bytes_with, full_in}
@@ -105,7 +105,7 @@ write-listed m o t v = outcome_of (Listed (write_numbers m)) (ok 0 refl) (write 
     own n (bad_owner_when w) = ok 23 refl
     own n (too_long_when w h) = ok 1 refl
     own n (not_ascii_when w h e) = ok 2 refl
-    own n (not_a_path w h e f) = unread_of (Listed (write_numbers m)) (ok 1 refl) (ok 2 refl) (ok 3 refl) (ok 17 refl) (ok 18 refl) (ok 19 refl) (why_not t)
+    own n (not_a_path_when w h e f) = unread_of (Listed (write_numbers m)) (ok 1 refl) (ok 2 refl) (ok 3 refl) (ok 17 refl) (ok 18 refl) (ok 19 refl) (why_not t)
     own n (loose p s) = loose_too m t (9 ∷ 23 ∷ 1 ∷ 2 ∷ 3 ∷ 17 ∷ 18 ∷ 19 ∷ 10 ∷ 25 ∷ 6 ∷ 11 ∷ []) s
     own n (key_too_long_when p s l) = ok 10 refl
     own n (retired q h r) = ok 25 refl
@@ -122,7 +122,7 @@ remove-listed m o t = outcome_of (Listed (remove_numbers m)) (ok 0 refl) (remove
     own n (bad_owner_when w) = ok 23 refl
     own n (too_long_when w h) = ok 1 refl
     own n (not_ascii_when w h e) = ok 2 refl
-    own n (not_a_path w h e f) = unread_of (Listed (remove_numbers m)) (ok 1 refl) (ok 2 refl) (ok 3 refl) (ok 17 refl) (ok 18 refl) (ok 19 refl) (why_not t)
+    own n (not_a_path_when w h e f) = unread_of (Listed (remove_numbers m)) (ok 1 refl) (ok 2 refl) (ok 3 refl) (ok 17 refl) (ok 18 refl) (ok 19 refl) (why_not t)
     own n (loose p s) = loose_too m t (9 ∷ 23 ∷ 1 ∷ 2 ∷ 3 ∷ 17 ∷ 18 ∷ 19 ∷ 10 ∷ 12 ∷ []) s
     own n (key_too_long_when p s l) = ok 10 refl
     own n (retired q h r) = absurd (let z : ◌≡◌ {A = ℕ} 0 1 = cc in let y : ⊥ = omega arith in y)
@@ -139,7 +139,7 @@ look-listed m o t room = outcome_of (Listed (look_numbers m)) (ok 0 refl) (look 
     own n (bad_owner_when w) = ok 23 refl
     own n (too_long_when w h) = ok 1 refl
     own n (not_ascii_when w h e) = ok 2 refl
-    own n (not_a_path w h e f) = unread_of (Listed (look_numbers m)) (ok 1 refl) (ok 2 refl) (ok 3 refl) (ok 17 refl) (ok 18 refl) (ok 19 refl) (why_not t)
+    own n (not_a_path_when w h e f) = unread_of (Listed (look_numbers m)) (ok 1 refl) (ok 2 refl) (ok 3 refl) (ok 17 refl) (ok 18 refl) (ok 19 refl) (why_not t)
     own n (loose p s) = loose_too m t (9 ∷ 23 ∷ 1 ∷ 2 ∷ 3 ∷ 17 ∷ 18 ∷ 19 ∷ 10 ∷ 4 ∷ 12 ∷ []) s
     own n (key_too_long_when p s l) = ok 10 refl
     own n (retired q h r) = absurd (let z : ◌≡◌ {A = ℕ} 0 1 = cc in let y : ⊥ = omega arith in y)
@@ -254,10 +254,10 @@ module _ {L : Type 0} {A R S : L → Type 0} {Pre : (κs : L) → A κs → Type
       → (written : (κs : L) → R κs → Written) (book : (κs : L) → A κs → List ℕ) (owner : (κs : L) → A κs → ℕ) (text before : (κs : L) → A κs → List ℕ) (after : (κs : L) → S κs → List ℕ)
       → ((κs : L) (a : A κs) (r : R κs) (s : S κs) → Post κs a r s → Looked Current (manner κs a) (book κs a) (owner κs a) (text κs a) (before κs a) (written κs r) (after κs s))
       → Demand1 Pre Post listed (λ κs r. (written κs r).refusal) (λ κs r. (written κs r).length ∷ []) before after
-  found_demand listed manner in_List written book owner text before after says =
+  found_demand listed manner in_list written book owner text before after says =
       record {
         accepts = accepts;
-        numbered = λ κs a r s p. let c = says κs a r s p in subst (Listed listed) (sym (ap (λ (w : Written). w.refusal) c.written ∙ written-number c.answer)) (in_List κs a _ (look-listed (manner κs a) (owner κs a) (text κs a) (length (before κs a)) c.outcome));
+        numbered = λ κs a r s p. let c = says κs a r s p in subst (Listed listed) (sym (ap (λ (w : Written). w.refusal) c.written ∙ written-number c.answer)) (in_list κs a _ (look-listed (manner κs a) (owner κs a) (text κs a) (length (before κs a)) c.outcome));
         nothing_else = λ κs a r s p h. let c = says κs a r s p in (ap (λ (w : Written). w.length) c.written ∙ written-zero c.answer (λ e. h (ap (λ (w : Written). w.refusal) c.written ∙ e)), tt);
         keeps = λ κs a r s p. found-keeps (says κs a r s p);
       }

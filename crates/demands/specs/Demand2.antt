@@ -7,7 +7,7 @@ use Prim.Native.Nat.{ℕ, ◌≤◌, ◌<◌, ◌^◌, compare}
 use Rattle.std.specs.Prelude.{◌≡◌, ◌↔◌, Bool, true, List, length, take}
 use Rattle.std.proofs.Common.{sym, ap, subst, ◌∙◌}
 use Rattle.text.specs.Bytes.{bytes}
-use Rattle.text.specs.Refusal.{not_ascii, not_aPath, no_room}
+use Rattle.text.specs.Refusal.{not_ascii, not_a_path, no_room}
 use Rattle.text.specs.declared.Fault.{Fault}
 use Rattle.text.specs.declared.Written.{Written}
 use Rattle.text.specs.Order.{then, cmp}
@@ -70,7 +70,7 @@ module _ (Reads : List ℕ → List ℕ → Fault → List ℕ → Type 0) (Rend
     pub keyed_so : (t out : List ℕ) (x : Written) (out₁ : List ℕ) → Keys t out x out₁ → x.refusal ≡ 0 → (p : Path) × rules.Reads t p × Done (render_path t p) x out₁
     pub key_leaves : (t out : List ℕ) (x : Written) (out₁ : List ℕ) → Keys t out x out₁ → Leaves x.refusal x.length out out₁
     -- ".. save the text "clients", where the Rust panics and we refuse, .."
-    pub clients : (out : List ℕ) (f : Fault) (out₁ : List ℕ) → Reads (bytes "clients") out f out₁ → f ≡ record { refusal = not_aPath; place = 0 }
+    pub clients : (out : List ℕ) (f : Fault) (out₁ : List ℕ) → Reads (bytes "clients") out f out₁ → f ≡ record { refusal = not_a_path; place = 0 }
     -- ".. and an upgrade path holding a slash or a rendering over 4,096 bytes, which we refuse." is `bad-segment` and `too_long` of `when-rendered`.
     -- "Rendering a valid typed path of at most 4,096 bytes and reading it gives that path back.": of the bytes that rendering left at the start of its
     -- buffer, reading says that kind, those identifiers, as parts of these bytes, and those numbers, exact

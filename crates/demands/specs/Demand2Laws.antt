@@ -175,7 +175,7 @@ module _ (t out : List ℕ) (f : Fault) (e : f ≡ read_fault t (length out)) wh
       record {
         too_long_when = iff_yes m l;
         not_ascii_when = iff-no (λ q. omega arith) (λ q. omega (arith, q.0));
-        not_a_path = iff-no (λ q. omega arith) (λ q. omega (arith, q.0));
+        not_a_path_when = iff-no (λ q. omega arith) (λ q. omega (arith, q.0));
         bad_number = λ w k. iff-no (other-number 1 m refl w k) (λ q. omega (arith, q.0));
         no_room_when = iff-no (λ q. omega arith) (λ q. not-read t TooLong h q.0);
         done = iff-no (λ q. omega arith) (λ q. not-read t TooLong h q.0);
@@ -188,7 +188,7 @@ module _ (t out : List ℕ) (f : Fault) (e : f ≡ read_fault t (length out)) wh
       record {
         too_long_when = iff-no (λ q. omega arith) (λ q. omega (arith, q));
         not_ascii_when = iff_yes m (l, a);
-        not_a_path = iff-no (λ q. omega arith) (λ q. let b = q.1 in let z : ◌≡◌ {A = ℕ} 0 1 = cc in omega (arith, z));
+        not_a_path_when = iff-no (λ q. omega arith) (λ q. let b = q.1 in let z : ◌≡◌ {A = ℕ} 0 1 = cc in omega (arith, z));
         bad_number = λ w k. iff-no (other-number 2 m refl w k) (λ q. let b = q.1 in let z : ◌≡◌ {A = ℕ} 0 1 = cc in omega (arith, z));
         no_room_when = iff-no (λ q. omega arith) (λ q. not-read t NotAscii h q.0);
         done = iff-no (λ q. omega arith) (λ q. not-read t NotAscii h q.0);
@@ -203,7 +203,7 @@ module _ (t out : List ℕ) (f : Fault) (e : f ≡ read_fault t (length out)) wh
         record {
           too_long_when = iff-no (λ q. omega arith) (λ q. omega (arith, q));
           not_ascii_when = iff-no (λ q. omega arith) (λ q. let b = q.1 in let z : ◌≡◌ {A = ℕ} 0 1 = cc in omega (arith, z));
-          not_a_path = iff_yes m (l, a, no_kind t none, nothing);
+          not_a_path_when = iff_yes m (l, a, no_kind t none, nothing);
           bad_number = λ w k. iff-no (other-number 3 m refl w k) (λ q. nothing w q.2);
           no_room_when = iff-no (λ q. omega arith) (λ q. not-read t NotAPath h q.0);
           done = iff-no (λ q. omega arith) (λ q. not-read t NotAPath h q.0);
@@ -219,7 +219,7 @@ module _ (t out : List ℕ) (f : Fault) (e : f ≡ read_fault t (length out)) wh
         record {
           too_long_when = iff-no (other 1 refl) (λ q. omega (arith, q));
           not_ascii_when = iff-no (other 2 refl) (λ q. let b = q.1 in let z : ◌≡◌ {A = ℕ} 0 1 = cc in omega (arith, z));
-          not_a_path = iff-no (other 3 refl) (λ q. q.3 w x);
+          not_a_path_when = iff-no (other 3 refl) (λ q. q.3 w x);
           bad_number = λ v g. (λ q. (l, a, subst (NumberWrong fits t) (sym (back-fault w k) ∙ ap as_refusal (sym (fault-is w h) ∙ q) ∙ back-fault v g) x), λ q. fault-is w h ∙ ap as_fault (sym y ∙ wrong-why t v q.2));
           no_room_when = iff-no (other 4 refl) (λ q. not-read t w h q.0);
           done = iff-no (other 0 refl) (λ q. not-read t w h q.0);
@@ -252,7 +252,7 @@ module _ (t out : List ℕ) (f : Fault) (e : f ≡ read_fault t (length out)) wh
           record {
             too_long_when = iff-no (λ q. omega arith) (λ q. omega (arith, q));
             not_ascii_when = iff-no (λ q. omega arith) (λ q. let b = q.1 in let z : ◌≡◌ {A = ℕ} 0 1 = cc in omega (arith, z));
-            not_a_path = iff-no (λ q. omega arith) (λ q. some-kind t p r q.2);
+            not_a_path_when = iff-no (λ q. omega arith) (λ q. some-kind t p r q.2);
             bad_number = λ w k. iff-no (other-number 0 m refl w k) (λ q. right w q.2);
             no_room_when = iff-no (λ q. omega arith) (λ q. omega (arith, q.1));
             done = iff_yes m (read, wide);
@@ -264,7 +264,7 @@ module _ (t out : List ℕ) (f : Fault) (e : f ≡ read_fault t (length out)) wh
           record {
             too_long_when = iff-no (λ q. omega arith) (λ q. omega (arith, q));
             not_ascii_when = iff-no (λ q. omega arith) (λ q. let b = q.1 in let z : ◌≡◌ {A = ℕ} 0 1 = cc in omega (arith, z));
-            not_a_path = iff-no (λ q. omega arith) (λ q. some-kind t p r q.2);
+            not_a_path_when = iff-no (λ q. omega arith) (λ q. some-kind t p r q.2);
             bad_number = λ w k. iff-no (other-number 4 m refl w k) (λ q. right w q.2);
             no_room_when = iff_yes m (read, narrow);
             done = iff-no (λ q. omega arith) (λ q. omega (arith, q.1));

@@ -63,7 +63,7 @@ module _ (takes : List ℕ → Bool) (other : ℕ) (seen : List ℕ → List ℕ
   pub record Reading26 : Type 0 where
     pub too_long_when : (f.refusal ≡ 1) ↔ (4096 < length t)
     pub not_taken : (f.refusal ≡ other) ↔ ((length t ≤ 4096) × (takes t ≡ false))
-    pub not_a_path : (f.refusal ≡ 3) ↔ ((length t ≤ 4096) × (takes t ≡ true) × Unfit t × ((w : Refusal) → Wrong t w → ⊥))
+    pub not_a_path_when : (f.refusal ≡ 3) ↔ ((length t ≤ 4096) × (takes t ≡ true) × Unfit t × ((w : Refusal) → Wrong t w → ⊥))
     pub bad_number : (w : Refusal) → has_place (refusal_of w) ≡ true → (f ≡ as_fault w) ↔ ((length t ≤ 4096) × (takes t ≡ true) × Wrong t w)
     pub room : f.refusal ≡ 4 → ⊥
     pub done : (length t ≤ 4096) × (takes t ≡ true) × ((p : Path) × Reads (seen t) p) → f.refusal ≡ 0
@@ -79,7 +79,7 @@ module _ (takes : List ℕ → Bool) (other : ℕ) (seen : List ℕ → List ℕ
         record {
           too_long_when = (λ q. w.too_long_when.0 (e ∙ q), λ q. sym e ∙ w.too_long_when.1 q);
           not_taken = (λ q. w.not_taken.0 (e ∙ q), λ q. sym e ∙ w.not_taken.1 q);
-          not_a_path = (λ q. w.not_a_path.0 (e ∙ q), λ q. sym e ∙ w.not_a_path.1 q);
+          not_a_path_when = (λ q. w.not_a_path_when.0 (e ∙ q), λ q. sym e ∙ w.not_a_path_when.1 q);
           bad_number = λ r h. (
             λ q. let g = as-refusal f (subst (λ (n : ℕ). has_place n ≡ true) (sym (e ∙ q)) h) in
                 let y : refusal_of g.0 ≡ r = sym (ap (λ (z : Fault). z.refusal) g.1) ∙ e ∙ q in
@@ -115,7 +115,7 @@ module _ (takes : List ℕ → Bool) (other : ℕ) (seen : List ℕ → List ℕ
               record {
                 too_long_when = iff-no (λ q. omega arith) (λ q. omega (arith, z, w.too_long_when.1 q));
                 not_taken = iff-no (λ q. apart.0 (sym q ∙ m)) (λ q. apart.0 (sym (w.not_taken.1 q) ∙ z));
-                not_a_path = iff-no (λ q. omega arith) (λ q. omega (arith, z, w.not_a_path.1 q));
+                not_a_path_when = iff-no (λ q. omega arith) (λ q. omega (arith, z, w.not_a_path_when.1 q));
                 bad_number = λ n h. iff-no (λ q. let i : has_place 0 ≡ true = subst (λ (j : ℕ). has_place j ≡ true) (sym q ∙ m) h in clash (let j : ◌≡◌ {A = ℕ} 0 1 = cc in j)) (no_number n h);
                 no_room_when = iff-no (λ q. omega arith) (λ q. omega (arith, k, size q.2.0 q.2.1, q.2.2));
                 done = iff_yes m (l, a, (p, r, k));
@@ -126,7 +126,7 @@ module _ (takes : List ℕ → Bool) (other : ℕ) (seen : List ℕ → List ℕ
               record {
                 too_long_when = iff-no (λ q. omega arith) (λ q. omega (arith, z, w.too_long_when.1 q));
                 not_taken = iff-no (λ q. apart.1 (sym q ∙ m)) (λ q. apart.0 (sym (w.not_taken.1 q) ∙ z));
-                not_a_path = iff-no (λ q. omega arith) (λ q. omega (arith, z, w.not_a_path.1 q));
+                not_a_path_when = iff-no (λ q. omega arith) (λ q. omega (arith, z, w.not_a_path_when.1 q));
                 bad_number = λ n h. iff-no (λ q. let i : has_place 4 ≡ true = subst (λ (j : ℕ). has_place j ≡ true) (sym q ∙ m) h in clash (let j : ◌≡◌ {A = ℕ} 0 1 = cc in j)) (no_number n h);
                 no_room_when = iff_yes m (l, a, (p, r, k));
                 done = iff-no (λ q. omega arith) (λ q. omega (arith, k, size q.2.0 q.2.1, q.2.2));
@@ -154,7 +154,7 @@ module _ (t out : List ℕ) (x : Written) (e : x ≡ answer (key_of t) (length o
       record {
         too_long_when = w.too_long_when;
         not_taken = w.not_ascii_when;
-        not_a_path = w.not_a_path;
+        not_a_path_when = w.not_a_path_when;
         bad_number = w.bad_number;
         room = λ q. omega (arith, (w.no_room_when.0 q).1);
         done = λ q. w.done.1 ((q.2.0, same t (render_path t q.2.0), is_read t q.2.0 q.0 q.1 q.2.1), omega arith);

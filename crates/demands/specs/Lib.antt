@@ -6,7 +6,7 @@
 -- no owner's calls change what another is answered or holds, request L10, is `Isolation`; both are of the generated contracts in `IsolatedCalls`;
 -- that kind 8 is retired, request L14, is `Retired`, and of the generated contracts `RetiredCalls`; what plain and lenient calls share, request L6, is in `Manners`; the wide calls of request L8 are in `Wide`, in the words of `WideCalls`,
 -- `WideWritten` and `WideRendered`; the packet keys of request L11 are in `Packets`, in the words of `PacketCalls` and `Packeted`; what lies below a
--- path, request L12, is `Below`, in the words of `Above`; filling a table and many lookups, request L9, are in `ManyCall`; `Useless` and, of
+-- path, request L12, is `Below`, with its theorems in `Below` of proofs/, in the words of `Above`; filling a table and many lookups, request L9, are in `ManyCall`; `Useless` and, of
 -- clearings, `UselessClearings` show which line each useless build breaks. Files that end in `Laws` may be skipped.
 pub mod Numbers
 pub mod Shape
@@ -49,8 +49,6 @@ pub mod IterationLaws
 pub mod Iteration
 pub mod Cases
 pub mod Above
-pub mod BelowLaws
-pub mod NeighbourLaws
 pub mod Below
 pub mod Held
 pub mod HeldLaws

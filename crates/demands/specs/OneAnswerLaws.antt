@@ -51,7 +51,7 @@ module _ (t out : List ℕ) (f g : Fault) (w : WhenRead t out f) (e : g ≡ read
       go : (y : Reading) → read_path t ≡ y → f ≡ g
       go (Refused TooLong) h = let b = ap (λ (y : Fault). y.refusal) (is TooLong h) in alike 1 refl (w.too_long_when.1 (ours.too_long_when.0 b)) b
       go (Refused NotAscii) h = let b = ap (λ (y : Fault). y.refusal) (is NotAscii h) in alike 2 refl (w.not_ascii_when.1 (ours.not_ascii_when.0 b)) b
-      go (Refused NotAPath) h = let b = ap (λ (y : Fault). y.refusal) (is NotAPath h) in alike 3 refl (w.not_a_path.1 (ours.not_a_path.0 b)) b
+      go (Refused NotAPath) h = let b = ap (λ (y : Fault). y.refusal) (is NotAPath h) in alike 3 refl (w.not_a_path_when.1 (ours.not_a_path_when.0 b)) b
       go (Refused (WithoutDigits i)) h = by_number (WithoutDigits i) refl (is (WithoutDigits i) h)
       go (Refused (WithoutDigit i)) h = by_number (WithoutDigit i) refl (is (WithoutDigit i) h)
       go (Refused (AboveAll i)) h = by_number (AboveAll i) refl (is (AboveAll i) h)
@@ -145,7 +145,7 @@ module _ (t out : List ℕ) (x y : Written) (w : WhenKeyed t out x) (e : y ≡ a
       go : (r : Reading) → read_path t ≡ r → x.refusal ≡ y.refusal
       go (Refused TooLong) h = let b = is TooLong h in w.too_long_when.1 (keyed.too_long_when.0 b) ∙ sym b
       go (Refused NotAscii) h = let b = is NotAscii h in w.not_taken.1 (keyed.not_taken.0 b) ∙ sym b
-      go (Refused NotAPath) h = let b = is NotAPath h in w.not_a_path.1 (keyed.not_a_path.0 b) ∙ sym b
+      go (Refused NotAPath) h = let b = is NotAPath h in w.not_a_path_when.1 (keyed.not_a_path_when.0 b) ∙ sym b
       go (Refused (WithoutDigits i)) h = let b = is (WithoutDigits i) h in (w.bad_number 17 refl).1 ((keyed.bad_number 17 refl).0 b) ∙ sym b
       go (Refused (WithoutDigit i)) h = let b = is (WithoutDigit i) h in (w.bad_number 18 refl).1 ((keyed.bad_number 18 refl).0 b) ∙ sym b
       go (Refused (AboveAll i)) h = let b = is (AboveAll i) h in (w.bad_number 19 refl).1 ((keyed.bad_number 19 refl).0 b) ∙ sym b

@@ -18,7 +18,7 @@ use Rattle.path.specs.declared.Refusal.TheVariants.{NotAscii, NotAPath}
 use Rattle.path.specs.Read.{read_path, read_fault, reading_bytes, why_not, refusal_of, place_of}
 use Rattle.book_records.specs.Act.{Seen}
 use Rattle.book_records.specs.Calls.{Call, is_owner}
-use Rattle.book_records.specs.Refusals.{Declined, bad_owner_when, not_ascii_when, not_a_path}
+use Rattle.book_records.specs.Refusals.{Declined, bad_owner_when, not_ascii_when, not_a_path_when}
 use Rattle.packet.specs.declared.KindAnswer.{KindAnswer}
 use Rattle.packet.specs.declared.KindAnswer.TheVariants.{Kind, Unknown}
 use Rattle.packet.specs.declared.Packet.{Packet}
@@ -239,7 +239,7 @@ module _ (key : List ℕ) (k : PacketKind) (c : List ℕ) (n : ℕ) (is : IsPack
       go w false z = not_ascii_when w short (ap ascii t ∙ z)
       go w true z =
           let why : why_not a.text ≡ NotAPath = rw (t, is.bytes) (no_number k c n is.accepted) in
-          subst (Declined a) (ap refusal_of why) (not_a_path w short (ap ascii t ∙ z) (rw (t, is.bytes) (no-kind-fits k c n is.accepted)))
+          subst (Declined a) (ap refusal_of why) (not_a_path_when w short (ap ascii t ∙ z) (rw (t, is.bytes) (no-kind-fits k c n is.accepted)))
 
       whose : (v : Bool) → is_owner a.owner ≡ v → Declined a (cond v (cond (ascii key) 3 2) 23)
       whose true w = go w (ascii key) refl

@@ -7,7 +7,7 @@ use Rattle.text.specs.declared.Fault.{Fault}
 use Rattle.text.specs.declared.Written.{Written}
 use Rattle.text.specs.Number.{Bytes}
 use Rattle.text.specs.Part.{ascii}
-use Rattle.text.specs.Refusal.{not_ascii, not_aPath, bad_owner}
+use Rattle.text.specs.Refusal.{not_ascii, not_a_path, bad_owner}
 use Rattle.identifiers.specs.Check.{check_of, client}
 use Rattle.book_records.specs.Act.{Seen}
 use Rattle.book_records.specs.Calls.{Call, is_owner}
@@ -61,8 +61,8 @@ one_key j m c d n p a b o u x y o₁ u₁ one two v w e =
 -- ---- "These keys stay outside the book": none of them is a path, and every call of a book on one is refused, as on any such text. Of an
 -- owner 2 where a byte of its sequence is 128 or more, and else 3
 module _ (key : List ℕ) (b : Bytes key) (y : Packet) (read : V2ReadCall key y) (z : y.refusal ≡ 0) where
-  pub no_path : (out : List ℕ) (f : Fault) (out₁ : List ℕ) → ReadCall key out f out₁ → f ≡ record { refusal = cond (ascii key) not_aPath not_ascii; place = 0 }
+  pub no_path : (out : List ℕ) (f : Fault) (out₁ : List ℕ) → ReadCall key out f out₁ → f ≡ record { refusal = cond (ascii key) not_a_path not_ascii; place = 0 }
   no_path out f out₁ call = (reading call).0 ∙ laws.unread-fault key b y (reading_packet read) z (length out)
 
-  pub no_book_takes_it : (a : Call) → a.text ≡ key → (book : List ℕ) (s : Seen) (book₁ : List ℕ) → Does book a s book₁ → ProperBook book → s.number ≡ cond (is_owner a.owner) (cond (ascii key) not_aPath not_ascii) bad_owner
+  pub no_book_takes_it : (a : Call) → a.text ≡ key → (book : List ℕ) (s : Seen) (book₁ : List ℕ) → Does book a s book₁ → ProperBook book → s.number ≡ cond (is_owner a.owner) (cond (ascii key) not_a_path not_ascii) bad_owner
   no_book_takes_it a t book s book₁ did proper = laws.declined key b y (reading_packet read) z a t book s book₁ did proper

@@ -6,7 +6,7 @@ use Rattle.std.proofs.Math.Option.{some}
 use Rattle.std.proofs.Math.ListN.{get_elem?}
 use Rattle.text.specs.Fault.{has_place}
 use Rattle.text.specs.Part.{ascii}
-use Rattle.text.specs.Refusal.{too_long, not_ascii, not_aPath, no_room, bad_segment, bad_kind}
+use Rattle.text.specs.Refusal.{too_long, not_ascii, not_a_path, no_room, bad_segment, bad_kind}
 use Rattle.text.specs.declared.Written.{Written}
 use Rattle.path.specs.declared.Path.{Path}
 use Rattle.path.specs.declared.Refusal.{Refusal}
@@ -88,7 +88,7 @@ module _ (takes : List ℕ → Bool) (other : ℕ) (seen : List ℕ → List ℕ
   pub record WhenKeyedBy (t out : List ℕ) (x : Written) : Type 0 where
     pub too_long_when : (x.refusal ≡ too_long) ↔ (4096 < length t)
     pub not_taken : (x.refusal ≡ other) ↔ ((length t ≤ 4096) × (takes t ≡ false))
-    pub not_a_path : (x.refusal ≡ not_aPath) ↔ ((length t ≤ 4096) × (takes t ≡ true) × Unfit t × ((w : Refusal) → Wrong t w → ⊥))
+    pub not_a_path_when : (x.refusal ≡ not_a_path) ↔ ((length t ≤ 4096) × (takes t ≡ true) × Unfit t × ((w : Refusal) → Wrong t w → ⊥))
     pub bad_number : (r : ℕ) → has_place r ≡ true → (x.refusal ≡ r) ↔ ((length t ≤ 4096) × (takes t ≡ true) × ((w : Refusal) × (refusal_of w ≡ r) × Wrong t w))
     pub no_room_when : (x.refusal ≡ no_room) ↔ ((length t ≤ 4096) × (takes t ≡ true) × ((p : Path) × Reads (seen t) p × (length out < length (render_path t p))))
     pub done : (x.refusal ≡ 0) ↔ ((length t ≤ 4096) × (takes t ≡ true) × ((p : Path) × Reads (seen t) p × (length (render_path t p) ≤ length out)))

@@ -10,7 +10,7 @@ use Rattle.runs.specs.Runs.{Runs, stop, next}
 use Rattle.book_records.specs.Records.{Key, get}
 use Rattle.book_records.specs.Act.{Seen}
 use Rattle.book_records.specs.Calls.{Asked, to_write, to_remove, to_look, Call, PathOf, is_retired}
-use Rattle.book_records.specs.Refusals.{GoodWrite, GoodLookup, Declined, bad_owner_when, too_long_when, not_ascii_when, not_a_path, loose, key_too_long_when, retired, bad_length_when, no_room_when}
+use Rattle.book_records.specs.Refusals.{GoodWrite, GoodLookup, Declined, bad_owner_when, too_long_when, not_ascii_when, not_a_path_when, loose, key_too_long_when, retired, bad_length_when, no_room_when}
 use Rattle.book_records.specs.CallLaws.{one-path}
 use Rattle.demands.specs.Held.{Updates, left_by, Looks, Holds, ProperBook}
 use Rattle.demands.specs.HeldLaws.{holds_in, one-held}
@@ -24,7 +24,7 @@ declined_retires : {b : List ℕ} {c : Call} {n : ℕ} → ProperBook b → n �
 declined_retires x e (bad_owner_when w) = absurd (let z : ⊥ = omega arith in z)
 declined_retires x e (too_long_when w l) = absurd (let z : ⊥ = omega arith in z)
 declined_retires x e (not_ascii_when w l a) = absurd (let z : ⊥ = omega arith in z)
-declined_retires {c = c} x e (not_a_path w l a r) = absurd (unread_of (λ n. n ≡ 25 → ⊥) (λ q. omega arith) (λ q. omega arith) (λ q. omega arith) (λ q. omega arith) (λ q. omega arith) (λ q. omega arith) (why_not c.text) e)
+declined_retires {c = c} x e (not_a_path_when w l a r) = absurd (unread_of (λ n. n ≡ 25 → ⊥) (λ q. omega arith) (λ q. omega arith) (λ q. omega arith) (λ q. omega arith) (λ q. omega arith) (λ q. omega arith) (why_not c.text) e)
 declined_retires x e (loose p s) = absurd (let z : ⊥ = omega arith in z)
 declined_retires x e (key_too_long_when p s l) = absurd (let z : ⊥ = omega arith in z)
 declined_retires x e (retired {k = k} {v = v} q has r) = record { book = x; value = v; asked = q; key = k; has = has; is_retired_lem = r }

@@ -125,7 +125,7 @@ module _ (t out : List ℕ) (f : Fault) (e : f ≡ read_fault_in wide t (length 
         record {
           too_long_when = iff_yes m long;
           bad_utf8_when = iff-no (λ q. omega arith) (λ q. omega (arith, q.0));
-          not_a_path = iff-no (λ q. omega arith) (λ q. omega (arith, q.0));
+          not_a_path_when = iff-no (λ q. omega arith) (λ q. omega (arith, q.0));
           bad_number = λ w k. iff-no (λ q. let z : has_place 1 ≡ true = subst (λ (n : ℕ). has_place n ≡ true) (sym (ap (λ (x : Fault). x.refusal) q) ∙ m) k in clash cc) (λ q. omega (arith, q.0));
           no_room_when = iff-no (λ q. omega arith) (λ q. omega (arith, q.0));
           done = iff-no (λ q. omega arith) (λ q. omega (arith, q.0));
@@ -145,7 +145,7 @@ module _ (t out : List ℕ) (f : Fault) (e : f ≡ read_fault_in wide t (length 
           record {
             too_long_when = iff-no (λ q. omega arith) (λ q. omega (arith, q));
             bad_utf8_when = iff_yes m (short, u);
-            not_a_path = iff-no (λ q. omega arith) (λ q. no q.1);
+            not_a_path_when = iff-no (λ q. omega arith) (λ q. no q.1);
             bad_number = λ w k. iff-no (λ q. let z : has_place 21 ≡ true = subst (λ (n : ℕ). has_place n ≡ true) (sym (ap (λ (x : Fault). x.refusal) q) ∙ m) k in clash cc) (λ q. no q.1);
             no_room_when = iff-no (λ q. omega arith) (λ q. no q.1);
             done = iff-no (λ q. omega arith) (λ q. no q.1);
@@ -167,7 +167,7 @@ module _ (t out : List ℕ) (f : Fault) (e : f ≡ read_fault_in wide t (length 
           record {
             too_long_when = (λ q. omega (arith, l, w.too_long_when.0 q), λ q. w.too_long_when.1 (omega (arith, l, q)));
             bad_utf8_when = iff-no (λ q. never_21 q) (λ q. let v : utf8 t ≡ false = q.1 in clash cc);
-            not_a_path = (λ q. let x = w.not_a_path.0 q in (short, u, λ k m. sym (fits_itself t u m) ∙ x.2 k m, λ v y. x.3 v (wrong-picture t u v y)), λ q. w.not_a_path.1 (s, low, λ k m. fits_itself t u m ∙ q.2 k m, λ v y. q.3 v (wrong_itself t u v y)));
+            not_a_path_when = (λ q. let x = w.not_a_path_when.0 q in (short, u, λ k m. sym (fits_itself t u m) ∙ x.2 k m, λ v y. x.3 v (wrong-picture t u v y)), λ q. w.not_a_path_when.1 (s, low, λ k m. fits_itself t u m ∙ q.2 k m, λ v y. q.3 v (wrong_itself t u v y)));
             bad_number = λ x k. (λ q. (short, u, wrong_itself t u x ((w.bad_number x k).0 q).2), λ q. (w.bad_number x k).1 (s, low, wrong-picture t u x q.2));
             no_room_when = (λ q. let x = w.no_room_when.0 q in (short, u, read-kind t u x.0, x.1), λ q. w.no_room_when.1 (kind-read t u short q.2, q.3));
             done = (λ q. let x = w.done.0 q in (short, u, read-kind t u x.0, x.1), λ q. w.done.1 (kind-read t u short q.2, q.3));

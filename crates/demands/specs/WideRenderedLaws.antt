@@ -43,7 +43,7 @@ module _ (t out : List ℕ) (x : Written) (e : x ≡ answer (key_in wide t) (len
       record {
         too_long_when = when26.too_long_when;
         not_taken = when26.bad_utf8_when;
-        not_a_path = when26.not_a_path;
+        not_a_path_when = when26.not_a_path_when;
         bad_number = when26.bad_number;
         room = λ q. omega (arith, (when26.no_room_when.0 q).3);
         done = λ q. let p = q.2.0 in let l : length (narrow t) ≤ 4096 = omega (arith, length-narrow t, q.0) in

@@ -4,7 +4,7 @@ use Rattle.std.specs.Prelude.{ℕ, ◌≤◌, ◌<◌, ◌^◌, ◌≡◌, ◌�
 use Rattle.text.specs.declared.Fault.{Fault}
 use Rattle.text.specs.Fault.{has_place}
 use Rattle.text.specs.Part.{same}
-use Rattle.text.specs.Refusal.{too_long, not_aPath, no_room, bad_utf8}
+use Rattle.text.specs.Refusal.{too_long, not_a_path, no_room, bad_utf8}
 use Rattle.identifiers.specs.Check.{identifier_byte, Rule, form_of}
 use Rattle.path.specs.declared.Path.{Path}
 use Rattle.path.specs.declared.Refusal.{Refusal}
@@ -76,7 +76,7 @@ WideKind t = (e : Kind) × Has kinds e × (fits_kind_wide e t ≡ true)
 pub record WhenWideRead (t out : List ℕ) (f : Fault) : Type 0 where
   pub too_long_when : (f.refusal ≡ too_long) ↔ (4096 < length t)
   pub bad_utf8_when : (f.refusal ≡ bad_utf8) ↔ ((length t ≤ 4096) × (utf8 t ≡ false))
-  pub not_a_path : (f.refusal ≡ not_aPath) ↔ ((length t ≤ 4096) × (utf8 t ≡ true) × NoWideKind t × NoNumber fits_wide t)
+  pub not_a_path_when : (f.refusal ≡ not_a_path) ↔ ((length t ≤ 4096) × (utf8 t ≡ true) × NoWideKind t × NoNumber fits_wide t)
   pub bad_number : (w : Refusal) → has_place (refusal_of w) ≡ true → (f ≡ as_fault w) ↔ ((length t ≤ 4096) × (utf8 t ≡ true) × NumberWrong fits_wide t w)
   pub no_room_when : (f.refusal ≡ no_room) ↔ ((length t ≤ 4096) × (utf8 t ≡ true) × WideKind t × (length out < 26))
   pub done : (f.refusal ≡ 0) ↔ ((length t ≤ 4096) × (utf8 t ≡ true) × WideKind t × (26 ≤ length out))

@@ -6,7 +6,7 @@ use Rattle.text.specs.declared.Written.{Written}
 use Rattle.text.specs.Fault.{has_place}
 use Rattle.text.specs.Part.{ascii}
 use Rattle.text.specs.Put.{done}
-use Rattle.text.specs.Refusal.{too_long, not_ascii, not_aPath, no_room}
+use Rattle.text.specs.Refusal.{too_long, not_ascii, not_a_path, no_room}
 use Rattle.path.specs.declared.Path.{Path}
 use Rattle.path.specs.declared.Reading.TheVariants.{Read}
 use Rattle.path.specs.declared.Refusal.{Refusal}
@@ -64,7 +64,7 @@ NoNumber good t = (w : Refusal) → NumberWrong good t w → ⊥
 pub record WhenRead (t out : List ℕ) (f : Fault) : Type 0 where
   pub too_long_when : (f.refusal ≡ too_long) ↔ (4096 < length t)
   pub not_ascii_when : (f.refusal ≡ not_ascii) ↔ ((length t ≤ 4096) × (ascii t ≡ false))
-  pub not_a_path : (f.refusal ≡ not_aPath) ↔ ((length t ≤ 4096) × (ascii t ≡ true) × NoKind t × NoNumber fits t)
+  pub not_a_path_when : (f.refusal ≡ not_a_path) ↔ ((length t ≤ 4096) × (ascii t ≡ true) × NoKind t × NoNumber fits t)
   pub bad_number : (w : Refusal) → has_place (refusal_of w) ≡ true → (f ≡ as_fault w) ↔ ((length t ≤ 4096) × (ascii t ≡ true) × NumberWrong fits t w)
   pub no_room_when : (f.refusal ≡ no_room) ↔ (((p : Path) × (e : Bool) × (read_path t ≡ Read p e)) × (length out < 26))
   pub done : (f.refusal ≡ 0) ↔ (((p : Path) × (e : Bool) × (read_path t ≡ Read p e)) × (26 ≤ length out))

@@ -4,7 +4,7 @@ use Rattle.std.specs.Prelude.{ℕ, zero, suc, max, min, ◌+◌, ◌*◌, ◌-�
 use Rattle.text.specs.Bytes.{bytes}
 use Rattle.text.specs.Fault.{numeral_fault, numeral_place}
 use Rattle.text.specs.Number.{numeral_of}
-use Rattle.text.specs.Refusal.{not_aPath, bad_char, bad_length, bad_prefix}
+use Rattle.text.specs.Refusal.{not_a_path, bad_char, bad_length, bad_prefix}
 use Rattle.text.specs.declared.Fault.{Fault}
 use Rattle.text.specs.declared.Numeral.{Numeral}
 use Rattle.identifiers.specs.Check.{Rule, Form, plain, indexed, identifier_byte, is_value, fault_of}
@@ -256,7 +256,7 @@ shown t r k = cond (eqb k 0) (diagnosis r 0 1 unknown 0) (shown_as t r k (front 
 
 unfoldable pub diagnosis_by : List ℕ → Reading → Diagnosis
 diagnosis_by t (Read p e) = diagnosis 0 (kind_of p) 0 0 0
-diagnosis_by t (Refused w) = cond (ltb (refusal_of w) not_aPath) (diagnosis (refusal_of w) 0 0 0 0) (shown t (refusal_of w) (nearest (how_many t) (seven t)))
+diagnosis_by t (Refused w) = cond (ltb (refusal_of w) not_a_path) (diagnosis (refusal_of w) 0 0 0 0) (shown t (refusal_of w) (nearest (how_many t) (seven t)))
 
 unfoldable pub diagnosis_of : List ℕ → Diagnosis
 diagnosis_of t = diagnosis_by t (read_path t)

@@ -3,7 +3,7 @@
 use Rattle.std.specs.Prelude.{ℕ, ◌+◌, ◌-◌, Bool, true, false, cond, not, ◌&&◌, List, [], ◌∷◌, ◌++◌, map, eqb, ltb, leb, length, get_or}
 use Rattle.text.specs.Number.{numeral_of, decimal, big_endian}
 use Rattle.text.specs.Part.{every, ascii, same}
-use Rattle.text.specs.Refusal.{too_long, not_ascii, not_aPath, bad_segment, bad_kind, no_digits, not_aDigit, too_large}
+use Rattle.text.specs.Refusal.{too_long, not_ascii, not_a_path, bad_segment, bad_kind, no_digits, not_a_digit, too_large}
 use Rattle.text.specs.Put.{Wanted, refused, text, accepted, answer}
 use Rattle.text.specs.declared.Fault.{Fault}
 use Rattle.text.specs.declared.Numeral.{Numeral}
@@ -196,9 +196,9 @@ render_of k v = cond (leb 1 k && leb k 19) (limited (parts_of k) v) (refused bad
 abbrev pub refusal_of : Refusal → ℕ
 refusal_of TooLong = too_long
 refusal_of NotAscii = not_ascii
-refusal_of NotAPath = not_aPath
+refusal_of NotAPath = not_a_path
 refusal_of (WithoutDigits i) = no_digits
-refusal_of (WithoutDigit i) = not_aDigit
+refusal_of (WithoutDigit i) = not_a_digit
 refusal_of (AboveAll i) = too_large
 
 abbrev pub place_of : Refusal → ℕ

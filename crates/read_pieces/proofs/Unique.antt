@@ -6,7 +6,7 @@ use Rattle.text.specs.OutcomeLaws.{one-part}
 use Rattle.read_pieces.proofs.cutter.cut_text.Reads as cut-text
 use Rattle.read_pieces.proofs.cutter.place_at.Reads as place_at
 use Rattle.read_pieces.proofs.cutter.component_at.Reads as component-at
-use Rattle.read_pieces.proofs.cutter.is_word.Reads as is_IsWord
+use Rattle.read_pieces.proofs.cutter.is_word.Reads as is_word
 use Rattle.read_pieces.proofs.read_client.Reads as read-client
 use Rattle.read_pieces.proofs.read_connection.Reads as read-connection
 use Rattle.read_pieces.proofs.read_port.Reads as read-port
@@ -26,7 +26,7 @@ one-place_at κs a r₁ r₂ s₁ s₂ p q = p ∙ sym q
 pub one-component_at : OnePart component-at.Post
 one-component_at κs a r₁ r₂ s₁ s₂ p q = one-part p q
 
-pub one-is_word : One is_IsWord.Post
+pub one-is_word : One is_word.Post
 one-is_word κs a r₁ r₂ s₁ s₂ p q = p ∙ sym q
 
 pub one-read_client : One read-client.Post

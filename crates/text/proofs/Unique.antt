@@ -15,7 +15,7 @@ use Rattle.text.proofs.write_big_endian.Reads as write-big-endian
 use Rattle.text.proofs.read_big_endian.Reads as read-big-endian
 use Rattle.text.proofs.part.larger.Reads as larger
 use Rattle.text.proofs.part.eight.Reads as eight
-use Rattle.text.proofs.part.all_ascii.Reads as all_IsAscii
+use Rattle.text.proofs.part.all_ascii.Reads as all_ascii
 use Rattle.text.proofs.part.same_at.Reads as same_at
 use Rattle.text.proofs.part.equal.Reads as equal
 use Rattle.text.proofs.put.write_byte.Reads as write_byte
@@ -56,7 +56,7 @@ one-larger κs a r₁ r₂ s₁ s₂ p q = p ∙ sym q
 pub one-eight : One eight.Post
 one-eight κs a r₁ r₂ s₁ s₂ p q = p.0 ∙ sym q.0
 
-pub one-all_ascii : One all_IsAscii.Post
+pub one-all_ascii : One all_ascii.Post
 one-all_ascii κs a r₁ r₂ s₁ s₂ p q = p ∙ sym q
 
 pub one-same_at : One same_at.Post

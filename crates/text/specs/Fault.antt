@@ -5,13 +5,13 @@ use Rattle.text.specs.Number.{numeral_of}
 use Rattle.text.specs.declared.Fault.{Fault}
 use Rattle.text.specs.declared.Numeral.{Numeral}
 use Rattle.text.specs.declared.Numeral.TheVariants.{Value, NoDigits, NotADigit, TooLarge}
-use Rattle.text.specs.Refusal.{no_digits, not_aDigit, too_large}
+use Rattle.text.specs.Refusal.{no_digits, not_a_digit, too_large}
 
 -- the refusal of a number text
 abbrev pub numeral_fault : Numeral → ℕ
 numeral_fault (Value n) = 0
 numeral_fault (NoDigits i) = no_digits
-numeral_fault (NotADigit i) = not_aDigit
+numeral_fault (NotADigit i) = not_a_digit
 numeral_fault (TooLarge i) = too_large
 
 -- where its leftmost fault stands, counted from its own first byte

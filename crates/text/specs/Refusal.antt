@@ -13,8 +13,8 @@ abbrev pub not_ascii : ℕ
 not_ascii = 2
 
 -- no kind fits
-abbrev pub not_aPath : ℕ
-not_aPath = 3
+abbrev pub not_a_path : ℕ
+not_a_path = 3
 
 -- the output buffer is too short
 abbrev pub no_room : ℕ
@@ -69,8 +69,8 @@ abbrev pub no_digits : ℕ
 no_digits = 17
 
 -- a byte of a number text that is no digit
-abbrev pub not_aDigit : ℕ
-not_aDigit = 18
+abbrev pub not_a_digit : ℕ
+not_a_digit = 18
 
 -- a number above 18446744073709551615
 abbrev pub too_large : ℕ
@@ -106,7 +106,7 @@ sentences =
     (0, bytes "done")
     ∷ (too_long, bytes "the text, or the path that it makes, has more than 4,096 bytes: shorten it")
     ∷ (not_ascii, bytes "a byte of the text is 128 or more: write the text in ASCII alone")
-    ∷ (not_aPath, bytes "the text fits none of the nineteen kinds of path: hold its words and numbers against the table of kinds")
+    ∷ (not_a_path, bytes "the text fits none of the nineteen kinds of path: hold its words and numbers against the table of kinds")
     ∷ (no_room, bytes "the lent buffer is too short, or not of the size that a converted book has: lend one of the right size")
     ∷ (bad_char, bytes "a byte is none of A-Z, a-z, 0-9 and . _ + - # [ ] < >, which identifiers are made of: take it out")
     ∷ (bad_length, bytes "the identifier is too short or too long, or the value is empty or over 64 bytes: give one of the right length")
@@ -120,7 +120,7 @@ sentences =
     ∷ (bad_iter_key, bytes "the bytes are not iterateConsensusStates and 16 more, 38 in all: give one whole iteration key")
     ∷ (bad_block, bytes "the block is not whole iteration keys that rise, no two the same: put them in order and take out what is no key")
     ∷ (no_digits, bytes "where a number should stand there is no digit: write one, from 0 to 18446744073709551615")
-    ∷ (not_aDigit, bytes "a byte of the number is no digit: write it in the digits 0 to 9 alone")
+    ∷ (not_a_digit, bytes "a byte of the number is no digit: write it in the digits 0 to 9 alone")
     ∷ (too_large, bytes "the number is above 18446744073709551615: write a smaller one")
     ∷ (loose, bytes "a number of the text has a plus or leading zeros, so it is not its own key: give its key, or make the lenient call")
     ∷ (bad_utf8, bytes "the text is no UTF-8: give it as UTF-8 without overlong forms and surrogates")

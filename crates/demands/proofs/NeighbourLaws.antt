@@ -37,7 +37,7 @@ use Rattle.book.specs.CheckLaws.{exact-at}
 use Rattle.book_oldest.specs.PrefixLaws.{starts-own, starts-below, starts-between}
 use Rattle.iteration.specs.ReadLaws.{starts_is}
 use Rattle.demands.specs.Above.{Above, renders, Stands, Neighbours}
-use Rattle.demands.specs.BelowLaws.{cut-after, join-after, over, shown-over, one_of, state-only, five-same}
+use Rattle.demands.proofs.BelowLaws.{cut-after, join-after, over, shown-over, one_of, state-only, five-same}
 
 -- ---- the text of a pair
 abbrev revision : Carried (List ℕ) → List ℕ
