@@ -351,7 +351,7 @@ def turn(path, about):
     fn = Function(about)
     with open(path, encoding="utf-8") as f:
         items = blocks(f.read())
-    uses, helpers, invariants, named, final, unfolded = [], [], {}, {}, None, ""
+    uses, helpers, named, final, unfolded = [], [], {}, None, ""
     for item in items:
         c = code(item)
         if re.match(r"(pub )?use ", c):
