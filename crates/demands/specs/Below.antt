@@ -1,21 +1,17 @@
 -- Request L12, what lies below a path: what `hp_render` writes, with names for its arguments and buffers (PathCalls). The words are in `Above`, and
 -- the theorems in `Below` of proofs/.
 -- Assumes nothing.
-use Rattle.std.specs.Prelude.{ℕ, ◌≤◌, ◌<◌, ◌≡◌, refl, ◌⊎◌, ◌↔◌, List, ◌++◌, false, length, take}
+use Rattle.std.specs.Prelude.{ℕ, ◌≤◌, ◌≡◌, refl, List, ◌++◌, false, length, take}
 use Rattle.std.proofs.Common.{sym, ap, ◌∙◌}
-use Rattle.std.proofs.Math.Option.{some}
-use Rattle.std.proofs.Math.ListN.{get_elem?}
 use Rattle.text.specs.Bytes.{bytes}
 use Rattle.text.specs.declared.Written.{Written}
 use Rattle.text.specs.Order.{cmp, Before}
 use Rattle.text.specs.Part.{starts_with}
 use Rattle.path.specs.Kinds.{Carried}
 use Rattle.path.specs.Valid.{Valid}
-use Rattle.book_records.specs.Act.{Rec}
-use Rattle.book.specs.Book.{Current, Book}
 use Rattle.demands.specs.PathCalls.{RenderCall}
 use Rattle.demands.specs.Demand2 as demand2
-use Rattle.demands.specs.Above.{Above, renders, Upgrade, ItsTimeOrHeight, AboveUpgrade, SomeAbove, Stands, Neighbours}
+use Rattle.demands.specs.Above.{Above, renders}
 
 -- one call of `hp_render` with room enough, and the text that it wrote
 pub record Rendered (kind : ℕ) (v : Carried (List ℕ)) (t : List ℕ) : Type 0 where
