@@ -39,36 +39,27 @@ def code(block):
     return "\n".join(l for l in block.split("\n") if not l.startswith("--"))
 
 
-def arguments(text):
-    """The arguments of an application, cut at the top level."""
+def cut(text, ends):
+    """The pieces of a text between the characters that end one and stand in no bracket."""
     out, depth, cur = [], 0, ""
     for ch in text:
-        if ch in "([{":
-            depth += 1
-        elif ch in ")]}":
-            depth -= 1
-        if ch.isspace() and depth == 0:
-            if cur:
-                out.append(cur)
-            cur = ""
-        else:
-            cur += ch
-    return out + ([cur] if cur else [])
-
-
-def split_top(text, sep=","):
-    out, depth, cur = [], 0, ""
-    for ch in text:
-        if ch in "([{":
-            depth += 1
-        elif ch in ")]}":
-            depth -= 1
-        if ch == sep and depth == 0:
+        depth += (ch in "([{") - (ch in ")]}")
+        if ends(ch) and depth == 0:
             out.append(cur.strip())
             cur = ""
         else:
             cur += ch
-    return out + ([cur.strip()] if cur.strip() else [])
+    return out + [cur.strip()] * bool(cur.strip())
+
+
+def arguments(text):
+    """The arguments of an application."""
+    return [piece for piece in cut(text, str.isspace) if piece]
+
+
+def split_top(text):
+    """The components of a tuple or a list of imports."""
+    return cut(text, lambda ch: ch == ",")
 
 
 class Left(Exception):
