@@ -16,7 +16,7 @@ refusing=$(awk '/^pub (struct|enum) / { type = $3 } /^ *(pub refusal: u8|Refused
 
 # The public functions of the listed libraries, as crate::module::Type::function, with a star where one has a `requires`, and
 # how many buffers it is lent to write; in a file of their own those without `requires` that are lent one, or answer a refusal
-# number.
+# number. A bound is a `requires` too: what a generic function answers is its type's to say, and demand 1 is stated of its callers.
 : >"$work/all-free"
 sed 's/#.*//' crates.txt | awk -F: 'NF { gsub(/[ \t]/, "", $1); print $1 }' | while read -r crate; do
     [ -f "crates/$crate/src/lib.rt" ] || continue
@@ -39,7 +39,7 @@ sed 's/#.*//' crates.txt | awk -F: 'NF { gsub(/[ \t]/, "", $1); print $1 }' | wh
             inside { head = head " " $0 }
             inside && /^ *[{]$|^ *(pub .*|\).*) [{]$/ {
                 inside = 0
-                asks = head ~ / requires /
+                asks = head ~ / requires / || head ~ /^ *pub fn [a-z_]+</
                 sub(/ (requires|ensures) .*/, "", head)
                 answer = head
                 if (!sub(/.*\) -> /, "", answer)) answer = ""
@@ -66,7 +66,7 @@ holds 'docs/CONTRACTS.md shows another row than bin/contracts prints' grep -qxFf
 # What specs/ declares: names of its own, and the cases of a data type.
 sed -nE 's/^ *(abbrev |unfoldable )?pub (data |record )?([^ ]+).*/\3/p; s/^  ([a-z][^ ]*) : .*/\1/p' crates/*/specs/*.antt | sort -u >"$work/definitions"
 # The lemmas that say it of the answer and of a buffer.
-sed -n 's/^pub \([^ ]*\) : OneWith .*/\1/p' crates/*/proofs/Unique.antt | sort -u >"$work/with"
+sed -nE 's/^pub ([^ ]*) : (.* → )?OneWith .*/\1/p' crates/*/proofs/Unique.antt | sort -u >"$work/with"
 
 # Each fact is a line: 'ok', or what does not hold.
 awk -F ' *[|] *' '

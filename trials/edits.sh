@@ -28,7 +28,7 @@ place_edits() {
         function place(old,    i, text, inside, last, found) {
             for (i = 1; i <= lines[file]; i++) {
                 text = line[file, i]
-                if (fn != "" && !inside && index(text, "fn " fn "(")) {
+                if (fn != "" && !inside && (index(text, "fn " fn "(") || index(text, "fn " fn "<"))) {
                     inside = 1
                     match(text, /^ */)
                     last = substr(text, 1, RLENGTH) "}"

@@ -1,15 +1,14 @@
 -- What is printed of a line: the refusal number; or `0`, the kind, `E` or `L`, and the rendering, with single spaces. Where it
 -- is asked why, the place of the fault, if it has one, and a sentence for a customer follow the refusal number.
 -- Assumes nothing.
-use Rattle.std.specs.Prelude.{ℕ, ◌*◌, Bool, true, false, cond, List, [], ◌∷◌, ◌++◌}
+use Rattle.std.specs.Prelude.{ℕ, ◌*◌, Bool, true, false, cond, List, [], ◌∷◌, ◌++◌, Ok, Err}
 use Rattle.text.specs.Bytes.{bytes}
 use Rattle.text.specs.Number.{decimal}
 use Rattle.text.specs.Refusal.{too_long, not_ascii, not_a_path, no_digits, not_a_digit, too_large, sentence}
 use Rattle.path.specs.declared.PathView.{PathView}
 use Rattle.path.specs.declared.Refusal.{Refusal}
 use Rattle.path.specs.declared.Refusal.TheVariants.{TooLong, NotAscii, NotAPath, NoDigits, NotADigit, TooLarge}
-use Rattle.path.specs.declared.Reading.{Reading}
-use Rattle.path.specs.declared.Reading.TheVariants.{Read, Refused}
+use Rattle.path.specs.Reading.{Reading}
 use Rattle.path.specs.Kinds.{carried}
 use Rattle.path.specs.Text.{shown_of}
 use Rattle.path.specs.Read.{refusal_of, render, parts_of, render_path, read_path}
@@ -56,8 +55,8 @@ abbrev pub refusal_answer : Bool → Refusal → List ℕ
 refusal_answer why w = decimal (refusal_of w) ++ (saying why w ++ 10 ∷ [])
 
 abbrev pub printed : Bool → List ℕ → Reading → List ℕ
-printed why t (Read p e) = head (kind_of p) e ++ (render_path t p ++ 10 ∷ [])
-printed why t (Refused w) = refusal_answer why w
+printed why t (Ok r) = head (kind_of r.path) r.exact ++ (render_path t r.path ++ 10 ∷ [])
+printed why t (Err w) = refusal_answer why w
 
 unfoldable pub line_answer : Bool → List ℕ → List ℕ
 line_answer why t = printed why t (read_path t)

@@ -1,6 +1,6 @@
 -- Laws of `Answer`: the ways through it, and how long an answer is.
 -- Assumes nothing.
-use Rattle.std.specs.Prelude.{ℕ, suc, ◌+◌, ◌*◌, ◌≤◌, ◌≡◌, refl, Bool, true, false, cond, List, [], ◌∷◌, ◌++◌, map, leb, ltb, length, drop}
+use Rattle.std.specs.Prelude.{ℕ, suc, ◌+◌, ◌*◌, ◌≤◌, ◌≡◌, refl, Bool, true, false, cond, List, [], ◌∷◌, ◌++◌, map, leb, ltb, length, drop, Ok, Err, Option, Some, None}
 use Rattle.std.proofs.Common.{◌∙◌, arith, length-append, length-take, leb-true, ltb-false}
 use Rattle.std.proofs.Math.Path.{ap}
 use Rattle.text.specs.Number.{decimal, digits, width, width_by}
@@ -12,11 +12,7 @@ use Rattle.path.specs.declared.Path.{Path}
 use Rattle.path.specs.declared.PathView.{PathView}
 use Rattle.path.specs.declared.Refusal.{Refusal}
 use Rattle.path.specs.declared.Refusal.TheVariants.{TooLong, NotAscii, NotAPath, NoDigits, NotADigit, TooLarge}
-use Rattle.path.specs.declared.PathAnswer.{PathAnswer}
-use Rattle.path.specs.declared.PathAnswer.TheVariants.{Found, Nothing}
-use Rattle.path.specs.declared.Reading.{Reading}
-use Rattle.path.specs.declared.Reading.TheVariants.{Read, Refused}
-use Rattle.path.specs.declared.ViewAnswer.TheVariants.{Seen, Refused as Unread}
+use Rattle.path.specs.Reading.{Reading, Read}
 use Rattle.path.specs.Kinds.{Carried, kinds}
 use Rattle.path.specs.Read.{refusal_of, place_of, render, parts_of, texts_of, render_path, fits, fits_kind, read_kind, read_first, suits, suits_kind, kind_faults, faults_as, why_not, reading_of, read_path}
 use Rattle.path.specs.View.{kind_of, carried_of, view_of, viewed_by}
@@ -43,10 +39,10 @@ module _ (why : Bool) (t : List ℕ) (r : Reading) (by : r ≡ read_path t) (p :
 
 -- and by the flat form of its reading; or a line that was refused
 module _ (why : Bool) (t : List ℕ) where
-  pub answer-seen : (v : PathView) → Seen v ≡ viewed_by (read_path t) → line_answer why t ≡ view_answer t v
+  pub answer-seen : (v : PathView) → Ok v ≡ viewed_by (read_path t) → line_answer why t ≡ view_answer t v
   answer-seen v by = let q = is_seen (read_path t) v by in answer-view why t (read_path t) refl q.path q.mark q.read v q.shows
 
-  pub answer-unread : (w : Refusal) → Unread w ≡ viewed_by (read_path t) → line_answer why t ≡ refusal_answer why w
+  pub answer-unread : (w : Refusal) → Err w ≡ viewed_by (read_path t) → line_answer why t ≡ refusal_answer why w
   unfolding line_answer
   answer-unread w by = ap (printed why t) (is-unread (read_path t) w by)
 
@@ -103,15 +99,15 @@ why-place t (NoDigits i) h e = numbered t (NoDigits i) h (λ k. clash ⊥ cc) e
 why-place t (NotADigit i) h e = numbered t (NotADigit i) h (λ k. clash ⊥ cc) e
 why-place t (TooLarge i) h e = numbered t (TooLarge i) h (λ k. clash ⊥ cc) e
 
-place_small : (t : List ℕ) (w : Refusal) → read_path t ≡ Refused w → place_of w ≤ 4096
+place_small : (t : List ℕ) (w : Refusal) → read_path t ≡ Err w → place_of w ≤ 4096
 unfolding read_path
 place_small t w h = go (ltb 4096 (length t)) refl (ascii t) (read_first kinds t) h
   where
-    go : (l : Bool) → ltb 4096 (length t) ≡ l → (a : Bool) (x : PathAnswer) → cond l (Refused TooLong) (cond a (reading_of t x) (Refused NotAscii)) ≡ Refused w → place_of w ≤ 4096
+    go : (l : Bool) → ltb 4096 (length t) ≡ l → (a : Bool) (x : Option Path) → cond l (Err TooLong) (cond a (reading_of t x) (Err NotAscii)) ≡ Err w → place_of w ≤ 4096
     go true e a x k = let z : TooLong ≡ w = cc in rw (← z) (omega arith)
     go false e false x k = let z : NotAscii ≡ w = cc in rw (← z) (omega arith)
-    go false e true (Found p) k = clash _ cc
-    go false e true Nothing k = let z : why_not t ≡ w = cc in why-place t w (ltb-false 4096 (length t) e) z
+    go false e true (Some p) k = clash _ cc
+    go false e true None k = let z : why_not t ≡ w = cc in why-place t w (ltb-false 4096 (length t) e) z
 
 place-length : (i : ℕ) → i ≤ 4096 → length (decimal i) ≤ 4
 place-length i h = omega (arith, length-decimal i, width-within 3 i (omega arith))
@@ -131,11 +127,11 @@ saying-length true w h = reason-length w h
 saying-length false w h = omega arith
 
 -- the empty text has a refusal of one digit
-empty-refused : read_path [] ≡ Refused NotAPath
+empty-refused : read_path [] ≡ Err NotAPath
 unfolding read_path read_first read_kind fits_kind fits kinds cut_at ascii every same why_not faults_as kind_faults suits_kind suits
 empty-refused = refl
 
-number-length : (t : List ℕ) (w : Refusal) → read_path t ≡ Refused w → length (decimal (refusal_of w)) ≤ length t + 1
+number-length : (t : List ℕ) (w : Refusal) → read_path t ≡ Err w → length (decimal (refusal_of w)) ≤ length t + 1
 unfolding decimal digits width width_by
 number-length [] w h = let e = empty-refused in let z : NotAPath ≡ w = cc in rw (← z) (omega arith)
 number-length (b ∷ t) w h = omega (arith, refusal-length w)
@@ -146,13 +142,13 @@ unfolding line_answer render_path
 answer-length why t = go (read_path t) refl
   where
     go : (r : Reading) → read_path t ≡ r → length (printed why t r) ≤ 2 * (length t + 1) + extra why 1
-    go (Read p e) h =
-        let k = read_reads t p e h in
-        let m : (1 ≤ kind_of p) × (kind_of p ≤ 19) = rw k.made (made_range k.listed _) in
-        let a = length-append (head (kind_of p) e) (render_path t p ++ 10 ∷ []) in
-        let b = length-append (render_path t p) (10 ∷ []) in
-        omega (arith, length-head (kind_of p) e m.1, rendering-not-longer k, long-rendering (kind_of p) (texts_of t (carried_of p)) m.0 m.1)
-    go (Refused w) h = omega (arith, refused-length why w, number-length t w h, saying-length why w (place_small t w h))
+    go (Ok r) h =
+        let k = read_reads t r.path r.exact h in
+        let m : (1 ≤ kind_of r.path) × (kind_of r.path ≤ 19) = rw k.made (made_range k.listed _) in
+        let a = length-append (head (kind_of r.path) r.exact) (render_path t r.path ++ 10 ∷ []) in
+        let b = length-append (render_path t r.path) (10 ∷ []) in
+        omega (arith, length-head (kind_of r.path) r.exact m.1, rendering-not-longer k, long-rendering (kind_of r.path) (texts_of t (carried_of r.path)) m.0 m.1)
+    go (Err w) h = omega (arith, refused-length why w, number-length t w h, saying-length why w (place_small t w h))
 
 -- answers to more lines
 pub extra-more : (why : Bool) (n m : ℕ) → n ≤ m → extra why n ≤ extra why m

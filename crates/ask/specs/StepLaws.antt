@@ -1,11 +1,12 @@
 -- Laws of one step: a byte more, and the line that has not ended moved to the front.
 -- Assumes nothing.
-use Rattle.std.specs.Prelude.{ℕ, suc, ◌+◌, ◌-◌, ◌*◌, ◌≤◌, ◌<◌, min, ◌≡◌, refl, Bool, true, false, List, [], ◌∷◌, ◌++◌, eqb, leb, length, take, drop, get_or, set}
+use Rattle.std.specs.Prelude.{ℕ, suc, ◌+◌, ◌-◌, ◌*◌, ◌≤◌, ◌<◌, min, ◌≡◌, refl, Bool, true, false, List, [], ◌∷◌, ◌++◌, eqb, leb, length, take, drop, get_or}
+use Rattle.std.specs.List.{copy_within}
 use Rattle.std.proofs.Math.Path.{sym}
-use Rattle.std.proofs.Common.{ap, ◌∙◌, append-nil, add-one, length-take, length-drop, length-append, take_all, take-take, take-suc, get_or-drop, get_or-append-add, length-take-le, leb-true, leb-false}
+use Rattle.std.proofs.Common.{ap, ◌∙◌, append-nil, length-take, length-drop, length-append, take_all, take-take, take-suc, get_or-drop, leb-true, leb-false}
 use native.Mathlib.Omega.{arith}
 use Rattle.text.specs.Put.{put, Wrote}
-use Rattle.text.specs.PutLaws.{put-set, put_then, put-nil, put-zero, length-put, both}
+use Rattle.text.specs.PutLaws.{put-nil, both}
 use Rattle.ask.specs.Answer.{line_answer, extra}
 use Rattle.ask.specs.AnswerLaws.{answer-length, extra-more}
 use Rattle.ask.specs.Input.{stretch, last_answer, answer_at, line_after, ended_answers, unfinished, held, Stepped}
@@ -99,23 +100,7 @@ unfolding last_answer
 last_some why [] out h m r o n p = absurd (h refl)
 last_some why (b ∷ line) out h m r o n p = record { next = n; after = p; room = omega (arith, answer-length why (b ∷ line)) }
 
--- ---- bytes moved to the front, one after the other
-module _ (l₀ l : List ℕ) (start i : ℕ) (h : start + i < length l₀) (e : l ≡ put l₀ 0 (take i (drop start l₀))) where
-  front : length (take i (drop start l₀)) ≡ i
-  front = length-take-le i (drop start l₀) (simp length-drop (omega arith))
-
-  moved-byte : get_or l (start + i) 0 ≡ get_or l₀ (start + i) 0
-  moved-byte =
-      let n : start + i ≡ length (take i (drop start l₀)) + start = omega (arith, front) in
-      rw (e, put-zero, n, get_or-append-add (take i (drop start l₀)) _ start 0, get_or-drop (length (take i (drop start l₀))) l₀ start 0)
-
-  pub move-more : set l i (get_or l (start + i) 0) ≡ put l₀ 0 (take (i + 1) (drop start l₀))
-  move-more =
-      let k : i < length (drop start l₀) = simp length-drop (omega arith) in
-      let n : i < length l = omega (arith, ap length e, length-put l₀ 0 (take i (drop start l₀)) (omega (arith, front))) in
-      rw (add-one, take-suc (drop start l₀) i 0 k, get_or-drop start l₀ i 0, ← moved-byte)
-      (put_then l₀ 0 (take i (drop start l₀)) _ l _ i e (omega (arith, front)) (omega (arith, front)) (put-set l i (get_or l (start + i) 0) n))
-
+-- ---- bytes moved to the front
 move_all : (most n : ℕ) (l : List ℕ) → take (min most n) l ≡ take most (take n l)
 move_all most n l = go (leb n most) refl
   where
@@ -127,8 +112,10 @@ move_all most n l = go (leb n most) refl
         let m : min most n ≡ most = omega (arith, leb-false n most e) in
         rw m (sym (take-take most n l (omega (arith, leb-false n most e))))
 
-pub move-done : (l₀ l : List ℕ) (start end n i : ℕ) → start ≤ end → end ≤ length l₀ → n ≡ min 4097 (end - start) → i ≡ n → l ≡ put l₀ 0 (take i (drop start l₀)) → Wrote l₀ 0 (take 4097 (stretch start end l₀)) n l
-move-done l₀ l start end n i h k m q e =
-    let t : take i (drop start l₀) ≡ take 4097 (stretch start end l₀) = ap (λ j. take j (drop start l₀)) (q ∙ m) ∙ move_all 4097 (end - start) (drop start l₀) in
-    let f : length (take i (drop start l₀)) ≡ n = simp (length-take, length-drop) (omega arith) in
-    rw (← t) (record { next = omega arith; after = e; room = omega arith })
+pub moved : (l₀ l : List ℕ) (start end n : ℕ) → start ≤ end → end ≤ length l₀ → n ≡ min 4097 (end - start) → l ≡ copy_within l₀ start (start + n) 0 → Wrote l₀ 0 (take 4097 (stretch start end l₀)) n l
+unfolding put
+moved l₀ l start end n h k m e =
+    let t : take n (drop start l₀) ≡ take 4097 (stretch start end l₀) = ap (λ j. take j (drop start l₀)) m ∙ move_all 4097 (end - start) (drop start l₀) in
+    let f : length (take n (drop start l₀)) ≡ n = simp (length-take, length-drop) (omega arith) in
+    let r : start + n - start ≡ n = omega arith in
+    rw (← t) (record { next = omega arith; after = e ∙ rw (r, f); room = omega arith })

@@ -1,5 +1,5 @@
 // What the program askpath prints of what one read brings after another, and of the last line.
-ghost use Rattle.std.specs.Prelude.{◌≡◌, ◌+◌, ◌-◌, ◌*◌, ◌≤◌, ◌<◌, min, eqb, length, take, get_or};
+ghost use Rattle.std.specs.Prelude.{◌≡◌, ◌+◌, ◌-◌, ◌*◌, ◌≤◌, ◌<◌, eqb, length, take, get_or};
 ghost use Rattle.text.specs.Put.{Wrote};
 ghost use Rattle.ask.specs.Answer.{extra};
 ghost use Rattle.ask.specs.Input.{stretch, last_answer, answer_at, line_after, Stepped};
@@ -38,23 +38,13 @@ fn answer_byte(input: &[u8], start: usize, i: usize, out: &mut [u8], used: usize
     }
 }
 
-fn least(a: usize, b: usize) -> usize
-    ensures { result ≡ min a b }
-{
-    if a < b { a } else { b }
-}
-
 // Moves what stands from `start` to `end` to the front, at most 4,097 bytes of it, and answers how many those are.
 fn keep(input: &mut [u8], start: usize, end: usize) -> usize
     requires { (start ≤ end) × (end ≤ length input.old) }
     ensures { Wrote input.old 0 (take 4097 (stretch start end input.old)) result input.new }
 {
-    let n = least(4097, end - start);
-    let mut i = 0;
-    while i < n {
-        input[i] = input[start + i];
-        i += 1;
-    }
+    let n = (end - start).min(4097);
+    input.copy_within(start..start + n, 0);
     n
 }
 
@@ -66,10 +56,8 @@ pub fn answer_lines(input: &mut [u8], from: usize, end: usize, out: &mut [u8], w
     ensures { Stepped why input.old out.old from end result.held result.used input.new out.new }
 {
     let mut spot = Spot { start: 0, used: 0 };
-    let mut i = from;
-    while i < end {
+    for i in from..end {
         spot = answer_byte(input, spot.start, i, out, spot.used, why);
-        i += 1;
     }
     let used = spot.used;
     let held = keep(input, spot.start, end);
@@ -81,7 +69,7 @@ pub fn answer_last(line: &[u8], out: &mut [u8], why: bool) -> usize
     requires { 2 * (length line.now + 1) + extra why 1 ≤ length out.old }
     ensures { Wrote out.old 0 (last_answer why line.now) result out.new }
 {
-    if line.len() == 0 {
+    if line.is_empty() {
         return 0;
     }
     answer_line(out, 0, line, why)

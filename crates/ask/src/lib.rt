@@ -7,7 +7,7 @@ ghost use Rattle.std.specs.Prelude.{◌≡◌, ◌+◌, ◌≤◌, length};
 ghost use Rattle.text.specs.Put.{put};
 ghost use Rattle.ask.specs.Answer.{mark, head, view_answer, spoken, placed, reason, saying, refusal_answer, line_answer};
 
-use path::{PathView, Refusal, ViewAnswer};
+use path::{PathView, Refusal};
 use sentences::write_sentence;
 use text::refusal::{NO_DIGITS, NOT_A_DIGIT, NOT_A_PATH, NOT_ASCII, TOO_LARGE, TOO_LONG};
 
@@ -114,7 +114,7 @@ pub fn answer_line(out: &mut [u8], at: usize, line: &[u8], why: bool) -> usize
     ensures out_after { out.new ≡ put out.old at (line_answer why line.now) }
 {
     match walk::walk_view(line) {
-        ViewAnswer::Seen(v) => write_view(out, at, line, v),
-        ViewAnswer::Refused(w) => write_refusal(out, at, w, why),
+        Ok(v) => write_view(out, at, line, v),
+        Err(w) => write_refusal(out, at, w, why),
     }
 }

@@ -1,14 +1,12 @@
 -- What it is to be a book of a form: the bytes of a layout with 1 to 200 slots, whose records are in strictly rising order of key, each
 -- record fit for a slot and each key exact; with quotas that have their slots, and no owner above its own.
 -- Assumes nothing.
-use Rattle.std.specs.Prelude.{◌≡◌, Bool, List, ℕ, ◌≤◌, eqb, length}
+use Rattle.std.specs.Prelude.{◌≡◌, Bool, List, ℕ, ◌≤◌, eqb, length, Option, Some, None}
 use Rattle.book_records.specs.Records.{Key, Sorted}
 use Rattle.book_records.specs.Act.{Rec, Meaning, Answer, act, count_by, full_by}
 use Rattle.book_records.specs.Calls.{owner_of}
 use Rattle.book_form.specs.Form.{Form, AllFit, AllExact, QuotasFit, Within, layout, slot_at}
 use Rattle.book_form.specs.Version.{V3}
-use Rattle.book.specs.declared.check.BookAnswer.{BookAnswer}
-use Rattle.book.specs.declared.check.BookAnswer.TheVariants.{Count, Nothing}
 
 -- the form that the calls take and make
 abbrev pub Current : Form
@@ -53,9 +51,9 @@ abbrev pub Counts : Form → List ℕ → ℕ → Type 0
 Counts F b n = (x : Book F b) × (length x.records ≡ n)
 
 -- the answer of a check: the number of records, or that it is no book
-abbrev pub Judged : Form → List ℕ → BookAnswer → Type 0
-Judged F b (Count n) = Counts F b n
-Judged F b Nothing = Book F b → ⊥
+abbrev pub Judged : Form → List ℕ → Option ℕ → Type 0
+Judged F b (Some n) = Counts F b n
+Judged F b None = Book F b → ⊥
 
 -- the answer of a test: whether an owner's records in the book b have reached its quota
 abbrev pub FullIs : List ℕ → ℕ → Bool → Type 0

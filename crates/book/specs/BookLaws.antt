@@ -1,6 +1,6 @@
 -- Laws of books: the bytes tell the records, and what stands where.
 -- Assumes nothing.
-use Rattle.std.specs.Prelude.{◌≡◌, refl, List, [], ◌∷◌, ◌++◌, ℕ, zero, suc, ◌*◌, ◌-◌, ◌≤◌, length, take, drop}
+use Rattle.std.specs.Prelude.{◌≡◌, refl, List, [], ◌∷◌, ◌++◌, ℕ, zero, suc, ◌*◌, ◌-◌, ◌≤◌, length, take, drop, Option, Some, None}
 use Rattle.std.proofs.Common.{sym, ap, ◌∙◌, arith, take-append-drop, drop_at, length-take-le}
 use Rattle.std.proofs.Math.Option.{some}
 use Rattle.std.proofs.Math.ListN.{get_elem?}
@@ -8,8 +8,6 @@ use Rattle.text.specs.PlaceLaws.{at_lt, drop-place}
 use Rattle.book_records.specs.Act.{Rec}
 use Rattle.book_form.specs.Form.{Form, AllFit, slots, layout, zeros, slot_at, key_at}
 use Rattle.book_form.specs.FormLaws.{Lawful, few, layout_parted, length_before, length-layout, layout_inj, fit-take, slot_up, place-back}
-use Rattle.book.specs.declared.check.BookAnswer.{BookAnswer}
-use Rattle.book.specs.declared.check.BookAnswer.TheVariants.{Count, Nothing}
 use Rattle.book_form.specs.declared.Version.TheVariants.{Three}
 use Rattle.book_form.specs.VersionLaws.{version_lawful}
 use Rattle.book.specs.Book.{Current, Book, Counts, Judged}
@@ -48,11 +46,11 @@ module _ (F : Form) (L : Lawful F) where
       told = layout_inj F L x.slots x.extra y.extra x.records y.records x.fit y.fit (sym x.bytes ∙ y.bytes ∙ rw same)
 
   -- a check has one answer
-  pub one_judged : (b : List ℕ) (r q : BookAnswer) → Judged F b r → Judged F b q → r ≡ q
-  one_judged b (Count m) (Count n) x y = ap Count (sym x.1 ∙ ap length (one-book b x.0 y.0).2 ∙ y.1)
-  one_judged b (Count m) Nothing x y = absurd (y x.0)
-  one_judged b Nothing (Count n) x y = absurd (x y.0)
-  one_judged b Nothing Nothing x y = refl
+  pub one_judged : (b : List ℕ) (r q : Option ℕ) → Judged F b r → Judged F b q → r ≡ q
+  one_judged b (Some m) (Some n) x y = ap Some (sym x.1 ∙ ap length (one-book b x.0 y.0).2 ∙ y.1)
+  one_judged b (Some m) None x y = absurd (y x.0)
+  one_judged b None (Some n) x y = absurd (x y.0)
+  one_judged b None None x y = refl
 
   -- the numbers of a book with n records
   pub record Sizes (b : List ℕ) (n : ℕ) (x : Book F b) : Type 0 where

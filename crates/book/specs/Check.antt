@@ -1,6 +1,6 @@
 -- What a function has to test to tell a book: facts on positions, which hold exactly of the bytes of a book (CheckLaws).
 -- Assumes nothing.
-use Rattle.std.specs.Prelude.{◌≡◌, Bool, true, List, ℕ, ◌+◌, ◌<◌, ◌≤◌, take, drop}
+use Rattle.std.specs.Prelude.{◌≡◌, Bool, true, List, ℕ, ◌+◌, ◌<◌, ◌≤◌, take, drop, Option, Some, None}
 use Rattle.text.specs.Order.{Before}
 use Rattle.book_records.specs.Calls.{is_owner}
 use Rattle.book_form.specs.Form.{Form, QuotasFit, slot_at, key_at, SlotOk}
@@ -8,8 +8,6 @@ use Rattle.book_form.specs.declared.Version.{Version}
 use Rattle.book_form.specs.declared.Version.TheVariants.{One, Two, Three}
 use Rattle.book_form.specs.declared.Quotas.{Quotas}
 use Rattle.book_form.specs.Version.{quotas_in}
-use Rattle.book.specs.declared.check.BookAnswer.{BookAnswer}
-use Rattle.book.specs.declared.check.BookAnswer.TheVariants.{Count, Nothing}
 use Rattle.book.specs.Book.{Sized, Book}
 
 module _ (F : Form) where
@@ -27,9 +25,9 @@ module _ (F : Form) where
     pub quotas : QuotasFit F room extra
     pub front : take F.head b ≡ F.header extra n
 
-  abbrev pub Framed : List ℕ → BookAnswer → Type 0
-  Framed b (Count n) = Frame b n
-  Framed b Nothing = Book F b → ⊥
+  abbrev pub Framed : List ℕ → Option ℕ → Type 0
+  Framed b (Some n) = Frame b n
+  Framed b None = Book F b → ⊥
 
   -- slot i is a record's, and its key is exact
   pub record SlotGood (b : List ℕ) (i : ℕ) : Type 0 where

@@ -20,9 +20,7 @@ use Rattle.book_form.specs.FormLaws.{Lawful, length_before, slot_up, blank-zeros
 use Rattle.book_form.specs.Tells.{Tells}
 use Rattle.book.specs.Book.{Book, Counts}
 use Rattle.book.specs.BookLaws.{fit_at, few-records, size_is, slot-there, record_is, key_is}
-use Rattle.book.specs.Check.{Frame, Framed, SlotsGood, Rising}
-use Rattle.book.specs.declared.check.BookAnswer.{BookAnswer}
-use Rattle.book.specs.declared.check.BookAnswer.TheVariants.{Count}
+use Rattle.book.specs.Check.{Frame, SlotsGood, Rising}
 
 -- ---- facts of every record, by positions
 -- keys that rise from each to the next are in order
@@ -208,19 +206,9 @@ module _ (F : Form) (L : Lawful F) (b : List ℕ) (x : Book F b) where
       ∙ drop_at (h ++ slots F s) z (slot_at F n) (length_before F L x.extra n s x.fit) in
       ap (every (λ v. eqb v 0)) e ∙ zeros-blank (F.width * (x.slots - n))
 
--- the same, where the count is known from the header: what a test denies makes no book
-pub framed : {F : Form} {b : List ℕ} {r : BookAnswer} {n : ℕ} → Framed F b r → r ≡ Count n → Frame F b n
-framed h e = rw e at h
-
 module _ (F : Form) (L : Lawful F) (b : List ℕ) (n : ℕ) (f : Frame F b n) where
   pub records_are : (x : Book F b) → length x.records ≡ n
   records_are x = (L.header_inj x.extra f.extra (length x.records) n (sym (front-is F L b x) ∙ f.front)).1
-
-  pub frame-room : (n ≤ 200) × (slot_at F n ≤ length b)
-  frame-room = omega (arith, f.sized, f.few, slot_up F L n f.room f.few)
-
-  pub frame-head : F.head ≤ length b
-  frame-head = omega (arith, f.sized.size)
 
   pub no_good : (r : Bool) → Tells r (SlotsGood F b n) → r ≡ false → Book F b → ⊥
   no_good r t e x = t.fails e (rw (records_are x) at (book_good F L b x))

@@ -1,6 +1,6 @@
 -- The ways out of the functions that check a book of any version, one law each.
 -- Assumes nothing.
-use Rattle.std.specs.Prelude.{◌≡◌, Bool, true, false, leb, length, drop, get_or}
+use Rattle.std.specs.Prelude.{◌≡◌, Bool, true, false, leb, length, drop, get_or, Err}
 use Rattle.std.proofs.Math.Path.{refl, ap}
 use Rattle.std.proofs.Common.{sym, ◌∙◌, subst, arith, leb-true, leb-false}
 use mathlib.Core.List.{List, []}
@@ -12,8 +12,7 @@ use Rattle.text.specs.Part.{same}
 use Rattle.text.specs.PartLaws.{same-is, same_refl}
 use Rattle.path.specs.declared.Path.{Path}
 use Rattle.path.specs.declared.Refusal.{Refusal}
-use Rattle.path.specs.declared.Reading.{Reading}
-use Rattle.path.specs.declared.Reading.TheVariants.{Read, Refused}
+use Rattle.path.specs.Reading.{Reading, Read}
 use Rattle.path.specs.Read.{read_path}
 use Rattle.book_records.specs.Calls.{Exact}
 use Rattle.book_records.specs.MannerLaws.{exact_yes, exact-no, exact-refused}
@@ -24,7 +23,9 @@ use Rattle.book_form.specs.Form.{QuotasFit, layout, slot_at, key_at, SlotOk}
 use Rattle.book_form.specs.Counted.{stored}
 use Rattle.book_form.specs.Version.{number_of, owners_of, form_of, header, count_in, quotas_in, V3}
 use Rattle.book_form.specs.VersionLaws.{version_lawful, owned-key}
-use Rattle.book_form.specs.Compare.{code}
+use Rattle.book_form.specs.Compare.{ordering_of}
+use Rattle.std.specs.declared.cmp.Ordering.{Ordering as Order}
+use Rattle.std.specs.Ordering.{is_lt}
 use Rattle.book_form.specs.Tells.{Tells, tells_true, tells_false}
 use Rattle.book.specs.Book.{Book, Counts}
 use Rattle.book.specs.SizeLaws.{book-sized, book-slots}
@@ -32,6 +33,7 @@ use Rattle.book.specs.Check.{Slotted, Frame, owner_ok, SlotGood, SlotsGood, Rise
 use Rattle.book.specs.BookLaws.{few-records, sizes}
 use Rattle.book.specs.CheckLaws.{book_good, book-rising}
 use Rattle.book.specs.ShareLaws.{book-told, front-told}
+use Rattle.book.specs.FindLaws.{told_lt, told_not}
 
 -- ---- the size and the header
 module _ (v : Version) (b : List ℕ) where
@@ -84,7 +86,7 @@ tells-exact k x r p e q h s = go e (ap read_path (sym s) ∙ sym h ∙ q)
     go true w = tells_true (exact_yes k p w)
     go false w = tells_false (exact-no k p w)
 
-pub tells-refused : (k x : List ℕ) (r : Reading) (w : Refusal) → r ≡ Refused w → r ≡ read_path x → x ≡ k → Tells false (Exact k)
+pub tells-refused : (k x : List ℕ) (r : Reading) (w : Refusal) → r ≡ Err w → r ≡ read_path x → x ≡ k → Tells false (Exact k)
 tells-refused k x r w q h s = tells_false (exact-refused k w (ap read_path (sym s) ∙ sym h ∙ q))
 
 -- the key of a slot is exact where its owner is one and what stands behind it is exact
@@ -118,23 +120,18 @@ module _ (v : Version) (b : List ℕ) (i at : ℕ) (ea : at ≡ slot_at (form_of
         }
 
 -- ---- the order of two keys
-pub code_lt : (o : Ordering) → code o ≡ 0 → o ≡ Ordering.lt
-code_lt Ordering.lt h = refl
-code_lt Ordering.eq h = absurd (let z : ⊥ = omega arith in z)
-code_lt Ordering.gt h = absurd (let z : ⊥ = omega arith in z)
-
-module _ (v : Version) (b : List ℕ) (i at r : ℕ) (ea : at ≡ slot_at (form_of v) i) (e : r ≡ code (cmp ((form_of v).record_of (drop at b)).0 ((form_of v).record_of (drop (at + (form_of v).width) b)).0)) where
-  order_is : r ≡ code (cmp (key_at (form_of v) b i) (key_at (form_of v) b (i + 1)))
+module _ (v : Version) (b : List ℕ) (i at : ℕ) (r : Order) (ea : at ≡ slot_at (form_of v) i) (e : r ≡ ordering_of (cmp ((form_of v).record_of (drop at b)).0 ((form_of v).record_of (drop (at + (form_of v).width) b)).0)) where
+  order_is : r ≡ ordering_of (cmp (key_at (form_of v) b i) (key_at (form_of v) b (i + 1)))
   order_is =
       e
-      ∙ ap (λ (q : ℕ). code (cmp ((form_of v).record_of (drop q b)).0 ((form_of v).record_of (drop (at + (form_of v).width) b)).0)) ea
-      ∙ ap (λ (q : ℕ). code (cmp (key_at (form_of v) b i) ((form_of v).record_of (drop q b)).0)) (let q : at + (form_of v).width ≡ slot_at (form_of v) (i + 1) = omega (arith, ea) in q)
+      ∙ ap (λ (q : ℕ). ordering_of (cmp ((form_of v).record_of (drop q b)).0 ((form_of v).record_of (drop (at + (form_of v).width) b)).0)) ea
+      ∙ ap (λ (q : ℕ). ordering_of (cmp (key_at (form_of v) b i) ((form_of v).record_of (drop q b)).0)) (let q : at + (form_of v).width ≡ slot_at (form_of v) (i + 1) = omega (arith, ea) in q)
 
-  pub rises_yes : r ≡ 0 → Rises (form_of v) b i
-  rises_yes h = code_lt _ (sym order_is ∙ h)
+  pub rises_yes : is_lt r ≡ true → Rises (form_of v) b i
+  rises_yes h = told_lt _ r order_is h
 
-  pub rises-no : (r ≡ 0 → ⊥) → Rises (form_of v) b i → ⊥
-  rises-no h q = h (order_is ∙ ap code q)
+  pub rises-no : is_lt r ≡ false → Rises (form_of v) b i → ⊥
+  rises-no h = told_not is_lt (cmp (key_at (form_of v) b i) (key_at (form_of v) b (i + 1))) Ordering.lt r order_is h refl
 
 -- ---- by the version, as a match tells it
 module _ (v : Version) (b : List ℕ) where

@@ -1,6 +1,6 @@
 -- Where a key stands in a book, and what calls on it come to.
 -- Assumes nothing.
-use Rattle.std.specs.Prelude.{◌≡◌, refl, true, false, List, ◌∷◌, ◌++◌, length, take, drop}
+use Rattle.std.specs.Prelude.{◌≡◌, refl, Bool, true, false, List, ◌∷◌, ◌++◌, length, take, drop, Ok, Err}
 use Rattle.std.proofs.Common.{sym, ap, ◌∙◌, append_assoc, arith, length-drop, take-append-drop, drop_of_length-le, length-take-le}
 use Rattle.std.proofs.Math.Option.{none, some}
 use Prim.Native.Nat.{ℕ, suc, ◌+◌, ◌*◌, ◌-◌, ◌<◌, ◌≤◌, Ordering}
@@ -19,27 +19,36 @@ use Rattle.book_records.specs.Act.{Meaning, refuses, writes, removes, looks, say
 use Rattle.book_records.specs.Calls.{is_owner}
 use Rattle.book_form.specs.Form.{Form, AllFit, slots, zeros, layout, slot_at, key_at, inserted, removed}
 use Rattle.book_form.specs.FormLaws.{Lawful, fewer, layout-inserted, layout_parted, layout_replaced, layout-removed, fit-take, fit-drop}
-use Rattle.book_form.specs.Compare.{code}
+use Rattle.book_form.specs.Compare.{ordering_of}
+use Rattle.std.specs.declared.cmp.Ordering.{Ordering as Order}
+use Rattle.std.specs.Ordering.{is_lt, is_eq, is_gt}
 use Rattle.book.specs.Book.{Book, Counts, full_in}
 use Rattle.book.specs.BookLaws.{parted, few-records, sizes, record_is, key_is}
 use Rattle.book.specs.Find.{Placed, Spotted}
 use Rattle.book.specs.Outcome.{Changed, Found}
 use Rattle.book.specs.WayLaws.{way-refused, way_replaced, way-added, way-full, way-removed, way-absent, way-found, way-not_found}
-use Rattle.book.specs.declared.find.Spot.TheVariants.{Taken, Free}
 
--- what a comparison's number says
-pub code_gt : (o : Ordering) (r : ℕ) → r ≡ code o → r ≡ 2 → o ≡ Ordering.gt
-code_gt Ordering.lt r e h = absurd (let z : ⊥ = omega arith in z)
-code_gt Ordering.eq r e h = absurd (let z : ⊥ = omega arith in z)
-code_gt Ordering.gt r e h = refl
+-- what a test of an order as std has it says of the order
+false_true : false ≡ true → ⊥
+false_true e = let z : ◌≡◌ {A = ℕ} 0 1 = cc in omega arith
 
-pub code-eq : (o : Ordering) (r : ℕ) → r ≡ code o → r ≡ 1 → o ≡ Ordering.eq
-code-eq Ordering.lt r e h = absurd (let z : ⊥ = omega arith in z)
-code-eq Ordering.eq r e h = refl
-code-eq Ordering.gt r e h = absurd (let z : ⊥ = omega arith in z)
+pub told_lt : (o : Ordering) (r : Order) → r ≡ ordering_of o → is_lt r ≡ true → o ≡ Ordering.lt
+told_lt Ordering.lt r e h = refl
+told_lt Ordering.eq r e h = absurd (false_true (sym (ap is_lt e) ∙ h))
+told_lt Ordering.gt r e h = absurd (false_true (sym (ap is_lt e) ∙ h))
 
-pub code-not : (o p : Ordering) (r n : ℕ) → r ≡ code o → n ≡ code p → (r ≡ n → ⊥) → o ≡ p → ⊥
-code-not o p r n e f h q = h (e ∙ ap code q ∙ sym f)
+pub told_eq : (o : Ordering) (r : Order) → r ≡ ordering_of o → is_eq r ≡ true → o ≡ Ordering.eq
+told_eq Ordering.lt r e h = absurd (false_true (sym (ap is_eq e) ∙ h))
+told_eq Ordering.eq r e h = refl
+told_eq Ordering.gt r e h = absurd (false_true (sym (ap is_eq e) ∙ h))
+
+told_gt : (o : Ordering) (r : Order) → r ≡ ordering_of o → is_gt r ≡ true → o ≡ Ordering.gt
+told_gt Ordering.lt r e h = absurd (false_true (sym (ap is_gt e) ∙ h))
+told_gt Ordering.eq r e h = absurd (false_true (sym (ap is_gt e) ∙ h))
+told_gt Ordering.gt r e h = refl
+
+pub told_not : (f : Order → Bool) (o p : Ordering) (r : Order) → r ≡ ordering_of o → f r ≡ false → f (ordering_of p) ≡ true → o ≡ p → ⊥
+told_not f o p r e h t q = false_true (sym h ∙ ap f (e ∙ ap ordering_of q) ∙ t)
 
 -- what is above a key is above all keys before it
 gt_trans : (k a b : List ℕ) → Before a b → cmp k b ≡ Ordering.gt → cmp k a ≡ Ordering.gt
@@ -73,19 +82,19 @@ module _ (F : Form) (L : Lawful F) (b k : List ℕ) (n : ℕ) (hold : Counts F b
   narrow_start =
       record { order = omega arith; within = omega arith; size = (sizes F L b n hold).used; below = λ j h. absurd (let z : ⊥ = omega arith in z); rest = λ j h l. absurd (let z : ⊥ = omega arith in z) }
 
-  module _ (lo hi mid r : ℕ) (g : Narrowed F b k n lo hi) (lm : lo ≤ mid) (mh : mid < hi) (e : r ≡ code (cmp k (key_at F b mid))) where
-    pub narrow_up : r ≡ 2 → Narrowed F b k n (mid + 1) hi
+  module _ (lo hi mid : ℕ) (r : Order) (g : Narrowed F b k n lo hi) (lm : lo ≤ mid) (mh : mid < hi) (e : r ≡ ordering_of (cmp k (key_at F b mid))) where
+    pub narrow_up : is_gt r ≡ true → Narrowed F b k n (mid + 1) hi
     narrow_up h =
-        record { order = omega arith; within = g.within; size = g.size; below = λ j l. above_down mid j (omega arith) (omega (arith, g.within)) (code_gt _ r e h); rest = g.rest }
+        record { order = omega arith; within = g.within; size = g.size; below = λ j l. above_down mid j (omega arith) (omega (arith, g.within)) (told_gt _ r e h); rest = g.rest }
 
-    pub narrow_down : (r ≡ 2 → ⊥) → Narrowed F b k n lo mid
+    pub narrow_down : is_gt r ≡ false → Narrowed F b k n lo mid
     narrow_down h =
         record {
           order = lm;
           within = omega (arith, g.within);
           size = g.size;
           below = g.below;
-          rest = λ j l m q. code-not (cmp k (key_at F b mid)) Ordering.gt r 2 e refl h (above_down j mid l m q);
+          rest = λ j l m q. told_not is_gt (cmp k (key_at F b mid)) Ordering.gt r e h refl (above_down j mid l m q);
         }
 
   pub narrow-end : (lo hi : ℕ) → Narrowed F b k n lo hi → hi ≤ lo → Placed F b k n lo
@@ -217,14 +226,6 @@ pub changed-refused : (F : Form) (b : List ℕ) (n : ℕ) → Counts F b n → (
 changed-refused F b n h m r e = record { answer = says r; outcome = way-refused h.0 m r e; number = refl }
 
 -- the ways out of the search for a key
-pub free-end : (F : Form) (b k : List ℕ) (n p : ℕ) → Placed F b k n p → p ≡ n → Spotted F b k n (Free p)
-free-end F b k n p pl e = (pl, λ h. absurd (let z : ⊥ = omega arith in z))
-
-pub free_other : (F : Form) (b k : List ℕ) (n p r : ℕ) → Placed F b k n p → r ≡ code (cmp k (key_at F b p)) → (r ≡ 1 → ⊥) → Spotted F b k n (Free p)
-free_other F b k n p r pl e h = (pl, λ l. code-not (cmp k (key_at F b p)) Ordering.eq r 1 e refl h)
-
-pub taken_here : (F : Form) (b k : List ℕ) (n p r : ℕ) → Placed F b k n p → (p ≡ n → ⊥) → r ≡ code (cmp k (key_at F b p)) → r ≡ 1 → Spotted F b k n (Taken p)
-taken_here F b k n p r pl ne e h = (pl, omega (arith, pl.within), code-eq _ r e h)
 
 -- a key has one place
 pub one_placed : (F : Form) (b k : List ℕ) (n p q : ℕ) → Placed F b k n p → Placed F b k n q → p ≡ q

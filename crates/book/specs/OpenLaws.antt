@@ -1,6 +1,6 @@
 -- What follows from the opening of a call: its refusal is the call's, on every buffer, and else there is a book and a key.
 -- Assumes nothing.
-use Rattle.std.specs.Prelude.{ℕ, ◌≡◌, refl, true, false, List, ◌∷◌, length}
+use Rattle.std.specs.Prelude.{ℕ, ◌≡◌, refl, true, false, List, ◌∷◌, length, Option, Some, None}
 use Rattle.std.proofs.Common.{sym, ◌∙◌, arith}
 use borrow.Author.Tests.{eq-eqb, ne_eqb}
 use Rattle.text.specs.Put as buffer
@@ -11,8 +11,6 @@ use Rattle.book_records.proofs.TextLaws.{nobody-means}
 use Rattle.book_key.specs.Field.{made_key}
 use Rattle.book_key.specs.MadeLaws.{made-refuses, made-keyed, made-kind}
 use Rattle.book.specs.declared.Opened.{Opened}
-use Rattle.book.specs.declared.check.BookAnswer.{BookAnswer}
-use Rattle.book.specs.declared.check.BookAnswer.TheVariants.{Count, Nothing}
 use Rattle.book.specs.Book.{Current, Counts, Judged}
 use Rattle.book.specs.Open.{Opens, no_book, no_owner, this_book, key_made}
 use Rattle.book.specs.Outcome.{Changed, Found}
@@ -25,14 +23,14 @@ module _ (m : Manner) (b : List ℕ) (owner : ℕ) (t : List ℕ) where
   call q = record { manner = m; owner = owner; text = t; asked = q }
 
   -- the three ways out of it
-  module _ (a : BookAnswer) (h : Judged Current b a) (o : Opened) where
-    pub open_none : a ≡ Nothing → o.refusal ≡ 9 → Opens m b owner t o
+  module _ (a : Option ℕ) (h : Judged Current b a) (o : Opened) where
+    pub open_none : a ≡ None → o.refusal ≡ 9 → Opens m b owner t o
     open_none e n = no_book (judged-none b a h e) n
 
-    pub open_nobody : (n : ℕ) → a ≡ Count n → is_owner owner ≡ false → o.refusal ≡ 23 → Opens m b owner t o
+    pub open_nobody : (n : ℕ) → a ≡ Some n → is_owner owner ≡ false → o.refusal ≡ 23 → Opens m b owner t o
     open_nobody n e w r = no_owner (judged-holds b a n h e).0 w r
 
-    pub open-some : (n : ℕ) → a ≡ Count n → is_owner owner ≡ true → o.count ≡ n → key_made o ≡ made_key (key_for m t) → Opens m b owner t o
+    pub open-some : (n : ℕ) → a ≡ Some n → is_owner owner ≡ true → o.count ≡ n → key_made o ≡ made_key (key_for m t) → Opens m b owner t o
     open-some n e w c k = this_book (rw c (judged-holds b a n h e)) w k
 
   module _ (o : Opened) (x : Opens m b owner t o) where

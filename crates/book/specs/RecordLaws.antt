@@ -1,6 +1,6 @@
 -- What the functions on keys and on texts come to, in a book of the version that the calls take.
 -- Assumes nothing.
-use Rattle.std.specs.Prelude.{◌≡◌, Bool, true, false, ℕ, ◌+◌, ◌*◌, ◌-◌, ◌<◌, ◌≤◌, length, take, get_or}
+use Rattle.std.specs.Prelude.{◌≡◌, Bool, true, false, ℕ, ◌+◌, ◌*◌, ◌-◌, ◌<◌, ◌≤◌, length, take, get_or, Option, Some, None, Result, Ok, Err}
 use Rattle.std.proofs.Math.Path.{refl, ap}
 use Rattle.std.proofs.Common.{sym, ◌∙◌, subst, drop_at, drop-drop}
 use mathlib.Core.List.{List, [], ◌∷◌, ◌++◌}
@@ -25,10 +25,6 @@ use Rattle.book_form.specs.declared.Version.TheVariants.{Three}
 use Rattle.book_form.specs.Version.{quotas_in}
 use Rattle.book_form.specs.Tells.{Tells}
 use Rattle.book_form.specs.VersionLaws.{value-length}
-use Rattle.book.specs.declared.check.BookAnswer.{BookAnswer}
-use Rattle.book.specs.declared.check.BookAnswer.TheVariants.{Count, Nothing}
-use Rattle.book.specs.declared.find.Spot.{Spot}
-use Rattle.book.specs.declared.find.Spot.TheVariants.{Taken, Free}
 use Rattle.book.specs.Book.{Current, Book, Counts, Judged, FullIs}
 use Rattle.book.specs.BookLaws.{lawful, sizes}
 use Rattle.book.specs.Check.{Slotted}
@@ -39,13 +35,13 @@ use Rattle.book.specs.Outcome as o
 use Rattle.book.specs.ShareLaws.{book-told}
 use Rattle.book.specs.FindLaws.{slot-left, looked-absent, write_replaced, write-inserted, write-full, remove-done, remove_absent}
 
-pub spotted : (b k : List ℕ) (n : ℕ) (s : Spot) (q : Spot) → Spotted Current b k n s → s ≡ q → Spotted Current b k n q
+pub spotted : (b k : List ℕ) (n : ℕ) (s : Result ℕ ℕ) (q : Result ℕ ℕ) → Spotted Current b k n s → s ≡ q → Spotted Current b k n q
 spotted b k n s q h e = rw e at h
 
-pub judged-holds : (b : List ℕ) (a : BookAnswer) (n : ℕ) → Judged Current b a → a ≡ Count n → Counts Current b n
+pub judged-holds : (b : List ℕ) (a : Option ℕ) (n : ℕ) → Judged Current b a → a ≡ Some n → Counts Current b n
 judged-holds b a n h e = rw e at h
 
-pub judged-none : (b : List ℕ) (a : BookAnswer) → Judged Current b a → a ≡ Nothing → Book Current b → ⊥
+pub judged-none : (b : List ℕ) (a : Option ℕ) → Judged Current b a → a ≡ None → Book Current b → ⊥
 judged-none b a h e = rw e at h
 
 -- the value of a record, in its slot
@@ -80,7 +76,7 @@ module _ (b : List ℕ) (owner : ℕ) (key : List ℕ) (n p : ℕ) (h : Counts C
     pub short : length (stored b (12 + 322 * p + 1 + 256)) ≤ 64
     pub value : 12 + 322 * p + 1 + 256 + 1 + get_or b (12 + 322 * p + 1 + 256) 0 ≤ length b
 
-  pub room : Spotted Current b k n (Taken p) → Room
+  pub room : Spotted Current b k n (Ok p) → Room
   room s =
       let l : p < n = s.1 in
       let z = sizes Current lawful b n h in
@@ -94,10 +90,10 @@ module _ (b : List ℕ) (owner : ℕ) (key : List ℕ) (n p : ℕ) (h : Counts C
   told : quotas_in b ≡ x.extra
   told = book-told Three b x
 
-  pub inside : Spotted Current b k n (Taken p) → p < length x.records
+  pub inside : Spotted Current b k n (Ok p) → p < length x.records
   inside s = let l : p < n = s.1 in omega (arith, h.1)
 
-  module _ (s : Spotted Current b k n (Taken p)) where
+  module _ (s : Spotted Current b k n (Ok p)) where
     pub write-taken : (v b₁ : List ℕ) → length key ≤ 255 → ValueFits v → b₁ ≡ put b (12 + 322 * p) (Current.slot (k, v)) → Changed Current b (writes k v) 0 b₁
     write-taken v b₁ hk hv w = write_replaced Current lawful b k x p (at_place s.0) (inside s) s.2 v b₁ (fit v hk hv) w
 
@@ -105,7 +101,7 @@ module _ (b : List ℕ) (owner : ℕ) (key : List ℕ) (n p : ℕ) (h : Counts C
     remove-taken b₁ w =
         remove-done Current lawful b k x p (at_place s.0) (inside s) s.2 b₁ (w ∙ ap (λ (e : Quotas). removed Current e p (p + 1) n b) told ∙ ap (λ (m : ℕ). removed Current x.extra p (p + 1) m b) (sym h.1))
 
-  module _ (s : Spotted Current b k n (Free p)) where
+  module _ (s : Spotted Current b k n (Err p)) where
     nowhere : p < length x.records → cmp k (key_at Current b p) ≡ Ordering.eq → ⊥
     nowhere l = s.1 (omega (arith, h.1))
 

@@ -10,26 +10,15 @@ ghost use Rattle.book.specs.Book.{Judged};
 ghost use Rattle.book.specs.Check.{Slotted, Framed, owner_ok, SlotGood, SlotsGood, Rising, Parted, SharesFit, Shares};
 
 use book_form::{
-    BEFORE, HEAD, Quotas, SLOT, Version, all_zero, compare_next, count_of, head, header_ok, key_at,
-    lead, quotas_of, slot_at, slot_ok, width,
+    HEAD, Quotas, SLOT, Version, all_zero, compare_next, count_of, head, header_ok, key_at, lead,
+    quotas_of, slot_at, slot_ok, width,
 };
-use path::ViewAnswer;
-
-// A book's number of records, or that a buffer is no book.
-#[derive(Clone, Copy)]
-pub enum BookAnswer {
-    Count(usize),
-    Nothing,
-}
 
 // Whether that is an owner: 1 or 2.
 pub fn is_owner(owner: u8) -> bool
     ensures { result ≡ is_owner owner }
 {
-    if owner == 1 {
-        return true;
-    }
-    owner == 2
+    owner == 1 || owner == 2
 }
 
 // The number of slots of a book that is as long as `book`: 0 where no book is.
@@ -76,24 +65,24 @@ pub(crate) fn quotas_fit(book: &[u8], slots: usize, version: Version) -> bool
 }
 
 // The number of records by the header, where the length and the header are a book's.
-pub(crate) fn frame(book: &[u8], version: Version) -> BookAnswer
+pub(crate) fn frame(book: &[u8], version: Version) -> Option<usize>
     ensures { Framed (form_of version) book.now result }
 {
     let slots = slots_of(book, version);
     if slots == 0 {
-        return BookAnswer::Nothing;
+        return None;
     }
     if !header_ok(book, version) {
-        return BookAnswer::Nothing;
+        return None;
     }
     if !quotas_fit(book, slots, version) {
-        return BookAnswer::Nothing;
+        return None;
     }
     let n = count_of(book);
     if slots < n {
-        return BookAnswer::Nothing;
+        return None;
     }
-    BookAnswer::Count(n)
+    Some(n)
 }
 
 // Whether the key behind its length at `at` reads, and is its own rendering.
@@ -101,7 +90,7 @@ pub(crate) fn key_exact(book: &[u8], at: usize) -> bool
     requires { at + 256 ≤ length book.now }
     ensures { Tells result (Exact (stored book.now at)) }
 {
-    let ViewAnswer::Seen(v) = walk::walk_view(key_at(book, at)) else {
+    let Ok(v) = walk::walk_view(key_at(book, at)) else {
         return false;
     };
     v.exact
@@ -139,12 +128,10 @@ pub(crate) fn slots_good(book: &[u8], n: usize, version: Version) -> bool
     requires { (n ≤ 200) × (slot_at (form_of version) n ≤ length book.now) }
     ensures { Tells result (SlotsGood (form_of version) book.now n) }
 {
-    let mut i = 0;
-    while i < n {
+    for i in 0..n {
         if !slot_good(book, i, version) {
             return false;
         }
-        i += 1;
     }
     true
 }
@@ -154,12 +141,10 @@ pub(crate) fn rising(book: &[u8], n: usize, version: Version) -> bool
     requires { (n ≤ 200) × (slot_at (form_of version) n ≤ length book.now) }
     ensures { Tells result (Rising (form_of version) book.now n) }
 {
-    let mut i = 0;
-    while i + 1 < n {
-        if compare_next(book, slot_at(version, i), version) != BEFORE {
+    for i in 1..n {
+        if !compare_next(book, slot_at(version, i - 1), version).is_lt() {
             return false;
         }
-        i += 1;
     }
     true
 }
@@ -230,24 +215,22 @@ pub(crate) fn blank_after(book: &[u8], n: usize, version: Version) -> bool
 }
 
 // Whether a buffer is a book of a version, and with how many records.
-pub fn check_book(book: &[u8], version: Version) -> BookAnswer
+pub fn check_book(book: &[u8], version: Version) -> Option<usize>
     ensures { Judged (form_of version) book.now result }
 {
-    let BookAnswer::Count(n) = frame(book, version) else {
-        return BookAnswer::Nothing;
-    };
+    let n = frame(book, version)?;
     if !slots_good(book, n, version) {
-        return BookAnswer::Nothing;
+        return None;
     }
     if !rising(book, n, version) {
-        return BookAnswer::Nothing;
+        return None;
     }
     let first = first_of(book, n, version);
     if !shares_ok(book, n, first, version) {
-        return BookAnswer::Nothing;
+        return None;
     }
     if !blank_after(book, n, version) {
-        return BookAnswer::Nothing;
+        return None;
     }
-    BookAnswer::Count(n)
+    Some(n)
 }

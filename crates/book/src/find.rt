@@ -3,14 +3,7 @@ ghost use Rattle.std.specs.Prelude.{◌+◌, ◌*◌, ◌<◌, ◌∷◌};
 ghost use Rattle.book.specs.Book.{Current, Counts};
 ghost use Rattle.book.specs.Find.{Placed, Spotted};
 
-use book_form::{AFTER, HEAD, SAME, SLOT, compare_key};
-
-// The slot that holds a key, or the one that it would have.
-#[derive(Clone, Copy)]
-pub enum Spot {
-    Taken(usize),
-    Free(usize),
-}
+use book_form::{HEAD, SLOT, compare_key};
 
 // How many keys come before an owner's `key`, in a book with n records.
 pub fn keys_before(book: &[u8], n: usize, owner: u8, key: &[u8]) -> usize
@@ -21,7 +14,7 @@ pub fn keys_before(book: &[u8], n: usize, owner: u8, key: &[u8]) -> usize
     let mut hi = n;
     while lo < hi {
         let mid = lo + (hi - lo) / 2;
-        if compare_key(book, HEAD + SLOT * mid, owner, key) == AFTER {
+        if compare_key(book, HEAD + SLOT * mid, owner, key).is_gt() {
             lo = mid + 1;
         } else {
             hi = mid;
@@ -30,17 +23,15 @@ pub fn keys_before(book: &[u8], n: usize, owner: u8, key: &[u8]) -> usize
     lo
 }
 
-// The slot of an owner's `key`, in a book with n records.
-pub(crate) fn find(book: &[u8], n: usize, owner: u8, key: &[u8]) -> Spot
+// The slot that holds an owner's `key`, in a book with n records, or as an error the one that it would have.
+pub(crate) fn find(book: &[u8], n: usize, owner: u8, key: &[u8]) -> Result<usize, usize>
     requires { Counts Current book.now n }
     ensures { Spotted Current book.now (owner ∷ key.now) n result }
 {
     let p = keys_before(book, n, owner, key);
-    if p == n {
-        return Spot::Free(p);
+    if p < n && compare_key(book, HEAD + SLOT * p, owner, key).is_eq() {
+        Ok(p)
+    } else {
+        Err(p)
     }
-    if compare_key(book, HEAD + SLOT * p, owner, key) != SAME {
-        return Spot::Free(p);
-    }
-    Spot::Taken(p)
 }

@@ -13,7 +13,7 @@ ghost use Rattle.book.specs.Open.{Opens};
 use book_form::{Quotas, Version, clear, put_header};
 use book_key::{Key, key_of};
 use book_records::Manner;
-use check::{BookAnswer, check_book, is_owner, slots_of, sum_fits};
+use check::{check_book, is_owner, slots_of, sum_fits};
 use record::{look_record, put_record, take_record};
 use text::Written;
 use text::refusal::{BAD_BOOK, BAD_LENGTH, BAD_OWNER, FULL, NO_ROOM, RETIRED};
@@ -43,7 +43,7 @@ fn refused(refusal: u8) -> Opened
 pub(crate) fn open_call(manner: Manner, book: &[u8], owner: u8, text: &[u8]) -> Opened
     ensures { Opens manner book.now owner text.now result }
 {
-    let BookAnswer::Count(count) = check_book(book, Version::Three) else {
+    let Some(count) = check_book(book, Version::Three) else {
         return refused(BAD_BOOK);
     };
     if !is_owner(owner) {

@@ -1,14 +1,13 @@
 // Calls on the key of a book.
-ghost use Rattle.std.specs.Prelude.{◌≡◌, ◌+◌, ◌*◌, ◌≤◌, true, ◌∷◌, length};
+ghost use Rattle.std.specs.Prelude.{◌≡◌, ◌+◌, ◌*◌, ◌≤◌, true, ◌∷◌, length, Ok, Err};
 ghost use Rattle.book_records.specs.Calls.{ValueFits, is_owner};
 ghost use Rattle.book_records.specs.Act.{writes, removes, looks};
 ghost use Rattle.book.specs.Book.{Current, Counts, FullIs};
 ghost use Rattle.book.specs.Outcome.{Changed, Found};
 ghost use Rattle.book.specs.Find.{Spotted};
-ghost use Rattle.book.specs.declared.find.Spot.TheVariants.{Taken, Free};
 
 use crate::check::first_count;
-use crate::find::{Spot, find};
+use crate::find::find;
 use book_form::{HEAD, KEY, SLOT, close_gap, insert, put_slot, quotas_of, text_at};
 use text::Written;
 use text::put::write_text;
@@ -20,7 +19,7 @@ pub(crate) fn look_record(book: &[u8], n: usize, owner: u8, key: &[u8], out: &mu
     requires in_bounds { 64 ≤ length out.old }
     ensures { Found Current book.now (looks (owner ∷ key.now)) out.old result out.new }
 {
-    let Spot::Taken(p) = find(book, n, owner, key) else {
+    let Ok(p) = find(book, n, owner, key) else {
         return Written {
             refusal: ABSENT,
             length: 0,
@@ -55,7 +54,7 @@ pub(crate) fn replace(
     key: &[u8],
     value: &[u8],
 ) -> u8
-    requires counts { Counts Current book.old n × Spotted Current book.old (owner ∷ key.now) n (Taken p) }
+    requires counts { Counts Current book.old n × Spotted Current book.old (owner ∷ key.now) n (Ok p) }
     requires key_len_bound { (length key.now ≤ 255) × ValueFits value.now }
     ensures { Changed Current book.old (writes (owner ∷ key.now) value.now) result book.new }
 {
@@ -65,7 +64,7 @@ pub(crate) fn replace(
 
 // Puts a record in at slot p, where its owner's quota has room.
 pub(crate) fn add(book: &mut [u8], n: usize, p: usize, owner: u8, key: &[u8], value: &[u8]) -> u8
-    requires counts { Counts Current book.old n × Spotted Current book.old (owner ∷ key.now) n (Free p) × (is_owner owner ≡ true) }
+    requires counts { Counts Current book.old n × Spotted Current book.old (owner ∷ key.now) n (Err p) × (is_owner owner ≡ true) }
     requires key_len_bound { (length key.now ≤ 255) × ValueFits value.now }
     ensures { Changed Current book.old (writes (owner ∷ key.now) value.now) result book.new }
 {
@@ -83,8 +82,8 @@ pub(crate) fn put_record(book: &mut [u8], n: usize, owner: u8, key: &[u8], value
     ensures { Changed Current book.old (writes (owner ∷ key.now) value.now) result book.new }
 {
     match find(book, n, owner, key) {
-        Spot::Taken(p) => replace(book, n, p, owner, key, value),
-        Spot::Free(p) => add(book, n, p, owner, key, value),
+        Ok(p) => replace(book, n, p, owner, key, value),
+        Err(p) => add(book, n, p, owner, key, value),
     }
 }
 
@@ -93,7 +92,7 @@ pub(crate) fn take_record(book: &mut [u8], n: usize, owner: u8, key: &[u8]) -> u
     requires { Counts Current book.old n }
     ensures { Changed Current book.old (removes (owner ∷ key.now)) result book.new }
 {
-    let Spot::Taken(p) = find(book, n, owner, key) else {
+    let Ok(p) = find(book, n, owner, key) else {
         return ABSENT;
     };
     close_gap(book, p, p + 1, n);

@@ -1,14 +1,13 @@
 -- Old states cleared out: of an owner's client the states with the greatest revisions stay, as many as are to be kept, and what has a
 -- revision below theirs goes, processed times and heights too.
 -- Assumes nothing.
-use Rattle.std.specs.Prelude.{◌≡◌, refl, Bool, true, false, cond, ◌&&◌, List, ℕ, eqb, leb, drop}
+use Rattle.std.specs.Prelude.{◌≡◌, refl, Bool, true, false, cond, ◌&&◌, List, ℕ, eqb, leb, drop, Ok, Err}
 use Rattle.text.specs.Part.{same}
 use Rattle.text.specs.Refusal.{bad_book, bad_owner}
 use Rattle.identifiers.specs.Check.{check_of}
 use Rattle.identifiers.specs.Check as check
 use Rattle.path.specs.declared.Revision.{Revision}
-use Rattle.path.specs.declared.Reading.{Reading}
-use Rattle.path.specs.declared.Reading.TheVariants.{Read, Refused}
+use Rattle.path.specs.Reading.{Reading}
 use Rattle.path.specs.Read.{read_path}
 use Rattle.path.specs.Revision.{revision, below}
 use Rattle.path.specs.Text.{shown_of}
@@ -30,8 +29,8 @@ abbrev pub role_at : ℕ → Revision → Role
 role_at kind p = cond (eqb kind 5) (State p) (cond (eqb kind 6) (Beside p) (cond (eqb kind 7) (Beside p) Other))
 
 abbrev pub role_by : List ℕ → List ℕ → Reading → Role
-role_by client k (Read p e) = cond (same (shown_of k (carried_of p).first) client) (role_at (kind_of p) (revision (carried_of p).a (carried_of p).b)) Other
-role_by client k (Refused r) = Other
+role_by client k (Ok r) = cond (same (shown_of k (carried_of r.path).first) client) (role_at (kind_of r.path) (revision (carried_of r.path).a (carried_of r.path).b)) Other
+role_by client k (Err r) = Other
 
 unfoldable pub role_of : List ℕ → List ℕ → Role
 role_of client k = role_by client k (read_path k)

@@ -1,6 +1,6 @@
 -- What is noted of the slots of a book for a client: a kind, a number and a height for each, and kind 0 where a slot is none of the client's.
 -- Assumes nothing.
-use Rattle.std.specs.Prelude.{◌≡◌, true, false, List, [], ◌∷◌, ◌++◌, ℕ, ◌+◌, ◌*◌, ◌^◌, ◌≤◌, ◌<◌, length, drop, get_or}
+use Rattle.std.specs.Prelude.{◌≡◌, true, false, List, [], ◌∷◌, ◌++◌, ℕ, ◌+◌, ◌*◌, ◌^◌, ◌≤◌, ◌<◌, length, drop, get_or, Option, Some, None}
 use Rattle.std.proofs.Math.Option.{some}
 use Rattle.std.proofs.Math.ListN.{get_elem?}
 use Rattle.text.specs.Part.{starts_with}
@@ -29,9 +29,10 @@ revision_at ns hs j = revision (get_or ns j 0) (get_or hs j 0)
 abbrev pub note_at : List ℕ → List ℕ → List ℕ → ℕ → Role
 note_at ks ns hs j = role_at (get_or ks j 0) (revision_at ns hs j)
 
--- where kind 5 is noted of a text, it has R-h in plain digits from `at` to its end
-abbrev pub PlainState : List ℕ → ℕ → ℕ → ℕ → ℕ → Type 0
-PlainState t at k a b = k ≡ 5 → (drop at t ≡ texts.revision a b []) × (a < 2 ^ 64) × (b < 2 ^ 64)
+-- where a revision is given for a text, the text has it as R-h in plain digits from `at` to its end
+abbrev pub PlainState : List ℕ → ℕ → Option Revision → Type 0
+PlainState t at (Some p) = (drop at t ≡ texts.revision p.number.0 p.height.0 []) × (p.number.0 < 2 ^ 64) × (p.height.0 < 2 ^ 64)
+PlainState t at None = Unit {0}
 
 -- nothing is noted
 abbrev pub Blank : List ℕ → Type 0

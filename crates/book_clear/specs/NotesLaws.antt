@@ -3,30 +3,23 @@
 use Rattle.std.specs.Prelude.{◌≡◌, refl, Bool, true, false, ◌&&◌, List, [], ◌∷◌, ◌++◌, ℕ, zero, suc, ◌+◌, ◌*◌, ◌≤◌, ◌<◌, eqb, length, get_or, set, replicate}
 use Rattle.std.proofs.Common.{sym, ◌∙◌, arith, get_or-set_same, get_or-set_other, eqb-true}
 use Rattle.std.proofs.Math.Path.{ap}
-use Rattle.std.proofs.Math.Option.{some}
 use Rattle.std.proofs.Math.Decide.{dec_lt}
-use Rattle.std.proofs.Math.ListN.{get_elem?}
 use Rattle.text.specs.Part.{starts_with}
 use Rattle.text.specs.PartLaws.{and_left, and_right}
-use Rattle.text.specs.Order.{cmp}
 use Rattle.text.specs.PlaceLaws.{at_some, at_lt}
 use Rattle.identifiers.specs.Check.{check_of}
 use Rattle.identifiers.specs.Check as check
 use Rattle.path.specs.Revision.{revision}
 use Rattle.writers.specs.Texts.{parent_text}
-use Rattle.book_records.specs.Act.{Rec}
 use Rattle.book_records.specs.Calls.{Exact, Owned}
 use Rattle.book_form.specs.Form.{key_at}
-use Rattle.book_form.specs.Counted.{stored}
 use Rattle.book_form.specs.VersionLaws.{owned-key}
-use Rattle.book.specs.Book.{Current, Book, Counts}
+use Rattle.book.specs.Book.{Current, Counts}
 use Rattle.book.specs.BookLaws.{lawful, one-book, sizes, key_is}
 use Rattle.book.specs.CheckLaws.{exact-at}
 use Rattle.book.specs.Find.{Placed}
 use Rattle.book.specs.FindLaws.{above_down}
 use Rattle.book_oldest.specs.PrefixLaws.{starts-below}
-use Rattle.book_clear.specs.declared.role.Role.{Role}
-use Rattle.book_clear.specs.declared.role.Role.TheVariants.{Other}
 use Rattle.book_clear.specs.Clear.{role_at, role_of, own_role}
 use Rattle.book_clear.specs.Notes.{stem, revision_at, note_at, Blank, Stretched, stored_at, Own, NotedFrom, Noted}
 use Rattle.book_clear.specs.StemLaws.{stem-before, stem-between}

@@ -1,9 +1,8 @@
 -- Laws of what a key is to a client.
 -- Assumes nothing.
-use Rattle.std.specs.Prelude.{◌≡◌, refl, Bool, true, false, cond, ◌&&◌, List, [], ◌∷◌, ◌++◌, ℕ, ◌+◌, ◌-◌, ◌≤◌, ◌<◌, eqb, length, take, drop}
+use Rattle.std.specs.Prelude.{◌≡◌, refl, Bool, true, false, cond, ◌&&◌, List, [], ◌∷◌, ◌++◌, ℕ, ◌+◌, ◌-◌, ◌≤◌, ◌<◌, eqb, length, take, drop, Ok, Err}
 use Rattle.std.proofs.Math.Path.{sym, ap}
-use Rattle.std.proofs.Common.{◌∙◌, append_assoc, arith, length-drop, length-take-le, take_at, drop_at, eqb-true, eq-eqb, ne_eqb}
-use Rattle.std.proofs.Math.Decide.{dec_lt}
+use Rattle.std.proofs.Common.{◌∙◌, append_assoc, arith, length-drop, length-take-le, take_at, eqb-true, eq-eqb, ne_eqb}
 use Rattle.std.proofs.lemmas.Bool.{eqb-false}
 use Rattle.text.specs.Bytes.{bytes}
 use Rattle.text.specs.Part.{same, starts_with}
@@ -13,8 +12,7 @@ use Rattle.path.specs.declared.Path.{Path}
 use Rattle.path.specs.declared.PathView.{PathView}
 use Rattle.path.specs.declared.Refusal.{Refusal}
 use Rattle.path.specs.declared.Revision.{Revision}
-use Rattle.path.specs.declared.Reading.{Reading}
-use Rattle.path.specs.declared.Reading.TheVariants.{Read, Refused}
+use Rattle.path.specs.Reading.{Reading, Read}
 use Rattle.path.specs.Read.{read_path, render_path, render, parts_of, texts_of, key_of, key_by}
 use Rattle.path.specs.Text.{shown_of, part_of}
 use Rattle.path.specs.BackLaws.{read_reads}
@@ -27,7 +25,6 @@ use Rattle.writers.specs.Texts as texts
 use Rattle.writers.specs.TextLaws.{client-text}
 use Rattle.book_records.specs.Calls.{Exact, Owned}
 use Rattle.book_oldest.specs.PrefixLaws.{starts-own}
-use Rattle.book_clear.specs.declared.role.Role.{Role}
 use Rattle.book_clear.specs.declared.role.Role.TheVariants.{State, Beside, Other}
 use Rattle.book_clear.specs.Clear.{role_at, role_by, role_of, own_role}
 use Rattle.book_clear.specs.Notes.{stem}
@@ -109,7 +106,7 @@ pub role-by : (client k : List ℕ) (p : Path) (x : Bool) → read_path k ≡ Re
 unfolding role_of
 role-by client k p x q = ap (role_by client k) q
 
-pub role-refused : (client k : List ℕ) (w : Refusal) → read_path k ≡ Refused w → Other ≡ role_of client k
+pub role-refused : (client k : List ℕ) (w : Refusal) → read_path k ≡ Err w → Other ≡ role_of client k
 unfolding role_of
 role-refused client k w q = sym (ap (role_by client k) q)
 
@@ -128,14 +125,14 @@ pub role-nowhere : (client k : List ℕ) → Exact k → starts_with (stem clien
 role-nowhere client k e f = go (read_path k) refl
   where
     go : (r : Reading) → read_path k ≡ r → role_of client k ≡ Other
-    go (Refused w) q = sym (role-refused client k w q)
-    go (Read p x) q =
-        role-by client k p x q
-        ∙ refuted (kind_of p) (revision (carried_of p).a (carried_of p).b) (same (shown_of k (carried_of p).first) client)
+    go (Err w) q = sym (role-refused client k w q)
+    go (Ok r) q =
+        role-by client k r.path r.exact q
+        ∙ refuted (kind_of r.path) (revision (carried_of r.path).a (carried_of r.path).b) (same (shown_of k (carried_of r.path).first) client)
         (λ l m s.
-        let t = consensus-key k e p x q l m in
-        let c : part_of k (carried_of p).first ≡ client = sym (shown-is k e p x q) ∙ same-is (shown_of k (carried_of p).first) client s in
-        let b = begins-own client k (carried_of p).a (carried_of p).b t.0 (t.1 ∙ ap (λ (z : List ℕ). consensus_text z (carried_of p).a (carried_of p).b t.0) c) in
+        let t = consensus-key k e r.path r.exact q l m in
+        let c : part_of k (carried_of r.path).first ≡ client = sym (shown-is k e r.path r.exact q) ∙ same-is (shown_of k (carried_of r.path).first) client s in
+        let b = begins-own client k (carried_of r.path).a (carried_of r.path).b t.0 (t.1 ∙ ap (λ (z : List ℕ). consensus_text z (carried_of r.path).a (carried_of r.path).b t.0) c) in
         let y : true ≡ false = sym b ∙ f in
         let z : ◌≡◌ {A = ℕ} 0 1 = cc in
         omega arith)

@@ -1,6 +1,6 @@
 -- Keys that begin with a text and one byte stand between that byte and the next one.
 -- Assumes nothing.
-use Rattle.std.specs.Prelude.{◌≡◌, refl, false, ◌&&◌, ℕ, ◌+◌, ◌<◌, eqb}
+use Rattle.std.specs.Prelude.{◌≡◌, ◌&&◌, ℕ, ◌+◌, eqb}
 use Rattle.std.proofs.Common.{sym, ◌∙◌, arith}
 use Rattle.std.proofs.Math.Bool.{true}
 use mathlib.Core.List.{List, [], ◌∷◌, ◌++◌}

@@ -1,22 +1,20 @@
 -- Laws of the whole clearing.
 -- Assumes nothing.
-use Rattle.std.specs.Prelude.{◌≡◌, refl, Bool, true, false, cond, List, [], ◌∷◌, ℕ, zero, suc, ◌+◌, ◌<◌, eqb, length}
+use Rattle.std.specs.Prelude.{◌≡◌, refl, Bool, true, false, List, [], ◌∷◌, ℕ, zero, suc, ◌+◌, length}
 use Rattle.std.proofs.Math.Path.{sym, ap}
-use Rattle.std.proofs.Common.{◌∙◌, add-one, arith}
+use Rattle.std.proofs.Common.{◌∙◌, arith}
 use Rattle.std.proofs.Math.Option.{some}
 use Rattle.std.proofs.Math.ListN.{get_elem?}
 use borrow.Author.Tests.{eq-eqb, ne_eqb}
 use Rattle.identifiers.specs.Check.{check_of}
 use Rattle.identifiers.specs.Check as check
 use Rattle.runs.specs.Total.{total}
-use Rattle.runs.specs.Without.{without}
 use Rattle.path.specs.declared.Revision.{Revision}
 use Rattle.path.specs.Revision.{below}
 use Rattle.book_records.specs.Act.{Rec}
 use Rattle.book_records.specs.Calls.{is_owner}
 use Rattle.book.specs.Book.{Current, Book, Counts, bytes_with}
 use Rattle.book.specs.BookLaws.{lawful, one-book}
-use Rattle.book_clear.specs.declared.Count.{Count}
 use Rattle.book_clear.specs.declared.role.Role.{Role}
 use Rattle.book_clear.specs.declared.role.Role.TheVariants.{State, Beside, Other}
 use Rattle.book_clear.specs.declared.states.Stay.{Stay}

@@ -13,7 +13,7 @@ ghost use Rattle.book.specs.Book.{Current, Counts};
 ghost use Rattle.book_clear.specs.Clear.{Cleared};
 ghost use Rattle.book_clear.specs.Whole.{ClearedOf};
 
-use book::check::{BookAnswer, check_book, is_owner};
+use book::check::{check_book, is_owner};
 use book_form::Version;
 use states::stay_of;
 use stretch::{note_slots, stretch_of};
@@ -56,7 +56,7 @@ fn clear_client(book: &mut [u8], n: usize, owner: u8, client: &[u8], keep: u64) 
 pub fn clear(book: &mut [u8], owner: u8, client: &[u8], keep: u64) -> Count
     ensures { Cleared Current book.old owner client.now keep result book.new }
 {
-    let BookAnswer::Count(n) = check_book(book, Version::Three) else {
+    let Some(n) = check_book(book, Version::Three) else {
         return Count {
             refusal: BAD_BOOK,
             count: 0,

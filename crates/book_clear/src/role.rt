@@ -8,7 +8,7 @@ ghost use Rattle.book_records.specs.Calls.{Exact};
 ghost use Rattle.book_clear.specs.Clear.{role_at, role_of};
 ghost use Rattle.book_clear.specs.Notes.{stem, PlainState, revision_at, note_at};
 
-use path::{Revision, RevisionHeight, RevisionNumber, ViewAnswer};
+use path::{Revision, RevisionHeight, RevisionNumber};
 use walk_scan::number::number;
 
 // A state of the client, the processed time or height of one, or neither.
@@ -37,56 +37,40 @@ fn no_note() -> Note
     }
 }
 
-// What is to be noted of a key that has R-h in plain digits from `at` to its end, where a client's stem is ahead of them: a state. Kind
-// 0 of any other.
-fn note_state(key: &[u8], at: usize) -> Note
+// The revision of a key that has R-h in plain digits from `at` to its end: a state, where a client's stem is ahead of them.
+fn plain_state(key: &[u8], at: usize) -> Option<Revision>
     requires { at ≤ length key.now }
-    ensures { PlainState key.now at result.kind result.number result.height }
+    ensures { PlainState key.now at result }
 {
-    let r = number(key, at);
+    let r = number(key, at)?;
     if !r.plain {
-        return no_note();
+        return None;
     }
     let dash = r.end;
-    if dash == key.len() {
-        return no_note();
+    if dash == key.len() || key[dash] != b'-' {
+        return None;
     }
-    if key[dash] != b'-' {
-        return no_note();
+    let h = number(key, dash + 1)?;
+    if !h.plain || h.end != key.len() {
+        return None;
     }
-    let h = number(key, dash + 1);
-    if !h.plain {
-        return no_note();
-    }
-    if h.end != key.len() {
-        return no_note();
-    }
-    Note {
-        kind: 5,
-        number: r.value,
-        height: h.value,
-    }
+    Some(Revision {
+        number: RevisionNumber(r.value),
+        height: RevisionHeight(h.value),
+    })
 }
 
-// The same of any exact key that begins so, by the walk. A client that has as many bytes is the same then.
+// What is to be noted of an exact key that begins as the client's do, by the walk. A client that has as many bytes is the same then.
 fn note_walked(key: &[u8], client: &[u8]) -> Note
     requires { Exact key.now × (starts_with (stem client.now) key.now ≡ true) }
     ensures { role_at result.kind (revision result.number result.height) ≡ role_of client.now key.now }
 {
-    let ViewAnswer::Seen(v) = walk::walk_view(key) else {
-        return Note {
-            kind: 0,
-            number: 0,
-            height: 0,
-        };
+    let Ok(v) = walk::walk_view(key) else {
+        return no_note();
     };
     let first = v.first;
     if first.len != client.len() {
-        return Note {
-            kind: 0,
-            number: 0,
-            height: 0,
-        };
+        return no_note();
     }
     Note {
         kind: v.kind,
@@ -95,16 +79,19 @@ fn note_walked(key: &[u8], client: &[u8]) -> Note
     }
 }
 
-// What is to be noted of an exact key that begins as the client's do: most are states, whose numbers are all that is read.
+// The same: most are states, whose numbers are all that is read.
 pub(crate) fn note_of(key: &[u8], client: &[u8]) -> Note
     requires { Exact key.now × (starts_with (stem client.now) key.now ≡ true) × (check_of check.client client.now ≡ 0) }
     ensures { role_at result.kind (revision result.number result.height) ≡ role_of client.now key.now }
 {
-    let state = note_state(key, client.len() + 25);
-    if state.kind == 5 {
-        return state;
+    match plain_state(key, client.len() + 25) {
+        Some(state) => Note {
+            kind: 5,
+            number: state.number.0,
+            height: state.height.0,
+        },
+        None => note_walked(key, client),
     }
-    note_walked(key, client)
 }
 
 // The revision that is noted of slot i.

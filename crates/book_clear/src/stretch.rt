@@ -1,5 +1,5 @@
 // The slots of a client's states, times and heights, which stand together in key order.
-ghost use Rattle.std.specs.Prelude.{◌≡◌, ◌∷◌, [], ◌++◌, ◌+◌, ◌≤◌, ◌<◌, length, set};
+ghost use Rattle.std.specs.Prelude.{◌≡◌, ◌∷◌, [], ◌++◌, ◌+◌, ◌≤◌, length};
 ghost use Rattle.text.specs.Put.{Wrote};
 ghost use Rattle.writers.specs.Texts.{parent_text};
 ghost use Rattle.book.specs.Book.{Current, Counts};
@@ -35,19 +35,11 @@ pub(crate) fn stretch_of(book: &[u8], n: usize, owner: u8, client: &[u8]) -> Str
     ensures { Stretched book.now owner client.now n result.from result.stop }
 {
     let mut field = [0; 89];
-    let slash = write_stem(&mut field, client, 47);
+    let slash = write_stem(&mut field, client, b'/');
     let from = keys_before(book, n, owner, &field[0..slash]);
-    let zero = write_stem(&mut field, client, 48);
+    let zero = write_stem(&mut field, client, b'0');
     let stop = keys_before(book, n, owner, &field[0..zero]);
     Stretch { from, stop }
-}
-
-// Puts a number in the place of another.
-fn put_number(list: &mut [u64], i: usize, v: u64)
-    requires { i < length list.old }
-    ensures { list.new ≡ set list.old i v }
-{
-    list[i] = v;
 }
 
 // Notes what the slots from `from` up to `stop` are to the client.
@@ -66,12 +58,10 @@ pub(crate) fn note_slots(
     ensures noted_from { NotedFrom book.now client.now from stop kinds.new numbers.new heights.new }
     ensures kinds_len_2 { (length kinds.new ≡ 200) × (length numbers.new ≡ 200) × (length heights.new ≡ 200) }
 {
-    let mut i = from;
-    while i < stop {
+    for i in from..stop {
         let note = note_of(key_at(book, HEAD + SLOT * i + 1), client);
-        write_byte(kinds, i, note.kind);
-        put_number(numbers, i, note.number);
-        put_number(heights, i, note.height);
-        i += 1;
+        kinds[i] = note.kind;
+        numbers[i] = note.number;
+        heights[i] = note.height;
     }
 }

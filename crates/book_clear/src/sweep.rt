@@ -54,14 +54,12 @@ pub(crate) fn sweep(
     requires kinds_len { (length kinds.now ≡ 200) × (length numbers.now ≡ 200) × (length heights.now ≡ 200) }
     ensures { Swept book.old kinds.now numbers.now heights.now stay result book.new }
 {
-    let mut i = 0;
     let mut kept = 0;
-    while i < n {
+    for i in 0..n {
         if !leaves(stay, role_at(kinds, numbers, heights, i)) {
             move_down(book, i, kept);
             kept += 1;
         }
-        i += 1;
     }
     close_gap(book, kept, n, n);
     n - kept

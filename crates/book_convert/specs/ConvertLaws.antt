@@ -1,6 +1,6 @@
 -- The ways out of the conversions, one law each, that each has one outcome, and that it is a book.
 -- Assumes nothing.
-use Rattle.std.specs.Prelude.{◌≡◌, refl, List, [], ◌∷◌, ◌++◌, map, ℕ, zero, suc, ◌+◌, ◌*◌, ◌<◌, ◌≤◌, length, take, drop}
+use Rattle.std.specs.Prelude.{◌≡◌, refl, List, [], ◌∷◌, ◌++◌, map, ℕ, zero, suc, ◌+◌, ◌<◌, ◌≤◌, length, take, drop, Option, Some, None}
 use Rattle.std.proofs.Common.{sym, ap, ◌∙◌, arith, drop-drop}
 use Rattle.std.proofs.Math.Option.{some}
 use Rattle.std.proofs.Math.ListN.{get_elem?}
@@ -14,8 +14,6 @@ use Rattle.book_form.specs.FormLaws.{Lawful, slot_up}
 use Rattle.book_form.specs.Counted.{counted, stored}
 use Rattle.book_form.specs.Version.{slot, V1, V2}
 use Rattle.book_form.specs.VersionLaws.{version_lawful}
-use Rattle.book.specs.declared.check.BookAnswer.{BookAnswer}
-use Rattle.book.specs.declared.check.BookAnswer.TheVariants.{Count, Nothing}
 use Rattle.book.specs.Book.{Book, Counts, Judged}
 use Rattle.book.specs.BookLaws.{one-book, fit_at, record_is, sizes}
 use Rattle.book.specs.Check.{Slotted}
@@ -99,19 +97,16 @@ module _ (F : Form) (L : Lawful F) (G : Form) (M : Lawful G) (old new : List ℕ
     copy_done i ei b c x = c x ∙ written_all G M x.slots e (map g x.records) i (ei ∙ sym (length-map x.records g ∙ same_count x))
 
 -- ---- before that
-pub no-older : (F : Form) (old : List ℕ) (a : BookAnswer) → Judged F old a → a ≡ Nothing → Book F old → ⊥
+pub no-older : (F : Form) (old : List ℕ) (a : Option ℕ) → Judged F old a → a ≡ None → Book F old → ⊥
 no-older F old a j e = rw e at j
 
-pub older : (F : Form) (old : List ℕ) (a : BookAnswer) (n : ℕ) → Judged F old a → a ≡ Count n → Counts F old n
+pub older : (F : Form) (old : List ℕ) (a : Option ℕ) (n : ℕ) → Judged F old a → a ≡ Some n → Counts F old n
 older F old a n j e = rw e at j
 
 -- the book's slots, as they are counted
 module _ (F : Form) (L : Lawful F) (old : List ℕ) (n : ℕ) (h : Counts F old n) (C : ℕ) (s : Slotted F old C) where
   pub slots_are : C ≡ h.0.slots
   slots_are = book-slots F L old C s h.0
-
-  pub slots-most : C ≤ 200
-  slots-most = omega (arith, slots_are, h.0.most)
 
   module _ (G : Form) (new : List ℕ) (at : ℕ) (ea : at ≡ slot_at G C) where
     pub size-other : (length new ≡ at → ⊥) → length new ≡ slot_at G h.0.slots → ⊥

@@ -6,7 +6,7 @@ ghost use Rattle.book_form.specs.Version.{V1, V2, V3};
 ghost use Rattle.book.specs.Outcome.{quotas};
 ghost use Rattle.book_convert.specs.Convert.{same, firsts, Converted, ConvertedOwners, Ready, CopiedAs};
 
-use book::check::{BookAnswer, check_book, slots_of, sum_fits};
+use book::check::{check_book, slots_of, sum_fits};
 use book_form::{
     KEY, Quotas, Version, clear, key_at, put_fields, put_front, put_header, put_slot, slot_at,
     text_at,
@@ -21,8 +21,7 @@ fn copy_records(old: &[u8], n: usize, new: &mut [u8])
     let size = new.len();
     clear(new, 0, size);
     put_front(new, Version::Two, n);
-    let mut i = 0;
-    while i < n {
+    for i in 0..n {
         let at = slot_at(Version::One, i);
         let start = at + KEY;
         let end = start + 32;
@@ -32,7 +31,6 @@ fn copy_records(old: &[u8], n: usize, new: &mut [u8])
             key_at(old, at),
             &old[start..end],
         );
-        i += 1;
     }
 }
 
@@ -45,8 +43,7 @@ fn copy_owned(old: &[u8], count: usize, new: &mut [u8], quotas: Quotas)
     let size = new.len();
     clear(new, 0, size);
     put_header(new, count, quotas);
-    let mut i = 0;
-    while i < count {
+    for i in 0..count {
         let at = slot_at(Version::Two, i);
         put_slot(
             new,
@@ -55,7 +52,6 @@ fn copy_owned(old: &[u8], count: usize, new: &mut [u8], quotas: Quotas)
             key_at(old, at),
             text_at(old, at + KEY),
         );
-        i += 1;
     }
 }
 
@@ -63,7 +59,7 @@ fn copy_owned(old: &[u8], count: usize, new: &mut [u8], quotas: Quotas)
 pub fn convert(old: &[u8], new: &mut [u8]) -> u8
     ensures { Converted old.now new.old result new.new }
 {
-    let BookAnswer::Count(n) = check_book(old, Version::One) else {
+    let Some(n) = check_book(old, Version::One) else {
         return BAD_BOOK;
     };
     if new.len() != slot_at(Version::Two, slots_of(old, Version::One)) {
@@ -78,7 +74,7 @@ pub fn convert(old: &[u8], new: &mut [u8]) -> u8
 pub fn convert_owners(old: &[u8], new: &mut [u8], quota1: u16, quota2: u16) -> u8
     ensures { ConvertedOwners old.now new.old (quotas quota1 quota2) result new.new }
 {
-    let BookAnswer::Count(n) = check_book(old, Version::Two) else {
+    let Some(n) = check_book(old, Version::Two) else {
         return BAD_BOOK;
     };
     let slots = slots_of(old, Version::Two);

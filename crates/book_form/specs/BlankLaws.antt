@@ -1,8 +1,8 @@
 -- A test of every byte, made part by part, and of a short part by the or of its bytes.
 -- Assumes nothing.
-use Rattle.std.specs.Prelude.{◌≡◌, List, Bool, ◌&&◌, ℕ, suc, ◌+◌, ◌-◌, ◌≤◌, ◌<◌, length, take, drop, get_or}
+use Rattle.std.specs.Prelude.{◌≡◌, List, Bool, ◌&&◌, ℕ, suc, ◌+◌, ◌-◌, ◌≤◌, ◌<◌, length, take, drop, get_or, ◌++◌}
 use Rattle.std.proofs.Math.Path.{refl}
-use Rattle.std.proofs.Common.{sym, ap, ◌∙◌, arith, length-drop, take-append-drop, drop_of_length-le, drop-cons, drop-drop, take_all, eq-eqb, ne_eqb, eqb-true}
+use Rattle.std.proofs.Common.{sym, ap, ◌∙◌, arith, length-drop, take-append-drop, drop_of_length-le, drop-cons, drop-drop, drop_at, length-append, take_all, eq-eqb, ne_eqb, eqb-true}
 use Rattle.std.proofs.Math.Bool.{true, false}
 use Rattle.std.proofs.Math.Numerals.{add-one}
 use Rattle.std.specs.Int.Bits.{bit_or, or_zero_l, or_add_and}
@@ -58,15 +58,35 @@ module _ (f : ℕ → Bool) (s : List ℕ) (i m : ℕ) where
       ∙ every_append f (take m (drop i s)) (drop m (drop i s))
       ∙ ap (λ (l : List ℕ). every f (take m (drop i s)) && every f l) (drop-drop m i s)
 
-  pub part-stop : every f s ≡ every f (drop i s) → every f (take m (drop i s)) ≡ false → every f s ≡ false
-  part-stop e h = e ∙ every_split ∙ rw h
-
-  pub part-more : every f s ≡ every f (drop i s) → every f (take m (drop i s)) ≡ true → (k : ℕ) → k ≡ i + m → every f s ≡ every f (drop k s)
-  part-more e h k ek = e ∙ every_split ∙ rw (h, ek)
-
-pub part-last : (f : ℕ → Bool) (s : List ℕ) (i j m : ℕ) → every f s ≡ every f (drop i s) → j ≤ i → length s ≤ j + m → every f (take m (drop j s)) ≡ every f s
+part-last : (f : ℕ → Bool) (s : List ℕ) (i j m : ℕ) → every f s ≡ every f (drop i s) → j ≤ i → length s ≤ j + m → every f (take m (drop j s)) ≡ every f s
 part-last f s i j m e h hm =
     let all : take m (drop j s) ≡ drop j s = take_all m (drop j s) (omega (arith, length-drop j s)) in
     let front : every f s ≡ (every f (take j s) && every f (drop j s)) = sym (ap (every f) (take-append-drop j s)) ∙ every_append f (take j s) (drop j s) in
     let back : every f (drop j s) ≡ (every f (take (i - j) (drop j s)) && every f (drop i s)) = every_split f s j (i - j) ∙ ap (λ (k : ℕ). every f (take (i - j) (drop j s)) && every f (drop k s)) (let w : j + (i - j) ≡ i = omega arith in w) in
     ap (every f) all ∙ suffix (every f (take j s)) (every f (take (i - j) (drop j s))) (every f (drop j s)) (every f (drop i s)) (every f s) front back e
+
+-- r is what is left of s, where the bytes before it pass the test
+pub record Left (f : ℕ → Bool) (s r : List ℕ) : Type 0 where
+  pub within : length r ≤ length s
+  pub behind : r ≡ drop (length s - length r) s
+  pub passed : every f s ≡ every f r
+
+module _ (f : ℕ → Bool) (s : List ℕ) where
+  pub left-start : (r : List ℕ) → r ≡ s → Left f s r
+  left-start r e = rw e (record { within = omega arith; behind = ap (λ (n : ℕ). drop n s) (let z : 0 ≡ length s - length s = omega arith in z); passed = refl })
+
+  pub left-stop : (x t r : List ℕ) → Left f s r → r ≡ x ++ t → every f x ≡ false → every f s ≡ false
+  left-stop x t r g e h = g.passed ∙ ap (every f) e ∙ every_append f x t ∙ rw h refl
+
+  pub left-next : (x t r : List ℕ) → Left f s r → r ≡ x ++ t → every f x ≡ true → Left f s t
+  left-next x t r g e h =
+      let n : length r ≡ length x + length t = ap length e ∙ length-append x t in
+      record {
+        within = omega (arith, g.within);
+        behind = sym (drop_at x t (length x) refl) ∙ ap (drop (length x)) (sym e ∙ g.behind) ∙ drop-drop (length x) (length s - length r) s ∙ ap (λ (k : ℕ). drop k s) (let z : length s - length r + length x ≡ length s - length t = omega (arith, g.within) in z);
+        passed = g.passed ∙ ap (every f) e ∙ every_append f x t ∙ rw h refl;
+      }
+
+  -- the last m bytes decide, where no more are left
+  pub left-end : (r : List ℕ) (j m : ℕ) → Left f s r → length r ≤ m → m ≤ length s → j + m ≡ length s → every f (take (length s - j) (drop j s)) ≡ every f s
+  left-end r j m g h k e = part-last f s (length s - length r) j (length s - j) (g.passed ∙ ap (every f) g.behind) (omega arith) (omega arith)

@@ -1,12 +1,14 @@
--- How keys are compared: the number of an order, what two keys share, and eight bytes taken at a time.
+-- How keys are compared: an order as std has it, what two keys share, and eight bytes taken at a time.
 -- Assumes nothing.
 use Rattle.std.specs.Prelude.{◌≡◌, List, length, get_or}
+use Rattle.std.specs.declared.cmp.Ordering.{Ordering as Order}
+use Rattle.std.specs.declared.cmp.Ordering.TheVariants.{Less, Equal, Greater}
 use Prim.Native.Nat.{ℕ, ◌+◌, ◌*◌, ◌<◌, ◌≤◌, Ordering}
 use Rattle.text.specs.Order.{by}
 
--- the number for an order: 0 below, 1 the same, 2 above
-abbrev pub code : Ordering → ℕ
-code o = by o 0 1 2
+-- an order as std has it
+abbrev pub ordering_of : Ordering → Order
+ordering_of o = by o Less Equal Greater
 
 -- the first `start` bytes of a key are those of the key in the slot at `at`
 pub record Agree (key book : List ℕ) (at start : ℕ) : Type 0 where
@@ -27,12 +29,6 @@ abbrev pub high_sum : List ℕ → ℕ → ℕ
 high_sum s at =
     quad (get_or s at 0) (get_or s (at + 1) 0) (get_or s (at + 2) 0) (get_or s (at + 3) 0) * 4294967296
     + quad (get_or s (at + 4) 0) (get_or s (at + 5) 0) (get_or s (at + 6) 0) (get_or s (at + 7) 0)
-
--- and the first lowest
-abbrev pub low_sum : List ℕ → ℕ → ℕ
-low_sum s at =
-    quad (get_or s (at + 7) 0) (get_or s (at + 6) 0) (get_or s (at + 5) 0) (get_or s (at + 4) 0) * 4294967296
-    + quad (get_or s (at + 3) 0) (get_or s (at + 2) 0) (get_or s (at + 1) 0) (get_or s at 0)
 
 -- r is a place up to m, where all before it is the same from a and from b on, and the eight bytes at it too only at m
 pub record Apart (s : List ℕ) (a b m r : ℕ) : Type 0 where

@@ -1,12 +1,17 @@
 -- Laws of keys in slots: a key compared with the key of a slot, byte by byte.
 -- Assumes nothing.
 use Rattle.std.specs.Prelude.{◌≡◌, refl, List, [], ◌∷◌, ◌++◌, length, take, drop, get_or}
-use Rattle.std.proofs.Common.{sym, ap, ◌∙◌, add-one, arith, length-drop, drop_of_length-le, drop-drop, drop-cons, get_or-take, get_or-drop, length-take-le}
+use Rattle.std.proofs.Common.{sym, ap, ◌∙◌, add-one, arith, length-drop, drop-drop, drop-cons, get_or-take, get_or-drop, length-take-le, take_all}
 use Prim.Native.Nat.{ℕ, zero, suc, ◌+◌, ◌-◌, ◌<◌, ◌≤◌, Ordering, compare}
+use Rattle.std.specs.declared.cmp.Ordering.{Ordering as Order}
+use Rattle.std.specs.declared.cmp.Ordering.TheVariants.{Less, Equal, Greater}
+use Rattle.std.specs.Ordering.{nat_cmp, ordering_index, ordering_then, MatchOrdering}
+use Rattle.std.specs.Cmp.{nat_cmp_is}
+use Rattle.std.specs.Cmp.Lexicographic.{slice_cmp}
 use Rattle.text.specs.Order.{cmp, then}
-use Rattle.text.specs.OrderLaws.{cmp-cons-lt, cmp-cons_gt, cmp-cons-eq, cmp-nil, cmp-nil-cons, cmp-cons-nil}
+use Rattle.text.specs.OrderLaws.{Tri, below, equal, above, tri, compare-lt, compare_gt, compare_same, cmp-cons-lt, cmp-cons_gt, cmp-cons-eq}
 use Rattle.book_form.specs.Counted.{counted_in, stored}
-use Rattle.book_form.specs.Compare.{code, Agree, Alike}
+use Rattle.book_form.specs.Compare.{ordering_of, Agree, Alike}
 
 module _ (a b : List ℕ) (i : ℕ) where
   -- the order of the rest of two keys
@@ -21,15 +26,6 @@ module _ (a b : List ℕ) (i : ℕ) where
 
   pub rest_eq : i < length a → i < length b → get_or a i 0 ≡ get_or b i 0 → cmp (drop (i + 1) a) (drop (i + 1) b) ≡ rest
   rest_eq ha hb h = rw (add-one i, drop-cons a i 0, drop-cons b i 0) (sym (cmp-cons-eq (get_or a i 0) (get_or b i 0) _ _ h))
-
-  pub rest-longer : i < length a → length b ≤ i → rest ≡ Ordering.gt
-  rest-longer ha hb = rw (drop-cons a i 0, drop_of_length-le b hb) (cmp-cons-nil (get_or a i 0) _)
-
-  pub rest_shorter : length a ≤ i → i < length b → rest ≡ Ordering.lt
-  rest_shorter ha hb = rw (drop_of_length-le a ha, drop-cons b i 0) (cmp-nil-cons (get_or b i 0) _)
-
-  pub rest-same : length a ≤ i → length b ≤ i → rest ≡ Ordering.eq
-  rest-same ha hb = rw (drop_of_length-le a ha, drop_of_length-le b hb) cmp-nil
 
 -- the first byte of a slot
 first_is : (b : List ℕ) (at : ℕ) → get_or (drop at b) 0 0 ≡ get_or b at 0
@@ -62,23 +58,11 @@ module _ (book key : List ℕ) (at n i : ℕ) (hb : at + 256 ≤ length book) (e
   xb : i < n → get_or (stored book at) i 0 ≡ get_or book (at + 1 + i) 0
   xb h = get_d-stored book at i (omega arith)
 
-  pub out-longer : i < length key → i ≡ n → ◌≡◌ {A = ℕ} 2 (code (cmp key (stored book at)))
-  out-longer h e = ap code (sym (rest-longer key (stored book at) i h (omega (arith, lb))) ∙ inv)
+  pub out-lt : i < length key → i < n → get_or key i 0 < get_or book (at + 1 + i) 0 → Less ≡ ordering_of (cmp key (stored book at))
+  out-lt h k d = ap ordering_of (sym (rest_lt key (stored book at) i h (omega (arith, lb)) (omega (arith, xb k))) ∙ inv)
 
-  pub out-lt : i < length key → i < n → get_or key i 0 < get_or book (at + 1 + i) 0 → ◌≡◌ {A = ℕ} 0 (code (cmp key (stored book at)))
-  out-lt h k d = ap code (sym (rest_lt key (stored book at) i h (omega (arith, lb)) (omega (arith, xb k))) ∙ inv)
-
-  pub out_gt : i < length key → i < n → get_or book (at + 1 + i) 0 < get_or key i 0 → ◌≡◌ {A = ℕ} 2 (code (cmp key (stored book at)))
-  out_gt h k d = ap code (sym (rest_gt key (stored book at) i h (omega (arith, lb)) (omega (arith, xb k))) ∙ inv)
-
-  pub out-same : i ≡ length key → i ≡ n → ◌≡◌ {A = ℕ} 1 (code (cmp key (stored book at)))
-  out-same h k = ap code (sym (rest-same key (stored book at) i (omega arith) (omega (arith, lb))) ∙ inv)
-
-  pub out_shorter : i ≡ length key → i < n → ◌≡◌ {A = ℕ} 0 (code (cmp key (stored book at)))
-  out_shorter h k = ap code (sym (rest_shorter key (stored book at) i (omega arith) (omega (arith, lb))) ∙ inv)
-
-  pub turn : i < length key → i < n → get_or key i 0 ≡ get_or book (at + 1 + i) 0 → rest key (stored book at) (i + 1) ≡ cmp key (stored book at)
-  turn h k d = rest_eq key (stored book at) i h (omega (arith, lb)) (d ∙ sym (xb k)) ∙ inv
+  pub out_gt : i < length key → i < n → get_or book (at + 1 + i) 0 < get_or key i 0 → Greater ≡ ordering_of (cmp key (stored book at))
+  out_gt h k d = ap ordering_of (sym (rest_gt key (stored book at) i h (omega (arith, lb)) (omega (arith, xb k))) ∙ inv)
 
 -- ---- a comparison that starts behind what two keys share
 skip-same : (a b : List ℕ) (i : ℕ) → i ≤ length a → i ≤ length b → ((j : ℕ) → j < i → get_or a j 0 ≡ get_or b j 0) → rest a b i ≡ cmp a b
@@ -113,13 +97,40 @@ cmp-ahead [] (y ∷ c) b d h = absurd (let z : ⊥ = omega arith in z)
 cmp-ahead (x ∷ a) [] b d h = absurd (let z : ⊥ = omega arith in z)
 cmp-ahead (x ∷ a) (y ∷ c) b d h = ap (then (compare x y)) (cmp-ahead a c b d (omega arith)) ∙ then-then (compare x y) (cmp a c) (cmp b d)
 
--- what is ahead decides, or what follows does
-pub ahead-decides : (o p q : Ordering) (r : ℕ) → o ≡ then p q → r ≡ code p → (r ≡ 1 → ⊥) → r ≡ code o
-ahead-decides o Ordering.lt q r e f n = f ∙ ap code (sym e)
-ahead-decides o Ordering.eq q r e f n = absurd (n f)
-ahead-decides o Ordering.gt q r e f n = f ∙ ap code (sym e)
+-- ---- an order as std has it
+-- numbers, bytes and texts compare in std as here
+pub cmp_of_numbers : (x y : ℕ) → nat_cmp x y ≡ ordering_of (compare x y)
+cmp_of_numbers x y = sym (nat_cmp_is x y (ordering_of (compare x y)) (go (tri x y)))
+  where
+    go : Tri x y → MatchOrdering (ordering_of (compare x y)) (x < y) (x ≡ y) (y < x)
+    go (below p) = rw (compare-lt x y p) p
+    go (equal p) = rw (p, compare_same y) refl
+    go (above p) = rw (compare_gt x y p) p
 
-pub ahead-same : (o p q : Ordering) (r s : ℕ) → o ≡ then p q → r ≡ code p → r ≡ 1 → s ≡ code q → s ≡ code o
-ahead-same o Ordering.lt q r s e f n g = absurd (let z : ⊥ = omega arith in z)
-ahead-same o Ordering.eq q r s e f n g = g ∙ ap code (sym e)
-ahead-same o Ordering.gt q r s e f n g = absurd (let z : ⊥ = omega arith in z)
+then_of : (o p : Ordering) → ordering_then (ordering_of o) (ordering_of p) ≡ ordering_of (then o p)
+then_of Ordering.lt p = refl
+then_of Ordering.eq p = refl
+then_of Ordering.gt p = refl
+
+cmp_of_texts : (a b : List ℕ) → slice_cmp nat_cmp a b ≡ ordering_of (cmp a b)
+unfolding cmp
+cmp_of_texts [] [] = refl
+cmp_of_texts [] (y ∷ b) = refl
+cmp_of_texts (x ∷ a) [] = refl
+cmp_of_texts (x ∷ a) (y ∷ b) = rw (cmp_of_numbers x y, cmp_of_texts a b) (then_of (compare x y) (cmp a b))
+
+-- the rests of two texts, as parts that reach to their ends
+pub cmp_of_rests : (a b : List ℕ) (i m n : ℕ) → m ≡ length a - i → n ≡ length b - i → slice_cmp nat_cmp (take m (drop i a)) (take n (drop i b)) ≡ ordering_of (rest a b i)
+cmp_of_rests a b i m n em en =
+    rw (take_all m (drop i a) (omega (arith, length-drop i a)), take_all n (drop i b) (omega (arith, length-drop i b))) (cmp_of_texts (drop i a) (drop i b))
+
+-- what is ahead decides, or what follows does: o is the order of both, d that of what is ahead
+pub ahead-decides : (o p q : Ordering) (d : Order) → o ≡ then p q → d ≡ ordering_of p → (d ≡ Equal → ⊥) → d ≡ ordering_of o
+ahead-decides o Ordering.lt q d e f n = f ∙ ap ordering_of (sym e)
+ahead-decides o Ordering.eq q d e f n = absurd (n f)
+ahead-decides o Ordering.gt q d e f n = f ∙ ap ordering_of (sym e)
+
+pub ahead-same : (o p q : Ordering) (d r : Order) → o ≡ then p q → d ≡ ordering_of p → d ≡ Equal → r ≡ ordering_of q → r ≡ ordering_of o
+ahead-same o Ordering.lt q d r e f n g = absurd (let z : ⊥ = omega (arith, ap ordering_index (sym f ∙ n)) in z)
+ahead-same o Ordering.eq q d r e f n g = g ∙ ap ordering_of (sym e)
+ahead-same o Ordering.gt q d r e f n g = absurd (let z : ⊥ = omega (arith, ap ordering_index (sym f ∙ n)) in z)

@@ -1,8 +1,8 @@
 -- Laws of forms: the bytes of a book tell its records, and what stands where in them.
 -- Assumes nothing.
-use Rattle.std.specs.Prelude.{◌≡◌, eqb, Bool, true, false, cond, ◌||◌, get_or, take, drop, set}
+use Rattle.std.specs.Prelude.{◌≡◌, eqb, Bool, true, false, cond, ◌||◌, get_or, take, drop}
 use Rattle.std.proofs.Math.Path.{refl, sym, ap}
-use Rattle.std.proofs.Common.{◌∙◌, mul-le-mul_left, eqb-true, length-take, length-drop, take-append-drop, drop_of_length-le, drop_at, drop-drop}
+use Rattle.std.proofs.Common.{◌∙◌, mul-le-mul_left, eqb-true, length-take, length-take-le, length-drop, take-append-drop, drop_of_length-le, drop_at, drop-drop}
 use mathlib.Core.List.{List, [], ◌∷◌, ◌++◌, append_assoc, append-nil, head-eq_of_cons-eq, tail-eq_of_cons-eq}
 use Prim.Native.Nat.{ℕ, zero, suc, ◌+◌, ◌*◌, ◌-◌, ◌<◌, ◌≤◌}
 use Rattle.std.proofs.Math.Decide.{dec_lt}
@@ -13,12 +13,12 @@ use Rattle.std.proofs.Math.ListN.{length, length-append}
 use Rattle.std.proofs.lemmas.List.{length-replicate, replicate-append-replicate}
 use Rattle.std.proofs.Math.Seq.{drop-append-add}
 use Rattle.text.specs.Put.{put}
-use Rattle.text.specs.PutLaws.{put-zero, length-put}
+use Rattle.text.specs.PutLaws.{put-zero}
 use Rattle.book_records.specs.Records.{Key}
 use Rattle.book_records.specs.Act.{Rec, count_by}
 use Rattle.book_records.specs.Calls.{is_owner}
 use Rattle.book_form.specs.Moves.{raised, lowered}
-use Rattle.book_form.specs.MovesLaws.{raised-parts, lowered-parts, over-parts, over-set, over-join}
+use Rattle.book_form.specs.MovesLaws.{raised-parts, lowered-parts, over-parts, over-join}
 use Rattle.book_form.specs.Form.{Form, zeros, AllFit, AllExact, QuotasFit, Within, slots, layout, slot_at, inserted, removed}
 
 -- what a form has to keep
@@ -72,13 +72,13 @@ unfolding every
 zeros-blank zero = refl
 zeros-blank (suc n) = zeros-blank n
 
--- a turn of the loop that clears
-pub clear_turn : (b : List ℕ) (f j : ℕ) → f + j < length b → set (put b f (zeros j)) (f + j) 0 ≡ put b f (zeros (j + 1))
-clear_turn b f j h =
-    let l : length (zeros j) ≡ j = length-zeros j in
-    over-set (put b f (zeros j)) (f + j) 0 (omega (arith, length-put b f (zeros j) (omega arith)))
-    ∙ over-join b f (zeros j) (0 ∷ []) (f + j) (omega arith) (omega arith)
-    ∙ ap (λ (x : List ℕ). put b f x) (replicate-append-replicate j 1 0)
+-- a part of a buffer filled with zeros
+pub zeros-within : (b : List ℕ) (f n m : ℕ) (l : List ℕ) → f + n ≤ length b → m ≡ n → l ≡ zeros (length (take m (drop f b))) → take f b ++ (l ++ drop m (drop f b)) ≡ put b f (zeros n)
+unfolding put
+zeros-within b f n m l h em el =
+    let size : length (take m (drop f b)) ≡ n = omega (arith, length-take-le m (drop f b) (omega (arith, length-drop f b))) in
+    let e : l ≡ zeros n = el ∙ ap zeros size in
+    rw e (ap (λ (r : List ℕ). take f b ++ (zeros n ++ r)) (drop-drop m f b ∙ ap (λ (k : ℕ). drop k b) (let z : f + m ≡ f + length (zeros n) = omega (arith, length-zeros n) in z)))
 
 -- zeros behind zeros
 pub zeros-more : (b : List ℕ) (f m g n k : ℕ) → f + m ≡ g → g ≤ length b → m + n ≡ k → put (put b f (zeros m)) g (zeros n) ≡ put b f (zeros k)

@@ -1,44 +1,37 @@
 -- Laws of moved bytes, and what a move leaves of a buffer that is known in parts.
 -- Assumes nothing.
-use Rattle.std.specs.Prelude.{◌≡◌, refl, get_or, set}
+use Rattle.std.specs.Prelude.{◌≡◌, refl, set}
 use Rattle.std.proofs.Math.Path.{sym, ap}
-use Rattle.std.proofs.Common.{◌∙◌, suc-add, add-zero, add-one, arith, length-append, length-take, length-drop, take-append-drop, take-suc, get_or-take, length-take-le, take_at, drop_at, take-add, drop-drop, drop-cons, get_or-append-add, get_or-drop}
+use Rattle.std.proofs.Common.{◌∙◌, add-zero, add-one, arith, length-append, length-drop, take-append-drop, length-take-le, take_at, drop_at, take-add, drop-drop}
 use mathlib.Core.List.{List, [], ◌∷◌, ◌++◌, append_assoc}
-use Prim.Native.Nat.{ℕ, suc, ◌+◌, ◌-◌, ◌<◌, ◌≤◌}
-use Rattle.std.proofs.Math.ListN.{length, take, drop, get_or-append}
+use Prim.Native.Nat.{ℕ, ◌+◌, ◌-◌, ◌<◌, ◌≤◌}
+use Rattle.std.proofs.Math.ListN.{length, take, drop}
+use Rattle.std.specs.List.{copy_within}
 use Rattle.text.specs.Put.{put}
 use Rattle.book_form.specs.Moves.{raised, lowered}
-use Rattle.std.proofs.Math.Seq.{slice, slice_empty, slice-cons, length-slice, append_snoc, drop-append-add, take-append-add}
-use Rattle.std.proofs.lemmas.List.{set_at, set_split, drop-append-le}
+use Rattle.std.proofs.Math.Seq.{slice, slice_empty, length-slice, drop-append-add, take-append-add}
+use Rattle.std.proofs.lemmas.List.{set_split, drop-append-le}
 
-pub raised-none : (t w : ℕ) (b : List ℕ) → b ≡ raised t t w b
+pub slice-take : (f t : ℕ) (l : List ℕ) → f ≤ t → t ≤ length l → slice f t l ≡ take (t - f) (drop f l)
+slice-take f t l h k =
+    ap (λ (n : ℕ). drop f (take n l)) (let z : t ≡ f + (t - f) = omega arith in z)
+    ∙ ap (λ (s : List ℕ). drop f s) (take-add f (t - f) l)
+    ∙ drop_at (take f l) (take (t - f) (drop f l)) f (length-take-le f l (omega arith))
+
+-- std's copy within a buffer, up and down
+pub raised-within : (f t w : ℕ) (b : List ℕ) → f ≤ t → t + w ≤ length b → copy_within b f t (f + w) ≡ raised f t w b
 unfolding raised
-raised-none t w b = sym (rw (slice_empty t b) (take-append-drop (t + w) b))
+raised-within f t w b h k =
+    append_assoc (take (f + w) b) (take (t - f) (drop f b)) (drop (f + w + (t - f)) b)
+    ∙ ap (λ (l : List ℕ). take (f + w) b ++ (l ++ drop (f + w + (t - f)) b)) (sym (slice-take f t b h (let z : t ≤ length b = omega arith in z)))
+    ∙ ap (λ (n : ℕ). take (f + w) b ++ (slice f t b ++ drop n b)) (let z : f + w + (t - f) ≡ t + w = omega arith in z)
 
-pub length-raised : (f t w : ℕ) (b : List ℕ) → f ≤ t → t + w ≤ length b → length (raised f t w b) ≡ length b
-unfolding raised
-length-raised f t w b h k = simp (length-append, length-take, length-drop) (omega arith)
-
-pub raised-step : (i t w : ℕ) (b : List ℕ) → i < t → t + w ≤ length b → set (raised (suc i) t w b) (i + w) (get_or (raised (suc i) t w b) i 0) ≡ raised i t w b
-unfolding raised
-raised-step i t w b h k =
-    let p : List ℕ = take (i + w) b in
-    let y : ℕ = get_or b (i + w) 0 in
-    let rest : List ℕ = slice (suc i) t b ++ drop (t + w) b in
-    let front : take (suc i + w) b ≡ p ++ (y ∷ []) = ap (λ (n : ℕ). take n b) (suc-add i w) ∙ take-suc b (i + w) 0 (omega arith) in
-    let whole : raised (suc i) t w b ≡ p ++ y ∷ rest = ap (λ (l : List ℕ). l ++ rest) front ∙ append_snoc p y rest in
-    let short : length (take (suc i + w) b) ≡ suc i + w = length-take-le (suc i + w) b (omega arith) in
-    let got : get_or (raised (suc i) t w b) i 0 ≡ get_or b i 0 = get_or-append (take (suc i + w) b) rest 0 i (omega arith) ∙ get_or-take (suc i + w) b i 0 (omega arith) in
-    ap (λ (a : ℕ). set (raised (suc i) t w b) (i + w) a) got
-    ∙ ap (λ (l : List ℕ). set l (i + w) (get_or b i 0)) whole
-    ∙ set_at p y rest (get_or b i 0) (i + w) (length-take-le (i + w) b (omega arith))
-    ∙ sym (ap (λ (l : List ℕ). p ++ (l ++ drop (t + w) b)) (slice-cons i t b 0 h (omega arith)))
-
--- a turn of the loop that moves: from i down to i - 1
-pub raised_turn : (i t w : ℕ) (b : List ℕ) → 0 < i → i ≤ t → t + w ≤ length b → set (raised i t w b) (i - 1 + w) (get_or (raised i t w b) (i - 1) 0) ≡ raised (i - 1) t w b
-raised_turn i t w b z h k =
-    let e : suc (i - 1) ≡ i = omega arith in
-    rw e at (raised-step (i - 1) t w b (omega arith) k)
+pub lowered-within : (f t w : ℕ) (b : List ℕ) → w ≤ f → f ≤ t → t ≤ length b → copy_within b f t (f - w) ≡ lowered f t w b
+unfolding lowered
+lowered-within f t w b g h k =
+    append_assoc (take (f - w) b) (take (t - f) (drop f b)) (drop (f - w + (t - f)) b)
+    ∙ ap (λ (l : List ℕ). take (f - w) b ++ (l ++ drop (f - w + (t - f)) b)) (sym (slice-take f t b h k))
+    ∙ ap (λ (n : ℕ). take (f - w) b ++ (slice f t b ++ drop n b)) (let z : f - w + (t - f) ≡ t - w = omega arith in z)
 
 -- moved bytes of a buffer that is known in parts
 pub raised-parts : (pre mid post : List ℕ) (f t w : ℕ) → length pre ≡ f → f + length mid ≡ t → raised f t w (pre ++ (mid ++ post)) ≡ pre ++ (take w (mid ++ post) ++ (mid ++ drop w post))
@@ -85,10 +78,6 @@ over-join b f x y g eg h =
     ∙ ap (λ (l : List ℕ). p ++ (y ++ l)) rest
     ∙ simp append_assoc
 
-pub over-set : (b : List ℕ) (f v : ℕ) → f < length b → set b f v ≡ put b f (v ∷ [])
-unfolding put
-over-set b f v h = set_split b f v h ∙ ap (λ (n : ℕ). take f b ++ (v ∷ drop n b)) (sym (add-one f))
-
 -- nothing written
 pub over-start : (b : List ℕ) (f : ℕ) → b ≡ put b f []
 unfolding put
@@ -119,42 +108,7 @@ pub lowered_none : (f w : ℕ) (b : List ℕ) → w ≤ f → b ≡ lowered f f 
 unfolding lowered
 lowered_none f w b h = sym (rw (slice_empty f b) (take-append-drop (f - w) b))
 
--- a turn of the loop that moves down: from t up to t + 1
-pub lowered_turn : (f t w : ℕ) (b : List ℕ) → w ≤ f → f ≤ t → t < length b → set (lowered f t w b) (t - w) (get_or (lowered f t w b) t 0) ≡ lowered f (t + 1) w b
-unfolding lowered
-lowered_turn f t w b g h k =
-    let a : List ℕ = take (f - w) b in
-    let m : List ℕ = slice f t b in
-    let p : List ℕ = a ++ m in
-    let d : List ℕ = drop (t - w) b in
-    let x : ℕ = get_or b t 0 in
-    let y : ℕ = get_or b (t - w) 0 in
-    let rest : List ℕ = drop (suc (t - w)) b in
-    let lp : length p ≡ t - w = omega (arith, length-append a m, length-take-le (f - w) b (omega arith), length-slice f t b (omega arith)) in
-    let joined : a ++ (m ++ d) ≡ p ++ d = sym (append_assoc a m d) in
-    let whole : a ++ (m ++ d) ≡ p ++ y ∷ rest = joined ∙ ap (λ (l : List ℕ). p ++ l) (drop-cons b (t - w) 0 (omega arith)) in
-    let got : get_or (a ++ (m ++ d)) t 0 ≡ x =
-    ap (λ (l : List ℕ). get_or l t 0) joined
-    ∙ ap (λ (n : ℕ). get_or (p ++ d) n 0) (let q : t ≡ length p + w = omega arith in q)
-    ∙ get_or-append-add p d w 0
-    ∙ get_or-drop (t - w) b w 0
-    ∙ ap (λ (n : ℕ). get_or b n 0) (let q : t - w + w ≡ t = omega arith in q) in
-    let more : slice f (t + 1) b ≡ m ++ (x ∷ []) =
-    ap (λ (n : ℕ). drop f (take n b)) (add-one t)
-    ∙ ap (λ (l : List ℕ). drop f l) (take-suc b t 0 k)
-    ∙ drop-append-le f (take t b) (x ∷ []) (omega (arith, length-take-le t b (omega arith))) in
-    ap (λ (v : ℕ). set (a ++ (m ++ d)) (t - w) v) got
-    ∙ ap (λ (l : List ℕ). set l (t - w) x) whole
-    ∙ set_at p y rest x (t - w) lp
-    ∙ sym (ap (λ (n : ℕ). a ++ (slice f (t + 1) b ++ drop n b)) (let q : t + 1 - w ≡ suc (t - w) = omega arith in q) ∙ ap (λ (l : List ℕ). a ++ (l ++ rest)) more ∙ simp append_assoc)
-
 -- ---- parts in the middle
-pub slice-take : (f t : ℕ) (l : List ℕ) → f ≤ t → t ≤ length l → slice f t l ≡ take (t - f) (drop f l)
-slice-take f t l h k =
-    ap (λ (n : ℕ). drop f (take n l)) (let z : t ≡ f + (t - f) = omega arith in z)
-    ∙ ap (λ (s : List ℕ). drop f s) (take-add f (t - f) l)
-    ∙ drop_at (take f l) (take (t - f) (drop f l)) f (length-take-le f l (omega arith))
-
 slice-join : (f t u : ℕ) (l : List ℕ) → f ≤ t → t ≤ u → u ≤ length l → slice f t l ++ slice t u l ≡ slice f u l
 slice-join f t u l h k m =
     ap (λ (s : List ℕ). slice f t l ++ s) (slice-take t u l k m)

@@ -42,6 +42,13 @@ header-bytes v x y h k =
     let b : (256 * x + y) % 256 ≡ y = omega arith in
     rw (a, b)
 
+-- the same, with the number of records as std gives its two bytes
+pub header-front : (v n : ℕ) (l : List ℕ) → n < 65536 → l ≡ n / 256 % 256 ∷ n % 256 ∷ [] → 72 ∷ 80 ∷ 66 ∷ 0 ∷ v ∷ get_or l 0 0 ∷ get_or l 1 0 ∷ 0 ∷ [] ≡ header v n []
+unfolding header
+header-front v n l h e =
+    let q : n / 256 % 256 ≡ n / 256 = omega arith in
+    rw (e, q) refl
+
 -- the bytes behind them
 pub header-rest : (v n : ℕ) (x : List ℕ) → header v n [] ++ x ≡ header v n x
 unfolding header
@@ -224,9 +231,6 @@ module _ (v : Version) (b : List ℕ) (at l : ℕ) (el : l ≡ (owners_of v).lea
   value_there : drop ((owners_of v).lead + 256) (drop at b) ≡ drop (at + l + 256) b
   value_there = drop-drop ((owners_of v).lead + 256) at b ∙ ap (λ (n : ℕ). drop n b) (let q : at + ((owners_of v).lead + 256) ≡ at + l + 256 = omega arith in q)
 
-  pub key-room : at + l + 256 ≤ length b
-  key-room = omega arith
-
   pub tells-no-key : (r : Bool) → Tells r (CountedOk 255 (drop (at + l) b)) → r ≡ false → Tells false (SlotOk (form_of v) (drop at b))
   tells-no-key r t e = tells_false (λ s. t.fails e (rw key-there at (parts v (drop at b) long s).0))
 
@@ -274,8 +278,19 @@ pub slot_pieces : (b : List ℕ) (at o : ℕ) (k v : List ℕ) → at + 322 ≤ 
 unfolding slot
 slot_pieces b at o k v hb = over-join b at (o ∷ []) (counted 255 k ++ counted 64 v) (at + 1) refl (omega arith)
 
-pub header_pieces : (b : List ℕ) (n : ℕ) (q : Quotas) → 12 ≤ length b → put (put b 0 (header 3 n [])) 8 (quota_bytes q) ≡ put b 0 (V3.header q n)
+header_pieces : (b : List ℕ) (n : ℕ) (q : Quotas) → 12 ≤ length b → put (put b 0 (header 3 n [])) 8 (quota_bytes q) ≡ put b 0 (V3.header q n)
 header_pieces b n q hb = over-join b 0 (header 3 n []) (quota_bytes q) 8 (omega (arith, header-length 3 n [])) (omega arith) ∙ ap (λ (l : List ℕ). put b 0 l) (header-rest 3 n (quota_bytes q))
+
+quotas-front : (q : Quotas) (l m : List ℕ) → q.one < 65536 → q.two < 65536 → l ≡ q.one / 256 % 256 ∷ q.one % 256 ∷ [] → m ≡ q.two / 256 % 256 ∷ q.two % 256 ∷ [] → get_or l 0 0 ∷ get_or l 1 0 ∷ get_or m 0 0 ∷ get_or m 1 0 ∷ [] ≡ quota_bytes q
+unfolding quota_bytes
+quotas-front q l m h k e f =
+    let a : q.one / 256 % 256 ≡ q.one / 256 = omega arith in
+    let b : q.two / 256 % 256 ≡ q.two / 256 = omega arith in
+    rw (e, f, a, b) refl
+
+pub header-whole : (b : List ℕ) (n : ℕ) (q : Quotas) (l m : List ℕ) → 12 ≤ length b → q.one < 65536 → q.two < 65536 → l ≡ q.one / 256 % 256 ∷ q.one % 256 ∷ [] → m ≡ q.two / 256 % 256 ∷ q.two % 256 ∷ []
+    → put (put b 0 (header 3 n [])) 8 (get_or l 0 0 ∷ get_or l 1 0 ∷ get_or m 0 0 ∷ get_or m 1 0 ∷ []) ≡ put b 0 (V3.header q n)
+header-whole b n q l m hb h k e f = ap (put (put b 0 (header 3 n [])) 8) (quotas-front q l m h k e f) ∙ header_pieces b n q hb
 
 -- ---- the key of a slot of version 3
 pub owned-key : (b : List ℕ) (at : ℕ) → at < length b → (V3.record_of (drop at b)).0 ≡ get_or b at 0 ∷ stored b (at + 1)

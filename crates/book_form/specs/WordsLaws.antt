@@ -1,18 +1,22 @@
 -- Numbers of eight bytes compare as the bytes do.
 -- Assumes nothing.
-use Rattle.std.specs.Prelude.{◌≡◌, List, length}
+use Rattle.std.specs.Prelude.{◌≡◌, List, length, drop}
 use Rattle.std.proofs.Math.Path.{refl, sym}
-use Rattle.std.proofs.Common.{ap, ◌∙◌}
+use Rattle.std.proofs.Common.{ap, ◌∙◌, drop-drop, get_or-drop}
 use Prim.Native.Nat.{ℕ, zero, suc, ◌+◌, ◌*◌, ◌-◌, ◌<◌, ◌≤◌}
 use Rattle.std.proofs.Math.Decide.{dec_lt}
 use native.Mathlib.Omega.{arith}
 use borrow.Author.Count.{below_more}
 use Rattle.std.proofs.Math.ListN.{get_or}
-use Rattle.text.specs.Number.{Bytes}
+use Rattle.std.specs.declared.cmp.Ordering.{Ordering as Order}
+use Rattle.std.specs.declared.cmp.Ordering.TheVariants.{Less, Equal, Greater}
+use Rattle.std.specs.Ordering.{nat_cmp}
+use Rattle.std.specs.Cmp.{nat_cmp_is, ranked}
+use Rattle.text.specs.Number.{Bytes, little}
 use Rattle.text.specs.Order.{cmp}
 use Rattle.text.specs.OrderLaws.{Tri, below, equal, above, tri}
 use Rattle.book_form.specs.Counted.{stored}
-use Rattle.book_form.specs.Compare.{code, Agree, Alike, high_sum, low_sum}
+use Rattle.book_form.specs.Compare.{ordering_of, Agree, Alike, high_sum}
 use Rattle.book_form.specs.CompareLaws.{length-stored, get_d-stored, agree-rest, alike-agree, out-lt, out_gt}
 
 -- the first n digits as a number to base 256, the first highest
@@ -65,9 +69,13 @@ pub high_sum_lem : (s : List ℕ) (at : ℕ) → high_sum s at ≡ high s at
 unfolding high number
 high_sum_lem s at = omega (arith, at_place s (at + 0) at (omega arith))
 
-pub low_sum_lem : (s : List ℕ) (at : ℕ) → low_sum s at ≡ low s at
-unfolding low number
-low_sum_lem s at = omega (arith, at_place s (at + 0) at (omega arith))
+pub low_of : (s : List ℕ) (at : ℕ) → little 8 (drop at s) ≡ low s at
+unfolding low number little
+low_of s at =
+    simp (drop-drop, get_or-drop) (omega (arith, at_place s (at + 1 + 0) (at + 1) (omega arith), at_place s (at + 1 + 1 + 0) (at + 2) (omega arith), at_place s (at + 1 + 1 + 1 + 0) (at + 3) (omega arith), at_place s (at + 1 + 1 + 1 + 1 + 0) (at + 4) (omega arith), at_place s (at + 1 + 1 + 1 + 1 + 1 + 0) (at + 5) (omega arith), at_place s (at + 1 + 1 + 1 + 1 + 1 + 1 + 0) (at + 6) (omega arith), at_place s (at + 1 + 1 + 1 + 1 + 1 + 1 + 1 + 0) (at + 7) (omega arith)))
+
+pub equal_numbers : (x y : ℕ) → nat_cmp x y ≡ Equal → x ≡ y
+equal_numbers x y e = ranked x y Equal (sym e)
 
 -- ---- what is the same from two places on
 alike-join : (s : List ℕ) (a b i n : ℕ) → Alike s a b i → Alike s (a + i) (b + i) n → Alike s a b (i + n)
@@ -114,7 +122,7 @@ module _ (s key : List ℕ) (at by n i : ℕ) (hs : at + by + 256 ≤ length s) 
   right : (p : ℕ) → get_or s (at + by + 1 + (i + p)) 0 ≡ get_or s (at + by + 1 + i + p) 0
   right p = at_place s (at + by + 1 + (i + p)) (at + by + 1 + i + p) (omega arith)
 
-  pub next-lt : high s (at + 1 + i) < high s (at + by + 1 + i) → ◌≡◌ {A = ℕ} 0 (code (cmp (stored s at) (stored s (at + by))))
+  next-lt : high s (at + 1 + i) < high s (at + by + 1 + i) → Less ≡ ordering_of (cmp (stored s at) (stored s (at + by)))
   unfolding high
   next-lt l =
       let x = number_lt (λ j. get_or s (at + 1 + i + j) 0) (λ j. get_or s (at + by + 1 + i + j) 0) (λ j. h (at + 1 + i + j)) (λ j. h (at + by + 1 + i + j)) 8 l in
@@ -122,13 +130,22 @@ module _ (s key : List ℕ) (at by n i : ℕ) (hs : at + by + 256 ≤ length s) 
       let a = agrees (i + p) (omega arith) (alike-join s (at + 1) (at + by + 1) i p g x.alike) in
       out-lt s (stored s at) (at + by) (get_or s (at + by) 0) (i + p) (omega arith) refl hb (agree-rest (stored s at) s (at + by) (i + p) (omega arith) hb a) (omega (arith, la, na)) (omega arith) (omega (arith, left p (omega arith), right p))
 
-  pub next_gt : high s (at + by + 1 + i) < high s (at + 1 + i) → ◌≡◌ {A = ℕ} 2 (code (cmp (stored s at) (stored s (at + by))))
+  next_gt : high s (at + by + 1 + i) < high s (at + 1 + i) → Greater ≡ ordering_of (cmp (stored s at) (stored s (at + by)))
   unfolding high
   next_gt l =
       let x = number_lt (λ j. get_or s (at + by + 1 + i + j) 0) (λ j. get_or s (at + 1 + i + j) 0) (λ j. h (at + by + 1 + i + j)) (λ j. h (at + 1 + i + j)) 8 l in
       let p = x.place in
       let a = agrees (i + p) (omega arith) (alike-join s (at + 1) (at + by + 1) i p g (λ j k. sym (x.alike j k))) in
       out_gt s (stored s at) (at + by) (get_or s (at + by) 0) (i + p) (omega arith) refl hb (agree-rest (stored s at) s (at + by) (i + p) (omega arith) hb a) (omega (arith, la, na)) (omega arith) (omega (arith, left p (omega arith), right p))
+
+  -- the order of the two numbers, where they differ
+  pub next-decides : (x y : ℕ) → x ≡ high s (at + 1 + i) → y ≡ high s (at + by + 1 + i) → (r : Order) → r ≡ nat_cmp x y → (r ≡ Equal → ⊥) → r ≡ ordering_of (cmp (stored s at) (stored s (at + by)))
+  next-decides x y ex ey r e n = go (tri x y)
+    where
+      go : Tri x y → r ≡ ordering_of (cmp (stored s at) (stored s (at + by)))
+      go (below p) = e ∙ sym (nat_cmp_is x y Less p) ∙ next-lt (omega arith)
+      go (equal p) = absurd (n (e ∙ sym (nat_cmp_is x y Equal p)))
+      go (above p) = e ∙ sym (nat_cmp_is x y Greater p) ∙ next_gt (omega arith)
 
   pub next-same : (Alike s (at + 1 + i) (at + by + 1 + i) 8 → i ≡ n - 8) → high s (at + 1 + i) ≡ high s (at + by + 1 + i) → Agree key s (at + by) n
   unfolding high

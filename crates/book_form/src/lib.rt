@@ -11,9 +11,11 @@ ghost use Rattle.book_form.specs.Form.{zeros, slot_at, inserted, removed, Filled
 ghost use Rattle.book_form.specs.Counted.{counted, stored, CountedOk};
 ghost use Rattle.book_form.specs.Version.{form_of, owners_of, field_of, FieldOk, is_plain, number_of, header, count_in, quotas_in, V3};
 ghost use Rattle.book_form.specs.declared.Version.TheVariants.{Two};
-ghost use Rattle.book_form.specs.Compare.{code, Agree, quad, high_sum, low_sum, Apart};
+ghost use Rattle.book_form.specs.Compare.{ordering_of, Agree, high_sum, Apart};
 ghost use Rattle.book_form.specs.Tells.{Tells};
 
+use std::cmp::Ordering;
+use text::part::eight;
 use text::put::{write_byte, write_text};
 
 // The bytes of the header, of a key with its length, and of a slot: in version 3, which the calls take, and in those before it.
@@ -89,30 +91,22 @@ pub fn slot_at(version: Version, i: usize) -> usize
     }
 }
 
-// Moves the bytes from `from` up to `to` up by `by` places, the last one first.
+// Moves the bytes from `from` up to `to` up by `by` places.
 fn raise(book: &mut [u8], from: usize, to: usize, by: usize)
     requires from_le_to { from ≤ to }
     requires by_in_bounds { to + by ≤ length book.old }
     ensures { book.new ≡ raised from to by book.old }
 {
-    let mut i = to;
-    while from < i {
-        i -= 1;
-        book[i + by] = book[i];
-    }
+    book.copy_within(from..to, from + by);
 }
 
-// Moves the bytes from `from` up to `to` down by `by` places, the first one first.
+// Moves the bytes from `from` up to `to` down by `by` places.
 fn lower(book: &mut [u8], from: usize, to: usize, by: usize)
     requires by_le_from { (by ≤ from) × (from ≤ to) }
     requires to_in_bounds { to ≤ length book.old }
     ensures { book.new ≡ lowered from to by book.old }
 {
-    let mut i = from;
-    while i < to {
-        book[i - by] = book[i];
-        i += 1;
-    }
+    book.copy_within(from..to, from - by);
 }
 
 // Writes n zeros over what stands in `book` from `from` on.
@@ -120,11 +114,7 @@ pub fn clear(book: &mut [u8], from: usize, n: usize)
     requires { from + n ≤ length book.old }
     ensures { book.new ≡ put book.old from (zeros n) }
 {
-    let mut j = 0;
-    while j < n {
-        book[from + j] = 0;
-        j += 1;
-    }
+    book[from..from + n].fill(0);
 }
 
 // Writes a text of at most `most` bytes behind its length, from `at` on, and fills its field with zeros.
@@ -161,14 +151,15 @@ pub fn put_front(book: &mut [u8], version: Version, n: usize)
     requires in_bounds { 8 ≤ length book.old }
     ensures { book.new ≡ put book.old 0 (header (number_of version) n []) }
 {
-    let front: [u8; 8] = [
+    let count = (n as u16).to_be_bytes();
+    let front = [
         72,
         80,
         66,
         0,
         version_number(version),
-        (n / 256) as u8,
-        (n % 256) as u8,
+        count[0],
+        count[1],
         0,
     ];
     write_text(book, 0, &front);
@@ -180,16 +171,10 @@ pub fn put_header(book: &mut [u8], n: usize, quotas: Quotas)
     requires in_bounds { 12 ≤ length book.old }
     ensures { book.new ≡ put book.old 0 (V3.header quotas n) }
 {
-    let one = quotas.one;
-    let two = quotas.two;
-    let shown: [u8; 4] = [
-        (one / 256) as u8,
-        (one % 256) as u8,
-        (two / 256) as u8,
-        (two % 256) as u8,
-    ];
+    let one = (quotas.one as u16).to_be_bytes();
+    let two = (quotas.two as u16).to_be_bytes();
     put_front(book, Version::Three, n);
-    write_text(book, 8, &shown);
+    write_text(book, 8, &[one[0], one[1], two[0], two[1]]);
 }
 
 // The quotas that the header gives.
@@ -250,72 +235,31 @@ pub fn close_gap(book: &mut [u8], start: usize, end: usize, count: usize)
 {
     let quotas = quotas_of(book);
     let gap = end - start;
-    let mut i = start;
-    while i < count {
+    for i in start..count {
         fill_slot(book, i, gap, count);
-        i += 1;
     }
     put_header(book, count - gap, quotas);
 }
 
-// How a key, or what decides of it, stands to another: before it, the same, or after it.
-pub const BEFORE: u8 = 0;
-
-pub const SAME: u8 = 1;
-
-pub const AFTER: u8 = 2;
-
 // How `key` stands to the key behind its length at `at`, where the first `start` bytes are the same.
-fn compare_from(book: &[u8], at: usize, key: &[u8], start: usize) -> u8
+fn compare_from(book: &[u8], at: usize, key: &[u8], start: usize) -> Ordering
     requires at_in_bounds { at + 256 ≤ length book.now }
     requires agree { Agree key.now book.now at start }
-    ensures { result ≡ code (cmp key.now (stored book.now at)) }
+    ensures { result ≡ ordering_of (cmp key.now (stored book.now at)) }
 {
-    let n = wide(book[at]);
-    let mut i = start;
-    while i < key.len() {
-        if i == n {
-            return AFTER;
-        }
-        let x = key[i];
-        let y = book[at + 1 + i];
-        if x < y {
-            return BEFORE;
-        }
-        if y < x {
-            return AFTER;
-        }
-        i += 1;
-    }
-    if i == n { SAME } else { BEFORE }
+    let other = key_at(book, at);
+    (&key[start..]).cmp(&&other[start..])
 }
 
 // How an owner's key stands to the key in the slot at `at`: the owner decides first.
-pub fn compare_key(book: &[u8], at: usize, owner: u8, key: &[u8]) -> u8
+pub fn compare_key(book: &[u8], at: usize, owner: u8, key: &[u8]) -> Ordering
     requires { at + 257 ≤ length book.now }
-    ensures { result ≡ code (cmp (owner ∷ key.now) (V3.record_of (drop at book.now)).0) }
+    ensures { result ≡ ordering_of (cmp (owner ∷ key.now) (V3.record_of (drop at book.now)).0) }
 {
-    let other = book[at];
-    if owner < other {
-        return BEFORE;
+    match owner.cmp(&book[at]) {
+        Ordering::Equal => compare_from(book, at + 1, key, 0),
+        decided => decided,
     }
-    if other < owner {
-        return AFTER;
-    }
-    compare_from(book, at + 1, key, 0)
-}
-
-fn long(x: u8) -> u64
-    ensures { (result ≡ x) × (result < 256) }
-{
-    x as u64
-}
-
-// Four digits to base 256 as a number.
-fn four(a: u8, b: u8, c: u8, d: u8) -> u64
-    ensures { (result ≡ quad a b c d) × (result < 4294967296) }
-{
-    ((long(a) * 256 + long(b)) * 256 + long(c)) * 256 + long(d)
 }
 
 // Eight bytes as a number, the first byte highest: one load and a turn of its bytes.
@@ -323,17 +267,16 @@ fn high_eight(s: &[u8], at: usize) -> u64
     requires { at + 8 ≤ length s.now }
     ensures { result ≡ high_sum s.now at }
 {
-    four(s[at], s[at + 1], s[at + 2], s[at + 3]) * 4294967296
-        + four(s[at + 4], s[at + 5], s[at + 6], s[at + 7])
-}
-
-// Eight bytes as a number, the first byte lowest: one load.
-fn low_eight(s: &[u8], at: usize) -> u64
-    requires { at + 8 ≤ length s.now }
-    ensures { result ≡ low_sum s.now at }
-{
-    four(s[at + 7], s[at + 6], s[at + 5], s[at + 4]) * 4294967296
-        + four(s[at + 3], s[at + 2], s[at + 1], s[at])
+    u64::from_be_bytes([
+        s[at],
+        s[at + 1],
+        s[at + 2],
+        s[at + 3],
+        s[at + 4],
+        s[at + 5],
+        s[at + 6],
+        s[at + 7],
+    ])
 }
 
 // The place of the first eight bytes, up to place m, that differ from a and from b on; m where none do.
@@ -343,7 +286,7 @@ fn apart(s: &[u8], a: usize, b: usize, m: usize) -> usize
 {
     let mut i = 0;
     while i < m {
-        if low_eight(s, a + i) != low_eight(s, b + i) {
+        if eight(s, a + i) != eight(s, b + i) {
             return i;
         }
         i += 8;
@@ -351,75 +294,46 @@ fn apart(s: &[u8], a: usize, b: usize, m: usize) -> usize
     m
 }
 
-fn least(a: usize, b: usize) -> usize
-    ensures { (result ≤ a) × (result ≤ b) }
-{
-    if a < b { a } else { b }
-}
-
 // How the key behind its length at `at` stands to that `by` bytes behind it.
-fn compare_stored(book: &[u8], at: usize, by: usize) -> u8
+fn compare_stored(book: &[u8], at: usize, by: usize) -> Ordering
     requires { at + by + 256 ≤ length book.now }
-    ensures { result ≡ code (cmp (stored book.now at) (stored book.now (at + by))) }
+    ensures { result ≡ ordering_of (cmp (stored book.now at) (stored book.now (at + by))) }
 {
     let key = key_at(book, at);
-    let n = least(key.len(), wide(book[at + by]));
+    let n = key.len().min(usize::from(book[at + by]));
     if n < 8 {
         return compare_from(book, at + by, key, 0);
     }
     let i = apart(book, at + 1, at + by + 1, n - 8);
     let x = high_eight(book, at + 1 + i);
     let y = high_eight(book, at + by + 1 + i);
-    if x < y {
-        return BEFORE;
+    match x.cmp(&y) {
+        Ordering::Equal => compare_from(book, at + by, key, n),
+        decided => decided,
     }
-    if y < x {
-        return AFTER;
-    }
-    compare_from(book, at + by, key, n)
-}
-
-// How one byte stands to another: mostly they are the same.
-fn order(x: u8, y: u8) -> u8
-    ensures { result ≡ code (cmp (x ∷ []) (y ∷ [])) }
-{
-    if x == y {
-        return SAME;
-    }
-    if x < y {
-        return BEFORE;
-    }
-    AFTER
 }
 
 // How the owner of the slot at `at` stands to that of the next slot: before version 3 there is none.
-fn compare_owners(book: &[u8], at: usize, version: Version) -> u8
+fn compare_owners(book: &[u8], at: usize, version: Version) -> Ordering
     requires { at + (form_of version).width + (form_of version).width ≤ length book.now }
-    ensures { result ≡ code (cmp (take (owners_of version).lead (drop at book.now)) (take (owners_of version).lead (drop (at + (form_of version).width) book.now))) }
+    ensures { result ≡ ordering_of (cmp (take (owners_of version).lead (drop at book.now)) (take (owners_of version).lead (drop (at + (form_of version).width) book.now))) }
 {
     match version {
-        Version::One => SAME,
-        Version::Two => SAME,
-        Version::Three => order(book[at], book[at + SLOT]),
+        Version::One => Ordering::Equal,
+        Version::Two => Ordering::Equal,
+        Version::Three => book[at].cmp(&book[at + SLOT]),
     }
 }
 
 // How the key in the slot at `at` stands to that in the next slot: the owner decides first.
-pub fn compare_next(book: &[u8], at: usize, version: Version) -> u8
+pub fn compare_next(book: &[u8], at: usize, version: Version) -> Ordering
     requires { at + (form_of version).width + (form_of version).width ≤ length book.now }
-    ensures { result ≡ code (cmp ((form_of version).record_of (drop at book.now)).0 ((form_of version).record_of (drop (at + (form_of version).width) book.now)).0) }
+    ensures { result ≡ ordering_of (cmp ((form_of version).record_of (drop at book.now)).0 ((form_of version).record_of (drop (at + (form_of version).width) book.now)).0) }
 {
-    let first = compare_owners(book, at, version);
-    if first != SAME {
-        return first;
+    match compare_owners(book, at, version) {
+        Ordering::Equal => compare_stored(book, at + lead(version), width(version)),
+        decided => decided,
     }
-    compare_stored(book, at + lead(version), width(version))
-}
-
-fn wide(x: u8) -> usize
-    ensures { (result ≡ x) × (result < 256) }
-{
-    x as usize
 }
 
 // The number of records that the header gives.
@@ -436,7 +350,7 @@ pub fn text_at(book: &[u8], at: usize) -> &[u8]
     ensures { Stands result book.entry (at + 1) (stored book.now at) }
 {
     let start = at + 1;
-    let end = start + wide(book[at]);
+    let end = start + usize::from(book[at]);
     &book[start..end]
 }
 
@@ -452,11 +366,9 @@ pub fn key_at(book: &[u8], at: usize) -> &[u8]
 fn blank(s: &[u8]) -> bool
     ensures { result ≡ every (λ b. eqb b 0) s.now }
 {
-    let mut all: u8 = 0;
-    let mut i = 0;
-    while i < s.len() {
-        all = all | s[i];
-        i += 1;
+    let mut all = 0;
+    for &b in s {
+        all |= b;
     }
     all == 0
 }
@@ -465,20 +377,15 @@ fn blank(s: &[u8]) -> bool
 pub fn all_zero(s: &[u8]) -> bool
     ensures { result ≡ every (λ b. eqb b 0) s.now }
 {
-    let n = s.len();
-    if n < 128 {
+    if s.len() < 128 {
         return blank(s);
     }
-    let last = n - 128;
-    let mut i = 0;
-    while i < last {
-        let end = i + 128;
-        if !blank(&s[i..end]) {
+    for part in s.chunks_exact(128) {
+        if !blank(part) {
             return false;
         }
-        i = end;
     }
-    blank(&s[last..n])
+    blank(&s[s.len() - 128..])
 }
 
 // Whether a text of at most `most` bytes stands at `at` behind its length, its field filled with zeros.
@@ -486,7 +393,7 @@ fn counted_ok(book: &[u8], at: usize, most: usize) -> bool
     requires { at + 1 + most ≤ length book.now }
     ensures { Tells result (CountedOk most (drop at book.now)) }
 {
-    let n = wide(book[at]);
+    let n = usize::from(book[at]);
     if most < n {
         return false;
     }
@@ -510,11 +417,7 @@ fn value_ok(book: &[u8], at: usize) -> bool
 fn is_plain(version: Version) -> bool
     ensures { result ≡ is_plain version }
 {
-    match version {
-        Version::One => true,
-        Version::Two => false,
-        Version::Three => false,
-    }
+    matches!(version, Version::One)
 }
 
 // Whether the slot at `at` is a record's: the bytes behind its key, and from version 2 on behind its value, are zero.
@@ -548,6 +451,6 @@ pub fn header_ok(book: &[u8], version: Version) -> bool
     requires { 8 ≤ length book.now }
     ensures { result ≡ same (take 8 book.now) (header (number_of version) (count_in book.now) []) }
 {
-    let head: [u8; 8] = [72, 80, 66, 0, version_number(version), book[5], book[6], 0];
+    let head = [72, 80, 66, 0, version_number(version), book[5], book[6], 0];
     text::part::equal(&book[0..8], &head)
 }

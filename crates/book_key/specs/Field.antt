@@ -1,26 +1,26 @@
 -- Which flat readings a call refuses for their spelling; and the key of a call, owned: what is written into a field of zeros, with its kind.
 -- Assumes nothing.
-use Rattle.std.specs.Prelude.{ℕ, Bool, false, cond, not, eqb, leb, length, replicate}
+use Rattle.std.specs.Prelude.{ℕ, Bool, false, cond, not, eqb, leb, length, replicate, Result, Ok, Err}
 use Rattle.text.specs.Put.{Wanted, refused, text, left}
-use Rattle.path.specs.declared.ViewAnswer.{ViewAnswer}
-use Rattle.path.specs.declared.ViewAnswer.TheVariants.{Seen, Refused as Unread}
+use Rattle.path.specs.declared.PathView.{PathView}
+use Rattle.path.specs.declared.Refusal.{Refusal}
 use Rattle.book_records.specs.declared.Manner.{Manner}
 use Rattle.book_records.specs.declared.Manner.TheVariants.{Plain, Lenient}
 use Rattle.book_records.specs.Calls.{kind_in, key_answer}
 use Rattle.book_key.specs.declared.MadeKey.{MadeKey}
 
 -- by the mark, as `is_loose` of the reading
-abbrev pub loose_by : Manner → ViewAnswer → Bool
-loose_by Plain (Seen v) = not v.exact
-loose_by Plain (Unread w) = false
+abbrev pub loose_by : Manner → Result PathView Refusal → Bool
+loose_by Plain (Ok v) = not v.exact
+loose_by Plain (Err w) = false
 loose_by Lenient x = false
 
 -- the kind of a flat reading, 0 beside a refusal
-abbrev pub kind_seen : ViewAnswer → ℕ
-kind_seen (Seen v) = v.kind
-kind_seen (Unread w) = 0
+abbrev pub kind_seen : Result PathView Refusal → ℕ
+kind_seen (Ok v) = v.kind
+kind_seen (Err w) = 0
 
-abbrev pub kind_beside : ℕ → ViewAnswer → ℕ
+abbrev pub kind_beside : ℕ → Result PathView Refusal → ℕ
 kind_beside n x = cond (eqb n 0) (kind_seen x) 0
 
 -- the kind of a key that a field of 255 bytes takes

@@ -1,6 +1,6 @@
 -- What the reading of a text tells of the key's field: the loose texts, the answer of the writer of keys, and the key's kind.
 -- Assumes nothing.
-use Rattle.std.specs.Prelude.{ℕ, ◌≡◌, Bool, true, false, cond, not, List, eqb, leb, length}
+use Rattle.std.specs.Prelude.{ℕ, ◌≡◌, Bool, true, false, cond, not, List, eqb, leb, length, Result, Ok, Err}
 use Rattle.std.proofs.Math.Path.{refl}
 use Rattle.std.proofs.Common.{sym, ap, ◌∙◌, eq-eqb, ne_eqb}
 use Rattle.text.specs.Put.{Wanted}
@@ -9,10 +9,7 @@ use Rattle.text.specs.Refusal as refusal
 use Rattle.text.specs.declared.Written.{Written}
 use Rattle.path.specs.declared.PathView.{PathView}
 use Rattle.path.specs.declared.Refusal.{Refusal}
-use Rattle.path.specs.declared.Reading.{Reading}
-use Rattle.path.specs.declared.Reading.TheVariants.{Read, Refused}
-use Rattle.path.specs.declared.ViewAnswer.{ViewAnswer}
-use Rattle.path.specs.declared.ViewAnswer.TheVariants.{Seen, Refused as Unread}
+use Rattle.path.specs.Reading.{Reading}
 use Rattle.path.specs.Read.{read_path, key_of}
 use Rattle.path.specs.View.{view_of, viewed_by}
 use Rattle.book_records.specs.declared.Manner.{Manner}
@@ -23,25 +20,25 @@ use Rattle.book_records.specs.TextLaws.{answer-long, answer-other, for-own}
 use Rattle.book_key.specs.Field.{loose_by, kind_seen, kind_beside, kind_made}
 
 -- ---- which flat readings are loose
-pub unread-taken : (m : Manner) (x : ViewAnswer) (w : Refusal) → x ≡ Unread w → false ≡ loose_by m x
+pub unread-taken : (m : Manner) (x : Result PathView Refusal) (w : Refusal) → x ≡ Err w → false ≡ loose_by m x
 unread-taken Plain x w h = rw h
 unread-taken Lenient x w h = refl
 
-pub plain-by-mark : (m : Manner) (x : ViewAnswer) (v : PathView) → x ≡ Seen v → m ≡ Plain → not v.exact ≡ loose_by m x
+pub plain-by-mark : (m : Manner) (x : Result PathView Refusal) (v : PathView) → x ≡ Ok v → m ≡ Plain → not v.exact ≡ loose_by m x
 plain-by-mark m x v h k = rw (h, k)
 
-pub lenient-taken : (m : Manner) (x : ViewAnswer) → m ≡ Lenient → false ≡ loose_by m x
+pub lenient-taken : (m : Manner) (x : Result PathView Refusal) → m ≡ Lenient → false ≡ loose_by m x
 lenient-taken m x k = rw k
 
 -- those whose readings are
 loose-read : (m : Manner) (r : Reading) → loose_by m (viewed_by r) ≡ is_loose m r
 unfolding viewed_by view_of
-loose-read Plain (Read p e) = refl
-loose-read Plain (Refused w) = refl
+loose-read Plain (Ok r) = refl
+loose-read Plain (Err w) = refl
 loose-read Lenient r = refl
 
 -- ---- the field's answer, and the field
-module _ (m : Manner) (t : List ℕ) (x : ViewAnswer) (by : x ≡ viewed_by (read_path t)) (b : Bool) (told : b ≡ loose_by m x) where
+module _ (m : Manner) (t : List ℕ) (x : Result PathView Refusal) (by : x ≡ viewed_by (read_path t)) (b : Bool) (told : b ≡ loose_by m x) where
   is-loose : b ≡ is_loose m (read_path t)
   is-loose = told ∙ ap (loose_by m) by ∙ loose-read m (read_path t)
 
@@ -67,22 +64,22 @@ module _ (m : Manner) (t : List ℕ) (x : ViewAnswer) (by : x ≡ viewed_by (rea
     field_fits h = written ∙ sym (answer-other (key_for m t) (λ q. h (ap (λ (v : Written). v.refusal) written ∙ q)))
 
 -- ---- the kind
-pub beside-refusal : (n : ℕ) (x : ViewAnswer) → (n ≡ 0 → ⊥) → 0 ≡ kind_beside n x
+pub beside-refusal : (n : ℕ) (x : Result PathView Refusal) → (n ≡ 0 → ⊥) → 0 ≡ kind_beside n x
 beside-refusal n x h = rw (ne_eqb n 0 h)
 
-pub beside-unread : (n : ℕ) (x : ViewAnswer) (w : Refusal) → n ≡ 0 → x ≡ Unread w → 0 ≡ kind_beside n x
+pub beside-unread : (n : ℕ) (x : Result PathView Refusal) (w : Refusal) → n ≡ 0 → x ≡ Err w → 0 ≡ kind_beside n x
 beside-unread n x w h e = rw (eq-eqb n 0 h, e)
 
-pub beside-seen : (n : ℕ) (x : ViewAnswer) (v : PathView) → n ≡ 0 → x ≡ Seen v → v.kind ≡ kind_beside n x
+pub beside-seen : (n : ℕ) (x : Result PathView Refusal) (v : PathView) → n ≡ 0 → x ≡ Ok v → v.kind ≡ kind_beside n x
 beside-seen n x v h e = rw (eq-eqb n 0 h, e)
 
 kind-read : (r : Reading) → kind_seen (viewed_by r) ≡ kind_by r
 unfolding viewed_by view_of
-kind-read (Read p e) = refl
-kind-read (Refused w) = refl
+kind-read (Ok r) = refl
+kind-read (Err w) = refl
 
 -- beside the field's refusal it is the key's
-pub kind-made : (m : Manner) (t : List ℕ) (x : ViewAnswer) → x ≡ viewed_by (read_path t) → (n : ℕ) → n ≡ (key_answer (key_for m t)).refusal → kind_beside n x ≡ kind_made (key_for m t)
+pub kind-made : (m : Manner) (t : List ℕ) (x : Result PathView Refusal) → x ≡ viewed_by (read_path t) → (n : ℕ) → n ≡ (key_answer (key_for m t)).refusal → kind_beside n x ≡ kind_made (key_for m t)
 unfolding kind_made key_answer kind_in
 kind-made m t x by n h = rw h (go (key_for_lem m t) refl)
   where

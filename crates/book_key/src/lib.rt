@@ -10,7 +10,7 @@ ghost use Rattle.book_key.specs.Field.{loose_by, kind_beside, made_key};
 
 use book_records::Manner;
 use key::write_read;
-use path::ViewAnswer;
+use path::{PathView, Refusal};
 use text::Written;
 use text::refusal::{KEY_TOO_LONG, LOOSE, NO_ROOM};
 use walk::walk_view;
@@ -31,10 +31,10 @@ pub struct MadeKey {
 }
 
 // Whether a call of that manner refuses what was read for its spelling.
-fn is_loose(manner: Manner, read: ViewAnswer) -> bool
+fn is_loose(manner: Manner, read: Result<PathView, Refusal>) -> bool
     ensures { result ≡ loose_by manner read }
 {
-    let ViewAnswer::Seen(v) = read else {
+    let Ok(v) = read else {
         return false;
     };
     match manner {
@@ -44,13 +44,13 @@ fn is_loose(manner: Manner, read: ViewAnswer) -> bool
 }
 
 // The kind of what was read; 0 beside a refusal.
-fn kind_beside(refusal: u8, read: ViewAnswer) -> u8
+fn kind_beside(refusal: u8, read: Result<PathView, Refusal>) -> u8
     ensures { result ≡ kind_beside refusal read }
 {
     if refusal != 0 {
         return 0;
     }
-    let ViewAnswer::Seen(v) = read else {
+    let Ok(v) = read else {
         return 0;
     };
     v.kind
@@ -58,7 +58,12 @@ fn kind_beside(refusal: u8, read: ViewAnswer) -> u8
 
 // Writes the key of a text, as it was read, into a field of 255 bytes: 1, 2, 3, in a plain call 20, 10. A refusal leaves the field as
 // it was.
-fn key_into(manner: Manner, text: &[u8], read: ViewAnswer, field: &mut [u8]) -> Written
+fn key_into(
+    manner: Manner,
+    text: &[u8],
+    read: Result<PathView, Refusal>,
+    field: &mut [u8],
+) -> Written
     requires { (read ≡ viewed_by (read_path text.now)) × (length field.old ≡ 255) }
     ensures value { result ≡ key_answer (key_for manner text.now) }
     ensures field_after { field.new ≡ left (key_for manner text.now) field.old }

@@ -1,13 +1,11 @@
 -- What a call means is one of the cases of `Means`. It stands here, since it rests on a definition that an edit of must-fail/ turns.
 -- Assumes nothing.
-use Rattle.std.specs.Prelude.{ℕ, ◌≡◌, refl, Bool, true, false, cond, ◌&&◌, List, ◌∷◌, ltb, leb, length}
+use Rattle.std.specs.Prelude.{ℕ, ◌≡◌, refl, Bool, true, false, cond, ◌&&◌, List, ◌∷◌, ltb, leb, length, Err, Option, Some, None}
 use Rattle.std.proofs.Common.{arith, ltb-true, ltb-false, leb-true, leb-false}
 use Rattle.text.specs.Part.{ascii}
 use Rattle.text.specs.Put.{Wanted, refused, text}
-use Rattle.path.specs.declared.PathAnswer.{PathAnswer}
-use Rattle.path.specs.declared.PathAnswer.TheVariants.{Found, Nothing}
+use Rattle.path.specs.declared.Path.{Path}
 use Rattle.path.specs.declared.Refusal.TheVariants.{TooLong, NotAscii}
-use Rattle.path.specs.declared.Reading.TheVariants.{Refused as Unread}
 use Rattle.path.specs.Kinds.{kinds}
 use Rattle.path.specs.Read.{read_first, why_not, refusal_of, reading_of, read_path, key_by, key_of}
 use Rattle.book_records.specs.Records.{Key}
@@ -29,12 +27,12 @@ key-refused c n w e = go (ltb 4096 (length t)) refl (ascii t) refl (read_first k
     t : List ℕ
     t = c.text
 
-    go : (l : Bool) → ltb 4096 (length t) ≡ l → (a : Bool) → ascii t ≡ a → (r : PathAnswer) → read_first kinds t ≡ r
-        → key_by t (cond l (Unread TooLong) (cond a (reading_of t r) (Unread NotAscii))) ≡ refused n → Declined c n
+    go : (l : Bool) → ltb 4096 (length t) ≡ l → (a : Bool) → ascii t ≡ a → (r : Option Path) → read_first kinds t ≡ r
+        → key_by t (cond l (Err TooLong) (cond a (reading_of t r) (Err NotAscii))) ≡ refused n → Declined c n
     go true l a ea r er q = let z : n ≡ 1 = cc in rw z (too_long_when w (ltb-true 4096 (length t) l))
     go false l false ea r er q = let z : n ≡ 2 = cc in rw z (not_ascii_when w (ltb-false 4096 (length t) l) ea)
-    go false l true ea (Found p) er q = let z : ◌≡◌ {A = ℕ} 0 1 = cc in absurd (omega arith)
-    go false l true ea Nothing er q = let z : n ≡ refusal_of (why_not t) = cc in rw z (not_a_path_when w (ltb-false 4096 (length t) l) ea er)
+    go false l true ea (Some p) er q = let z : ◌≡◌ {A = ℕ} 0 1 = cc in absurd (omega arith)
+    go false l true ea None er q = let z : n ≡ refusal_of (why_not t) = cc in rw z (not_a_path_when w (ltb-false 4096 (length t) l) ea er)
 
 under-means : (c : Call) (k : Key) → HasKey c k → (q : Asked) → c.asked ≡ q → Means c (under q k)
 under-means c k h (to_write v) p = kind (is_retired k) refl

@@ -1,13 +1,12 @@
 -- The calls on a book: writes, removals and lookups on texts, and what each means.
 -- Assumes nothing.
-use Rattle.std.specs.Prelude.{ℕ, ◌≤◌, ◌≡◌, refl, Bool, true, false, cond, not, ◌&&◌, ◌||◌, List, [], ◌∷◌, eqb, leb, length, get_or}
+use Rattle.std.specs.Prelude.{ℕ, ◌≤◌, ◌≡◌, refl, Bool, true, false, cond, not, ◌&&◌, ◌||◌, List, [], ◌∷◌, eqb, leb, length, get_or, Ok, Err}
 use Rattle.text.specs.Order.{cmp, Before}
 use Rattle.text.specs.Refusal.{no_room, bad_length, key_too_long, loose, bad_owner, retired}
 use Rattle.text.specs.Put.{Wanted, refused, text}
 use Rattle.text.specs.Put as put
 use Rattle.text.specs.declared.Written.{Written}
-use Rattle.path.specs.declared.Reading.{Reading}
-use Rattle.path.specs.declared.Reading.TheVariants.{Read, Refused}
+use Rattle.path.specs.Reading.{Reading}
 use Rattle.path.specs.Read.{read_path, key_of}
 use Rattle.path.specs.View.{kind_of}
 use Rattle.book_records.specs.declared.Manner.{Manner}
@@ -74,8 +73,8 @@ Owned (o ∷ t) = (is_owner o ≡ true) × Exact t
 -- ---- kinds
 -- the kind of what a text reads as, 0 where it does not
 abbrev pub kind_by : Reading → ℕ
-kind_by (Read p exact) = kind_of p
-kind_by (Refused w) = 0
+kind_by (Ok r) = kind_of r.path
+kind_by (Err w) = 0
 
 unfoldable pub kind_in : List ℕ → ℕ
 kind_in t = kind_by (read_path t)
@@ -93,8 +92,8 @@ Spelled Lenient t = Unit {0}
 -- ---- meaning
 -- by the reader's mark: a plain call refuses a loose text, a lenient one none
 abbrev pub is_loose : Manner → Reading → Bool
-is_loose Plain (Read p exact) = not exact
-is_loose Plain (Refused w) = false
+is_loose Plain (Ok r) = not r.exact
+is_loose Plain (Err w) = false
 is_loose Lenient r = false
 
 -- the key of a text in a call of that manner: the reader's refusals, then 20

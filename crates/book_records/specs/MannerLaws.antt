@@ -1,7 +1,7 @@
 -- Laws of exact texts and of manners: what the reader's mark tells, and which key a text has in a call of either manner.
 -- Assumes nothing.
 use Prim.Native.Nat.{ℕ}
-use Rattle.std.specs.Prelude.{◌≡◌, refl, Bool, true, false, cond, ◌⊎◌}
+use Rattle.std.specs.Prelude.{◌≡◌, refl, Bool, true, false, cond, not, ◌⊎◌, Ok, Err}
 use Rattle.std.proofs.Common.{sym, ap, ◌∙◌, inl, inr, arith}
 use mathlib.Core.List.{List, ◌∷◌}
 use Rattle.text.specs.Part.{same}
@@ -10,8 +10,7 @@ use Rattle.text.specs.Refusal.{loose, bad_owner}
 use Rattle.text.specs.Put.{Wanted, refused, text}
 use Rattle.path.specs.declared.Path.{Path}
 use Rattle.path.specs.declared.Refusal.{Refusal}
-use Rattle.path.specs.declared.Reading.{Reading}
-use Rattle.path.specs.declared.Reading.TheVariants.{Read, Refused}
+use Rattle.path.specs.Reading.{Reading, Read}
 use Rattle.path.specs.BackLaws.{read-exact, exact-renders, read_again}
 use Rattle.path.specs.BackLaws as back
 use Rattle.path.specs.Read.{key_of, key_by, read_path, render_path, refusal_of}
@@ -26,7 +25,7 @@ pub key-read : (t : List ℕ) (p : Path) (e : Bool) → read_path t ≡ Read p e
 unfolding key_of
 key-read t p e h = ap (key_by t) h
 
-pub key-refused : (t : List ℕ) (r : Refusal) → read_path t ≡ Refused r → key_of t ≡ refused (refusal_of r)
+pub key-refused : (t : List ℕ) (r : Refusal) → read_path t ≡ Err r → key_of t ≡ refused (refusal_of r)
 unfolding key_of
 key-refused t r h = ap (key_by t) h
 
@@ -40,7 +39,7 @@ exact-no t p h x =
     let z : ◌≡◌ {A = ℕ} 0 1 = cc (same_refl t) in
     omega arith
 
-pub exact-refused : (t : List ℕ) (r : Refusal) → read_path t ≡ Refused r → Exact t → ⊥
+pub exact-refused : (t : List ℕ) (r : Refusal) → read_path t ≡ Err r → Exact t → ⊥
 exact-refused t r h x =
     let q = key-refused t r h in
     let z : ◌≡◌ {A = ℕ} 0 1 = cc in
@@ -64,12 +63,15 @@ pub key_for_lem : (m : Manner) (t : List ℕ) → KeyFor m t (key_for m t)
 unfolding key_for
 key_for_lem m t = go m (read_path t) refl
   where
+    plain : (p : Path) (e : Bool) → read_path t ≡ Read p e → KeyFor Plain t (cond (not e) (refused loose) (key_of t))
+    plain p true h = rw (key-read t p true h) (own (key-read t p true h) (exact_yes t p h))
+    plain p false h = other (key-read t p false h) (exact-no t p h)
+
     go : (n : Manner) (r : Reading) → read_path t ≡ r → KeyFor n t (cond (is_loose n r) (refused loose) (key_of t))
-    go Plain (Read p true) h = rw (key-read t p true h) (own (key-read t p true h) (exact_yes t p h))
-    go Plain (Read p false) h = other (key-read t p false h) (exact-no t p h)
-    go Plain (Refused w) h = rw (key-refused t w h) (unread (key-refused t w h))
-    go Lenient (Read p e) h = rw (key-read t p e h) (own (key-read t p e h) tt)
-    go Lenient (Refused w) h = rw (key-refused t w h) (unread (key-refused t w h))
+    go Plain (Ok r) h = plain r.path r.exact h
+    go Plain (Err w) h = rw (key-refused t w h) (unread (key-refused t w h))
+    go Lenient (Ok r) h = rw (key-read t r.path r.exact h) (own (key-read t r.path r.exact h) tt)
+    go Lenient (Err w) h = rw (key-refused t w h) (unread (key-refused t w h))
 
 clash : {k : Key} {n : ℕ} (w : Wanted) → w ≡ text k → w ≡ refused n → ⊥
 clash w e f = let z : ◌≡◌ {A = ℕ} 0 1 = cc in omega arith

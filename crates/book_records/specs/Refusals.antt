@@ -2,11 +2,10 @@
 -- it, in the order of the documents, denied in its premises: 23, 1, 2, 3 (or 17, 18, 19, which stand at its place), 20 for a plain call,
 -- 10, and then 25 and 6 for a write and 4 for a lookup.
 -- Assumes nothing.
-use Rattle.std.specs.Prelude.{ℕ, ◌≤◌, ◌<◌, ◌≡◌, true, false, length, List}
+use Rattle.std.specs.Prelude.{ℕ, ◌≤◌, ◌<◌, ◌≡◌, true, false, length, List, None}
 use Rattle.text.specs.Part.{ascii}
 use Rattle.text.specs.Refusal.{too_long, not_ascii, no_room, bad_length, key_too_long, bad_owner}
 use Rattle.text.specs.Refusal as refusal
-use Rattle.path.specs.declared.PathAnswer.TheVariants.{Nothing}
 use Rattle.path.specs.Kinds.{kinds}
 use Rattle.path.specs.Read.{read_first, why_not, refusal_of}
 use Rattle.book_records.specs.Records.{Key}
@@ -41,7 +40,7 @@ pub data Declined (c : Call) : ℕ → Type 0 where
   bad_owner_when : is_owner c.owner ≡ false → Declined c bad_owner
   too_long_when : is_owner c.owner ≡ true → 4096 < length c.text → Declined c too_long
   not_ascii_when : is_owner c.owner ≡ true → length c.text ≤ 4096 → ascii c.text ≡ false → Declined c not_ascii
-  not_a_path_when : is_owner c.owner ≡ true → length c.text ≤ 4096 → ascii c.text ≡ true → read_first kinds c.text ≡ Nothing → Declined c (refusal_of (why_not c.text))
+  not_a_path_when : is_owner c.owner ≡ true → length c.text ≤ 4096 → ascii c.text ≡ true → read_first kinds c.text ≡ None → Declined c (refusal_of (why_not c.text))
   loose : {k : Key} → PathOf c k → (Spelled c.manner c.text → ⊥) → Declined c refusal.loose
   key_too_long_when : {k : Key} → PathOf c k → Spelled c.manner c.text → 256 < length k → Declined c key_too_long
   retired : {k : Key} {v : List ℕ} → c.asked ≡ to_write v → HasKey c k → is_retired k ≡ true → Declined c refusal.retired

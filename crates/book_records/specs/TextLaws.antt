@@ -1,14 +1,13 @@
 -- Laws of the calls: what stands in for the refusals of a text, and what a call with a key means.
 -- Assumes nothing.
-use Rattle.std.specs.Prelude.{◌≡◌, refl, Bool, true, false, cond, List, ◌∷◌, ℕ, ◌≤◌, leb, length, take, drop}
+use Rattle.std.specs.Prelude.{◌≡◌, refl, Bool, true, false, cond, List, ◌∷◌, ℕ, ◌≤◌, leb, length, take, drop, Ok, Err}
 use Rattle.std.proofs.Common.{sym, ap, ◌∙◌, arith, take_at, leb-true}
 use Rattle.text.specs.PutLaws.{left-fits, length-left, put-zero}
 use Rattle.text.specs.Put.{Wanted, text}
 use Rattle.text.specs.Put as put
 use Rattle.path.specs.declared.Refusal.{Refusal}
 use Rattle.path.specs.declared.Refusal.TheVariants.{TooLong, NotAscii, NotAPath, NoDigits, NotADigit, TooLarge}
-use Rattle.path.specs.declared.Reading.{Reading}
-use Rattle.path.specs.declared.Reading.TheVariants.{Read, Refused}
+use Rattle.path.specs.Reading.{Reading}
 use Rattle.path.specs.Read.{key_of, read_path, refusal_of}
 use Rattle.book_records.specs.declared.Manner.{Manner}
 use Rattle.book_records.specs.Act.{Meaning, refuses, writes, removes, looks}
@@ -34,8 +33,8 @@ key-own : (t : List ℕ) (n : ℕ) → key_of t ≡ put.refused n → Own n
 key-own t n h = go (read_path t) refl
   where
     go : (r : Reading) → read_path t ≡ r → Own n
-    go (Read p e) q = let w = key-read t p e q in let z : ◌≡◌ {A = ℕ} 0 1 = cc in absurd (let y : ⊥ = omega arith in y)
-    go (Refused r) q = let w = key-refused t r q in let e : refusal_of r ≡ n = cc in rw e at (own r)
+    go (Ok r) q = let w = key-read t r.path r.exact q in let z : ◌≡◌ {A = ℕ} 0 1 = cc in absurd (let y : ⊥ = omega arith in y)
+    go (Err r) q = let w = key-refused t r q in let e : refusal_of r ≡ n = cc in rw e at (own r)
 
 pub for-own : (m : Manner) (t : List ℕ) (n : ℕ) → key_for m t ≡ put.refused n → Own n
 for-own m t n h = go (key_for_lem m t) h

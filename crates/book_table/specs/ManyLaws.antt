@@ -1,10 +1,10 @@
 -- What the ways through the calls on a table come to.
 -- Assumes nothing.
-use Rattle.std.specs.Prelude.{◌≡◌, ℕ, zero, suc, ◌+◌, ◌*◌, ◌/◌, ◌<◌, ◌≤◌, Bool, true, false, List, [], ◌∷◌, ◌++◌, map, length, get_or, drop, slice_index_or, slice_range}
+use Rattle.std.specs.Prelude.{◌≡◌, ℕ, zero, suc, ◌+◌, ◌*◌, ◌/◌, ◌<◌, ◌≤◌, Bool, true, false, List, [], ◌∷◌, ◌++◌, map, length, get_or, drop, slice_index_or, slice_range, Option, None}
 use Rattle.std.proofs.Math.Path.{refl, sym, ap, ap₂}
 use Rattle.std.proofs.Common.{◌∙◌, arith}
 use mathlib.Core.List.{append_assoc, append-nil}
-use Rattle.std.proofs.Math.Option.{Option, none, some}
+use Rattle.std.proofs.Math.Option.{Option as Maybe, none, some}
 use Prim.Native.Nat.{Ordering}
 use Rattle.std.proofs.Math.ListN.{get_elem?, length-append}
 use Rattle.std.proofs.lemmas.List.{length-map}
@@ -28,8 +28,6 @@ use Rattle.book.specs.BookLaws.{lawful, sizes, key_is}
 use Rattle.book.specs.Outcome.{Looked, Found, this_book, written_by, shown}
 use Rattle.book.specs.OutcomeLaws.{one-outcome}
 use Rattle.book.specs.RecordLaws.{judged-none}
-use Rattle.book.specs.declared.check.BookAnswer.{BookAnswer}
-use Rattle.book.specs.declared.check.BookAnswer.TheVariants.{Nothing}
 use Rattle.book_table.specs.Table.{filled, fill}
 use Rattle.book_table.specs.TableLaws.{sound-filled}
 use Rattle.book_table.specs.Lines.{lines, Line, Next}
@@ -62,7 +60,7 @@ pub table-size : (b : List ℕ) (n : ℕ) (h : Counts Current b n) → length (t
 table-size b n h = ap length (sym (table_is b n h)) ∙ (sound-filled (key_at Current b) n (omega (arith, (sizes Current lawful b n h).most))).size
 
 -- ---- filling
-pub fills-no_book : (b : List ℕ) (a : BookAnswer) → Judged Current b a → a ≡ Nothing → (out : List ℕ) → Fills Current b out 9 out
+pub fills-no_book : (b : List ℕ) (a : Option ℕ) → Judged Current b a → a ≡ None → (out : List ℕ) → Fills Current b out 9 out
 fills-no_book b a j e out = many.Fills.no_book (judged-none b a j e) refl refl
 
 module _ (b out : List ℕ) (n : ℕ) (h : Counts Current b n) where
@@ -100,18 +98,18 @@ unfolding act
 act-short full (refuses n) s f = says-short n
 act-short full (writes k v) s f = go (get s k) (full k s)
   where
-    go : (x : Option (List ℕ)) (t : Bool) → Short (add_to x t (records.put s k v) s).0
+    go : (x : Maybe (List ℕ)) (t : Bool) → Short (add_to x t (records.put s k v) s).0
     go (some u) t = says-short 0
     go none true = says-short 11
     go none false = says-short 0
 act-short full (removes k) s f = go (get s k)
   where
-    go : (x : Option (List ℕ)) → Short (take_from x (records.del s k) s).0
+    go : (x : Maybe (List ℕ)) → Short (take_from x (records.del s k) s).0
     go none = says-short 12
     go (some u) = says-short 0
 act-short full (looks k) s f = go (get s k) refl
   where
-    go : (x : Option (List ℕ)) → get s k ≡ x → Short (look_in x s).0
+    go : (x : Maybe (List ℕ)) → get s k ≡ x → Short (look_in x s).0
     go none e = says-short 12
     go (some u) e = length-put (zeros 64) 0 u (omega (arith, value-short s f k u e, length-zeros 64)) ∙ length-zeros 64
 
@@ -218,7 +216,7 @@ pub table_good : (b table : List ℕ) (n : ℕ) (r : Bool) → r ≡ same table 
 table_good b table n r e f = same-is table (filled (key_at Current b) n) (sym e ∙ f)
 
 module _ (b : List ℕ) (o : ℕ) (table texts out : List ℕ) where
-  pub many-no_book : (a : BookAnswer) → Judged Current b a → a ≡ Nothing → LooksMany Current b o table texts out (refusal 9) out
+  pub many-no_book : (a : Option ℕ) → Judged Current b a → a ≡ None → LooksMany Current b o table texts out (refusal 9) out
   many-no_book a j e = many.LooksMany.no_book (judged-none b a j e) refl refl
 
   module _ (n : ℕ) (h : Counts Current b n) (q : Bool) (eq : q ≡ is_owner o) where

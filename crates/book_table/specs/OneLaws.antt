@@ -1,6 +1,6 @@
 -- Each call on a table has one outcome.
 -- Assumes nothing.
-use Rattle.std.specs.Prelude.{◌≡◌, ℕ, true, false, List, [], ◌∷◌, ◌++◌, map, length, ◌≢◌}
+use Rattle.std.specs.Prelude.{◌≡◌, ℕ, true, false, List, [], ◌∷◌, ◌++◌, map, length, ◌≢◌, Option, Some, None}
 use Rattle.std.proofs.Math.Path.{refl, ap₂}
 use Rattle.std.proofs.Common.{sym, ap, ◌∙◌, arith}
 use Rattle.text.specs.declared.Written.{Written}
@@ -21,14 +21,12 @@ use Rattle.book_table.specs.Many as many
 use Rattle.book_table.specs.Table.{fill}
 use Rattle.book_table.specs.Probe.{Told}
 use Rattle.book_table.specs.ProbeLaws.{Rising, one_holds}
-use Rattle.book_table.specs.declared.Slot.{Slot}
-use Rattle.book_table.specs.declared.Slot.TheVariants.{At, Nowhere}
 
-pub one_told : (f : ℕ → Key) (n : ℕ) → Rising f n → (k : Key) (s t : Slot) → Told f n k s → Told f n k t → s ≡ t
-one_told f n u k (At i) (At j) x y = ap At (one_holds f n u k i j x y)
-one_told f n u k (At i) Nowhere x y = absurd (y i x)
-one_told f n u k Nowhere (At j) x y = absurd (x j y)
-one_told f n u k Nowhere Nowhere x y = refl
+pub one_told : (f : ℕ → Key) (n : ℕ) → Rising f n → (k : Key) (s t : Option ℕ) → Told f n k s → Told f n k t → s ≡ t
+one_told f n u k (Some i) (Some j) x y = ap Some (one_holds f n u k i j x y)
+one_told f n u k (Some i) None x y = absurd (y i x)
+one_told f n u k None (Some j) x y = absurd (x j y)
+one_told f n u k None None x y = refl
 
 module _ (F : Form) (L : Lawful F) where
   pub one_table : (b : List ℕ) (x y : Book F b) → table_of x ≡ table_of y

@@ -1,9 +1,7 @@
 -- The answer of a probe: the slot that holds the key, or that none of the first n does.
 -- Assumes nothing.
-use Rattle.std.specs.Prelude.{◌≡◌, ℕ, ◌<◌}
+use Rattle.std.specs.Prelude.{◌≡◌, ℕ, ◌<◌, Option, Some, None}
 use Rattle.book_records.specs.Records.{Key}
-use Rattle.book_table.specs.declared.Slot.{Slot}
-use Rattle.book_table.specs.declared.Slot.TheVariants.{At, Nowhere}
 
 -- slot i holds k
 abbrev pub Holds : (ℕ → Key) → ℕ → Key → ℕ → Type 0
@@ -12,6 +10,6 @@ Holds f n k i = (i < n) × (f i ≡ k)
 abbrev pub Lacks : (ℕ → Key) → ℕ → Key → Type 0
 Lacks f n k = (j : ℕ) → Holds f n k j → ⊥
 
-abbrev pub Told : (ℕ → Key) → ℕ → Key → Slot → Type 0
-Told f n k (At i) = Holds f n k i
-Told f n k Nowhere = Lacks f n k
+abbrev pub Told : (ℕ → Key) → ℕ → Key → Option ℕ → Type 0
+Told f n k (Some i) = Holds f n k i
+Told f n k None = Lacks f n k

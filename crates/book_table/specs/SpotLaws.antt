@@ -1,6 +1,6 @@
 -- What a probe tells of a book is what the search by order tells.
 -- Assumes nothing.
-use Rattle.std.specs.Prelude.{◌≡◌, ℕ, ◌<◌, Bool, true, false, List, ◌∷◌, ◌≢◌, refl}
+use Rattle.std.specs.Prelude.{◌≡◌, ℕ, ◌<◌, Bool, true, false, List, ◌∷◌, ◌≢◌, refl, Ok, Err, Option, Some, None}
 use Rattle.std.proofs.Common.{sym, ap, ◌∙◌, arith}
 use Prim.Native.Nat.{Ordering}
 use Rattle.text.specs.Order.{cmp}
@@ -16,12 +16,9 @@ use Rattle.book.specs.BookLaws.{lawful, key_is}
 use Rattle.book.specs.Find.{Spotted}
 use Rattle.book.specs.Outcome.{Found}
 use Rattle.book.specs.RecordLaws.{look-free}
-use Rattle.book.specs.declared.find.Spot.TheVariants.{Taken, Free}
 use Rattle.book_table.specs.FirstLaws.{Sought, seek}
 use Rattle.book_table.specs.Probe.{Holds, Lacks, Told}
 use Rattle.book_table.specs.ProbeLaws.{Rising}
-use Rattle.book_table.specs.declared.Slot.{Slot}
-use Rattle.book_table.specs.declared.Slot.TheVariants.{At, Nowhere}
 
 abbrev not_gt : Ordering → Bool
 not_gt Ordering.lt = true
@@ -47,7 +44,7 @@ module _ (b k : List ℕ) (n : ℕ) (hold : Counts Current b n) where
       let t = at_some x.records j (omega (arith, hold.1)) in
       rw (key_is Current lawful b x i r.0 r.1, key_is Current lawful b x j t.0 t.1) (sorted-at x.records i j r.0 t.0 x.sorted l r.1 t.1)
 
-  pub at-taken : (p : ℕ) → Holds f n k p → Spotted Current b k n (Taken p)
+  pub at-taken : (p : ℕ) → Holds f n k p → Spotted Current b k n (Ok p)
   at-taken p h = (record { within = omega (arith, h.0); before = before; next = next }, h.0, same)
     where
       same : cmp k (f p) ≡ Ordering.eq
@@ -59,13 +56,13 @@ module _ (b k : List ℕ) (n : ℕ) (hold : Counts Current b n) where
       next : p < n → cmp k (f p) ≢ Ordering.gt
       next l g = let z : ◌≡◌ {A = ℕ} 0 1 = cc (same) in omega arith
 
-  pub nowhere-free : Lacks f n k → (p : ℕ) × Spotted Current b k n (Free p)
+  pub nowhere-free : Lacks f n k → (p : ℕ) × Spotted Current b k n (Err p)
   nowhere-free h = go (seek (λ (i : ℕ). not_gt (cmp k (f i))) n)
     where
       other : (p : ℕ) → p < n → cmp k (f p) ≢ Ordering.eq
       other p l e = h p (l, sym (cmp-eq k (f p) e))
 
-      go : Sought (λ (i : ℕ). not_gt (cmp k (f i))) n → (p : ℕ) × Spotted Current b k n (Free p)
+      go : Sought (λ (i : ℕ). not_gt (cmp k (f i))) n → (p : ℕ) × Spotted Current b k n (Err p)
       go (Sought.found d l) = (
         d,
         (
@@ -81,9 +78,9 @@ module _ (b k : List ℕ) (n : ℕ) (hold : Counts Current b n) where
         ),
       )
 
-  pub told-taken : (s : Slot) (p : ℕ) → Told f n k s → s ≡ At p → Spotted Current b k n (Taken p)
+  pub told-taken : (s : Option ℕ) (p : ℕ) → Told f n k s → s ≡ Some p → Spotted Current b k n (Ok p)
   told-taken s p t e = at-taken p (rw e at t)
 
-pub told-nowhere : (b : List ℕ) (owner : ℕ) (key : List ℕ) (n : ℕ) (hold : Counts Current b n) (s : Slot) → Told (key_at Current b) n (owner ∷ key) s → s ≡ Nowhere
+pub told-nowhere : (b : List ℕ) (owner : ℕ) (key : List ℕ) (n : ℕ) (hold : Counts Current b n) (s : Option ℕ) → Told (key_at Current b) n (owner ∷ key) s → s ≡ None
     → (out : List ℕ) → Found Current b (looks (owner ∷ key)) out (buffer.refusal 12) out
 told-nowhere b owner key n hold s t e out = let q = nowhere-free b (owner ∷ key) n hold (rw e at t) in look-free b owner key n q.0 hold q.1 out

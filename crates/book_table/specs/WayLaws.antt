@@ -1,6 +1,6 @@
 -- What the ways through the functions on a table come to.
 -- Assumes nothing.
-use Rattle.std.specs.Prelude.{◌≡◌, ℕ, zero, suc, ◌+◌, ◌-◌, ◌*◌, ◌<◌, ◌≤◌, false, List, [], ◌∷◌, ◌++◌, length, ◌≢◌, slice_index, slice_set, refl}
+use Rattle.std.specs.Prelude.{◌≡◌, ℕ, zero, suc, ◌+◌, ◌-◌, ◌*◌, ◌<◌, ◌≤◌, true, false, List, [], ◌∷◌, ◌++◌, length, ◌≢◌, slice_index, slice_set, refl}
 use Rattle.std.proofs.Math.Path.{sym, ap}
 use Rattle.std.proofs.Common.{◌∙◌, add-one, arith, below_none, below_more, drop_of_length-le}
 use mathlib.Core.List.{append-nil}
@@ -14,12 +14,14 @@ use Rattle.text.specs.PutLaws.{put-zero, put-set}
 use Rattle.book_records.specs.Records.{Key}
 use Rattle.book_form.specs.Form.{zeros, key_at}
 use Rattle.book_form.specs.FormLaws.{length-zeros}
-use Rattle.book_form.specs.Compare.{code}
+use Rattle.book_form.specs.Compare.{ordering_of}
+use Rattle.std.specs.declared.cmp.Ordering.{Ordering as Order}
+use Rattle.std.specs.Ordering.{is_eq}
 use Rattle.book_form.specs.Counted.{stored}
 use Rattle.book_form.specs.VersionLaws.{owned-key}
 use Rattle.book.specs.Book.{Current, Counts}
 use Rattle.book.specs.BookLaws.{lawful, sizes}
-use Rattle.book.specs.FindLaws.{code-eq, code-not}
+use Rattle.book.specs.FindLaws.{told_eq, told_not}
 use Rattle.book_table.specs.FirstLaws.{first-stop}
 use Rattle.book_table.specs.Probe.{Holds, Lacks}
 use Rattle.book_table.specs.Table.{home, spot, bucket, free, free_spot, filled}
@@ -109,14 +111,14 @@ module _ (b t k : List ℕ) (n : ℕ) (hold : Counts Current b n × (t ≡ fille
         let l : v - 1 < n = omega (arith, ew, walk-slot f n t table-sound k d (λ e. z (ew ∙ e))) in
         omega (arith, (sizes Current lawful b n hold.0).used)
 
-    module _ (z : v ≡ 0 → ⊥) (r : ℕ) (e : r ≡ code (cmp k (f (v - 1)))) where
-      pub ended-found : r ≡ 1 → Holds f n k (v - 1)
-      ended-found q = (omega (arith, ew, walk-slot f n t table-sound k d (λ x. z (ew ∙ x))), sym (cmp-eq k (f (v - 1)) (code-eq _ r e q)))
+    module _ (z : v ≡ 0 → ⊥) (r : Order) (e : r ≡ ordering_of (cmp k (f (v - 1)))) where
+      pub ended-found : is_eq r ≡ true → Holds f n k (v - 1)
+      ended-found q = (omega (arith, ew, walk-slot f n t table-sound k d (λ x. z (ew ∙ x))), sym (cmp-eq k (f (v - 1)) (told_eq _ r e q)))
 
-      pub passed-more : Passed t f k d → (r ≢ 1) → Passed t f k (d + 1)
+      pub passed-more : Passed t f k d → is_eq r ≡ false → Passed t f k (d + 1)
       passed-more p q =
           below_more (λ (i : ℕ). (bucket t (home k) i ≢ 0) × (f (bucket t (home k) i - 1) ≢ k)) d p
-          (λ x. z (ew ∙ x), λ x. code-not (cmp k (f (v - 1))) Ordering.eq r 1 e refl q (ap (cmp k) (ap (λ (y : ℕ). f (y - 1)) ew ∙ x) ∙ cmp_self k))
+          (λ x. z (ew ∙ x), λ x. told_not is_eq (cmp k (f (v - 1))) Ordering.eq r e q refl (ap (cmp k) (ap (λ (y : ℕ). f (y - 1)) ew ∙ x) ∙ cmp_self k))
 
   pub ended-all : (d : ℕ) → Passed t f k d → 512 ≤ d → Lacks f n k
   ended-all d p l = walk-missing f n t table-sound k d p (λ m. absurd (let z : ⊥ = omega arith in z))

@@ -1,32 +1,14 @@
 // The 64-bit FNV-1a value of a text.
-ghost use Rattle.std.specs.Prelude.{◌≡◌, ◌*◌, ◌%◌, ◌^◌, ◌<◌, ◌∷◌};
+ghost use Rattle.std.specs.Prelude.{◌≡◌, ◌<◌, ◌∷◌};
 ghost use Rattle.book_table.specs.Hash.{joined, fnv};
 ghost use Rattle.book_table.specs.Table.{home};
 
-use std::num::wrapping_add_u64;
-
-// h times 2^40 + 2^8 + 2^7 + 2^5 + 2^4 + 2 + 1, modulo 2^64.
-fn wrapping_mul_prime(h: u64) -> u64
-    ensures { result ≡ (h * 1099511628211) % 2 ^ 64 }
-{
-    let a = wrapping_add_u64(h << 40, h << 8);
-    let b = wrapping_add_u64(a, h << 7);
-    let c = wrapping_add_u64(b, h << 5);
-    let d = wrapping_add_u64(c, h << 4);
-    let e = wrapping_add_u64(d, h << 1);
-    wrapping_add_u64(e, h)
-}
-
-fn long(x: u8) -> u64
-    ensures { (result ≡ x) × (result < 256) }
-{
-    x as u64
-}
+const PRIME: u64 = 1099511628211;
 
 fn join(h: u64, b: u8) -> u64
     ensures { result ≡ joined h b }
 {
-    wrapping_mul_prime(h ^ long(b))
+    (h ^ u64::from(b)).wrapping_mul(PRIME)
 }
 
 // Of a text with a byte ahead of it.
@@ -34,10 +16,8 @@ fn fnv1a(first: u8, s: &[u8]) -> u64
     ensures { result ≡ fnv (first ∷ s.now) }
 {
     let mut h = join(14695981039346656037, first);
-    let mut i = 0;
-    while i < s.len() {
-        h = join(h, s[i]);
-        i += 1;
+    for &b in s {
+        h = join(h, b);
     }
     h
 }

@@ -11,35 +11,20 @@ ghost use Rattle.book.specs.Book.{Current, Counts};
 ghost use Rattle.book_table.specs.Table.{free_spot, filled};
 ghost use Rattle.book_table.specs.Probe.{Told};
 
-use book_form::{HEAD, SAME, SLOT, clear, compare_key, key_at};
+use book_form::{HEAD, SLOT, clear, compare_key, key_at};
 use hash::home;
 use text::put::write_byte;
-
-// The slot that holds a key, or that none does.
-#[derive(Clone, Copy)]
-pub enum Slot {
-    At(usize),
-    Nowhere,
-}
-
-fn wide(x: u8) -> usize
-    ensures { (result ≡ x) × (result < 256) }
-{
-    x as usize
-}
 
 // The first free bucket from h on, going round.
 fn free_spot(table: &[u8], h: usize) -> usize
     requires { (length table.now ≡ 512) × (h < 512) }
     ensures { (result ≡ free_spot table.now h) × (result < 512) }
 {
-    let mut d = 0;
-    while d < 512 {
+    for d in 0..512 {
         let p = (h + d) % 512;
         if table[p] == 0 {
             return p;
         }
-        d += 1;
     }
     h
 }
@@ -50,31 +35,27 @@ pub(crate) fn fill_table(book: &[u8], n: usize, table: &mut [u8])
     ensures { table.new ≡ filled (key_at Current book.now) n }
 {
     clear(table, 0, 512);
-    let mut i = 0;
-    while i < n {
+    for i in 0..n {
         let at = HEAD + SLOT * i;
         let p = free_spot(table, home(book[at], key_at(book, at + 1)));
-        i += 1;
-        write_byte(table, p, i as u8);
+        write_byte(table, p, (i + 1) as u8);
     }
 }
 
-// The slot of an owner's `key`, in a book with n records, by the table that filling gives.
-pub(crate) fn probe(book: &[u8], n: usize, table: &[u8], owner: u8, key: &[u8]) -> Slot
+// The slot that holds an owner's `key`, in a book with n records, by the table that filling gives.
+pub(crate) fn probe(book: &[u8], n: usize, table: &[u8], owner: u8, key: &[u8]) -> Option<usize>
     requires { Counts Current book.now n × (table.now ≡ filled (key_at Current book.now) n) }
     ensures { Told (key_at Current book.now) n (owner ∷ key.now) result }
 {
     let h = home(owner, key);
-    let mut d = 0;
-    while d < 512 {
-        let v = wide(table[(h + d) % 512]);
+    for d in 0..512 {
+        let v = usize::from(table[(h + d) % 512]);
         if v == 0 {
-            return Slot::Nowhere;
+            return None;
         }
-        if compare_key(book, HEAD + SLOT * (v - 1), owner, key) == SAME {
-            return Slot::At(v - 1);
+        if compare_key(book, HEAD + SLOT * (v - 1), owner, key).is_eq() {
+            return Some(v - 1);
         }
-        d += 1;
     }
-    Slot::Nowhere
+    None
 }

@@ -8,7 +8,7 @@ ghost use Rattle.book.specs.Book.{Current, Counts};
 ghost use Rattle.book.specs.Outcome.{Found, Looked};
 ghost use Rattle.book_table.specs.Table.{filled};
 
-use crate::{Slot, probe};
+use crate::probe;
 use book_form::{HEAD, KEY, SLOT, text_at};
 use book_key::key_of;
 use book_records::Manner;
@@ -22,7 +22,7 @@ fn look_key(book: &[u8], n: usize, table: &[u8], owner: u8, key: &[u8], out: &mu
     requires in_bounds { 64 ≤ length out.old }
     ensures { Found Current book.now (looks (owner ∷ key.now)) out.old result out.new }
 {
-    let Slot::At(p) = probe(book, n, table, owner, key) else {
+    let Some(p) = probe(book, n, table, owner, key) else {
         return Written {
             refusal: ABSENT,
             length: 0,

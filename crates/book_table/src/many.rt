@@ -10,7 +10,7 @@ ghost use Rattle.book_table.specs.Many.{Fills, Entered, LooksMany};
 
 use crate::fill_table;
 use crate::look::look_text;
-use book::check::{BookAnswer, check_book, is_owner};
+use book::check::{check_book, is_owner};
 use book_form::Version;
 use text::Written;
 use text::part::equal;
@@ -21,7 +21,7 @@ use text::refusal::{BAD_BOOK, BAD_OWNER, BAD_TABLE, NO_ROOM};
 pub fn fill(book: &[u8], out: &mut [u8]) -> u8
     ensures { Fills Current book.now out.old result out.new }
 {
-    let BookAnswer::Count(n) = check_book(book, Version::Three) else {
+    let Some(n) = check_book(book, Version::Three) else {
         return BAD_BOOK;
     };
     if out.len() < 512 {
@@ -48,24 +48,19 @@ fn line_end(s: &[u8], i: usize) -> usize
     requires { i ≤ length s.now }
     ensures { Line s.now i result }
 {
-    let mut j = i;
-    while j < s.len() {
-        if s[j] == 10 {
+    for j in i..s.len() {
+        if s[j] == b'\n' {
             return j;
         }
-        j += 1;
     }
-    j
+    s.len()
 }
 
 // Where the text after it starts.
 fn line_next(s: &[u8], j: usize) -> usize
     ensures { Next s.now j result }
 {
-    if j < s.len() {
-        return j + 1;
-    }
-    j
+    if j < s.len() { j + 1 } else { j }
 }
 
 // How many texts there are.
@@ -100,7 +95,7 @@ fn put_entry(book: &[u8], n: usize, table: &[u8], owner: u8, text: &[u8], out: &
 pub fn look_many(book: &[u8], owner: u8, table: &[u8], texts: &[u8], out: &mut [u8]) -> Written
     ensures { LooksMany Current book.now owner table.now texts.now out.old result out.new }
 {
-    let BookAnswer::Count(n) = check_book(book, Version::Three) else {
+    let Some(n) = check_book(book, Version::Three) else {
         return Written {
             refusal: BAD_BOOK,
             length: 0,

@@ -1,11 +1,12 @@
 -- Demand 1 of the book's calls and of the flag: their refusal numbers.
 -- Assumes nothing.
-use Rattle.std.specs.Prelude.{ℕ, ◌≡◌, refl, Bool, cond, ◌&&◌, ◌||◌, List, [], ◌∷◌, eqb, leb, length}
+use Rattle.std.specs.Prelude.{ℕ, ◌≡◌, refl, Bool, cond, ◌&&◌, ◌||◌, List, [], ◌∷◌, eqb, leb, length, Option, Some, None}
 use Rattle.std.proofs.Common.{sym, ap, subst, ◌∙◌, arith}
 use Rattle.std.proofs.Math.Bool.{true, false}
-use Rattle.std.proofs.Math.Option.{Option, none, some}
+use Rattle.std.proofs.Math.Option.{Option as Maybe, none, some}
 use Rattle.identifiers.specs.Check.{check_of}
 use Rattle.identifiers.specs.Check as check
+use Rattle.path.specs.declared.Revision.{Revision}
 use Rattle.path.specs.declared.provable.Flag.{Flag}
 use Rattle.path.specs.declared.Refusal.{Refusal}
 use Rattle.path.specs.declared.Refusal.TheVariants.{TooLong, NotAscii, NotAPath, NoDigits, NotADigit, TooLarge}
@@ -25,8 +26,6 @@ use Rattle.book.specs.Outcome.{Outcome, no_book, this_book, Changed, Looked, Mad
 use Rattle.book_convert.specs.Convert.{Converted, ConvertedOwners}
 use Rattle.book_convert.specs.Convert as convert
 use Rattle.book_form.specs.declared.Quotas.{Quotas}
-use Rattle.book_oldest.specs.declared.StateAnswer.{StateAnswer}
-use Rattle.book_oldest.specs.declared.StateAnswer.TheVariants.{State, Nothing}
 use Rattle.path.specs.declared.Pair.{Pair}
 use Rattle.path.specs.Pair.{pair}
 use Rattle.book_oldest.specs.Oldest.{oldest_state, pair_of, checked_state, oldest_in, Oldest}
@@ -50,18 +49,18 @@ module _ (P : ℕ → Type 0) (zero : P 0) (c : Call) (own : (n : ℕ) → Decli
   act_of (declines d) full s = own _ d
   act_of (writing {k = k} {v = v} ok) full s = go (get s k) (full k s)
     where
-      go : (x : Option (List ℕ)) (f : Bool) → P (seen (add_to x f (put s k v) s).0).number
+      go : (x : Maybe (List ℕ)) (f : Bool) → P (seen (add_to x f (put s k v) s).0).number
       go (some u) f = zero
       go none true = full-of k v ok
       go none false = zero
   act_of (removing {k = k} ok) full s = go (get s k)
     where
-      go : (x : Option (List ℕ)) → P (seen (take_from x (del s k) s).0).number
+      go : (x : Maybe (List ℕ)) → P (seen (take_from x (del s k) s).0).number
       go none = absent-of k ok
       go (some u) = zero
   act_of (looking {k = k} {room = room} ok) full s = go (get s k)
     where
-      go : (x : Option (List ℕ)) → P (seen (look_in x s).0).number
+      go : (x : Maybe (List ℕ)) → P (seen (look_in x s).0).number
       go none = nothing-of k room ok
       go (some u) = zero
 
@@ -155,9 +154,9 @@ in-records : (o : ℕ) (c : List ℕ) (s : List Rec) → Told (oldest_in o c s)
 unfolding oldest_in
 in-records o c s = whose (is_owner o)
   where
-    state : (x : StateAnswer) → Told (pair_of x)
-    state (State p) = record { listed = refl; zeros = λ n. absurd (n refl) }
-    state Nothing = record { listed = refl; zeros = λ n. (refl, (refl, tt)) }
+    state : (x : Option Revision) → Told (pair_of x)
+    state (Some p) = record { listed = refl; zeros = λ n. absurd (n refl) }
+    state None = record { listed = refl; zeros = λ n. (refl, (refl, tt)) }
 
     pick : (v : Bool) → Told (cond v (pair_of (oldest_state o c s)) (pair (check_of check.client c) 0 0))
     pick true = state (oldest_state o c s)

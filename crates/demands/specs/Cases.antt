@@ -1,7 +1,7 @@
 -- Texts on both sides of the line, with their outcomes: every case that document 01 marks as proved, and more of identifiers, in one table with
 -- one proof, which antt computes.
 -- Assumes nothing.
-use Rattle.std.specs.Prelude.{ℕ, ◌≡◌, refl, Bool, true, false, List, [], ◌∷◌, ◌++◌, map, replicate}
+use Rattle.std.specs.Prelude.{ℕ, ◌≡◌, refl, Bool, true, false, List, [], ◌∷◌, ◌++◌, map, replicate, Err}
 use Rattle.text.specs.Bytes.{bytes}
 use Rattle.text.specs.Number.{numeral_of, digits_at, digits_from, decimal, digits, width, width_by}
 use Rattle.text.specs.Part.{every, ascii, starts_with, same}
@@ -14,8 +14,7 @@ use Rattle.path.specs.declared.ConsensusPlaces.{ConsensusPlaces}
 use Rattle.path.specs.declared.Path.{Path}
 use Rattle.path.specs.declared.Path.TheVariants.{NextClientSequence, NextConnectionSequence, NextChannelSequence, ClientState, ClientConsensusState, ClientUpdateTime, ClientUpdateHeight, Connection, Ports, UpgradeClientState, UpgradeConsensusState}
 use Rattle.path.specs.declared.Refusal.TheVariants.{NotAPath, NoDigits, NotADigit, TooLarge}
-use Rattle.path.specs.declared.Reading.{Reading}
-use Rattle.path.specs.declared.Reading.TheVariants.{Read, Refused}
+use Rattle.path.specs.Reading.{Reading, Read}
 use Rattle.path.specs.Text.{cut_at, join_by, places_from, shown_of}
 use Rattle.path.specs.Kinds.{Carried, carried, kinds}
 use Rattle.path.specs.declared.Pair.{Pair}
@@ -121,15 +120,15 @@ state5 n = UpgradeConsensusState (record { upgrade = at 0 n; height = record { 0
 
 abbrev pub cases : List Case
 cases =
-    read (bytes "") (Refused NotAPath)
-    ∷ read (bytes "clients") (Refused NotAPath)
-    ∷ read (bytes "clients/clientid/clientState") (Refused NotAPath)
+    read (bytes "") (Err NotAPath)
+    ∷ read (bytes "clients") (Err NotAPath)
+    ∷ read (bytes "clients/clientid/clientState") (Err NotAPath)
     ∷ read (bytes "clients/clientidx/clientState") (Read (ClientState (record { client = at 8 9 })) true)
     ∷ read (bytes "clients/07-tendermint-4/consensusStates/007-+2") (Read (ClientConsensusState (record { client = at 8 15; number = record { 0 = 7 }; height = record { 0 = 2 } })) false)
-    ∷ read (bytes "clients/07-tendermint-4/consensusStates/7--2") (Refused NotAPath)
-    ∷ read (bytes "ports/a") (Refused NotAPath)
+    ∷ read (bytes "clients/07-tendermint-4/consensusStates/7--2") (Err NotAPath)
+    ∷ read (bytes "ports/a") (Err NotAPath)
     ∷ read (bytes "ports/ab") (Read (Ports (record { port = at 6 2 })) true)
-    ∷ read (bytes "ports/transfer/") (Refused NotAPath)
+    ∷ read (bytes "ports/transfer/") (Err NotAPath)
     ∷ check channel (bytes "channel-01") 7
     ∷ check channel (bytes "channel-+01") 0
     ∷ wrong channel (bytes "channel-") 17 8
@@ -163,16 +162,16 @@ cases =
     ∷ check port (replicate 128 97) 0
     ∷ check port (replicate 129 97) 6
     -- the first of two bad numbers, counted from the start of the text; a second dash, and an index, are no bad number
-    ∷ read (bytes "clients/07-tendermint-4/consensusStates/7-x") (Refused (NotADigit 42))
-    ∷ read (bytes "clients/07-tendermint-4/consensusStates/-x") (Refused (NoDigits 40))
-    ∷ read (bytes "clients/07-tendermint-4/consensusStates/7") (Refused NotAPath)
-    ∷ read (bytes "clients/07-tendermint-4/consensusStates/x-2/processedTime") (Refused (NotADigit 40))
-    ∷ read (bytes "clients/clientid/consensusStates/x-2") (Refused NotAPath)
-    ∷ read (bytes "acks/ports/ab/channels/channel-1/sequences/") (Refused (NoDigits 43))
-    ∷ read (bytes "acks/ports/ab/channels/channel-x/sequences/1") (Refused NotAPath)
-    ∷ read (bytes "connections/connection-x") (Refused NotAPath)
+    ∷ read (bytes "clients/07-tendermint-4/consensusStates/7-x") (Err (NotADigit 42))
+    ∷ read (bytes "clients/07-tendermint-4/consensusStates/-x") (Err (NoDigits 40))
+    ∷ read (bytes "clients/07-tendermint-4/consensusStates/7") (Err NotAPath)
+    ∷ read (bytes "clients/07-tendermint-4/consensusStates/x-2/processedTime") (Err (NotADigit 40))
+    ∷ read (bytes "clients/clientid/consensusStates/x-2") (Err NotAPath)
+    ∷ read (bytes "acks/ports/ab/channels/channel-1/sequences/") (Err (NoDigits 43))
+    ∷ read (bytes "acks/ports/ab/channels/channel-x/sequences/1") (Err NotAPath)
+    ∷ read (bytes "connections/connection-x") (Err NotAPath)
     ∷ read (bytes "x/18446744073709551615/upgradedClient") (Read (UpgradeClientState (record { upgrade = at 0 1; height = record { 0 = 18446744073709551615 } })) true)
-    ∷ read (bytes "x/18446744073709551616/upgradedClient") (Refused (TooLarge 21))
+    ∷ read (bytes "x/18446744073709551616/upgradedClient") (Err (TooLarge 21))
     -- as text `10-2` comes before `7-2`, and `07-tendermint-4` begins `07-tendermint-40`
     ∷ seek 1 (bytes "07-tendermint-4") ((1 ∷ bytes "clients/07-tendermint-4/consensusStates/10-2") ∷ (1 ∷ bytes "clients/07-tendermint-4/consensusStates/7-2") ∷ []) (pair 0 7 2)
     ∷ seek 1 (bytes "07-tendermint-4") ((1 ∷ bytes "clients/07-tendermint-40/consensusStates/7-2") ∷ []) (pair 12 0 0)
@@ -204,8 +203,8 @@ cases =
     ∷ above (bytes "ports/55") (Ports (record { port = at 6 2 })) (bytes "ports/55/upgradedConsState") (UpgradeConsensusState (record { upgrade = at 0 5; height = record { 0 = 55 } }))
     -- no others: a port of other spelling stands above a loose text, and one byte is no port
     ∷ record { question = standing (bytes "ports/055") (bytes "ports/055/upgradedClient"); outcome = stands true (Read (Ports (record { port = at 6 3 })) true) (Read (UpgradeClientState (record { upgrade = at 0 5; height = record { 0 = 55 } })) false) }
-    ∷ record { question = standing (bytes "ports/5") (bytes "ports/5/upgradedClient"); outcome = stands true (Refused NotAPath) (Read (UpgradeClientState (record { upgrade = at 0 5; height = record { 0 = 5 } })) true) }
-    ∷ record { question = standing (bytes "connections/connection-3") (bytes "connections/connection-3/upgradedClient"); outcome = stands true (Read (Connection (record { connection = at 12 12 })) true) (Refused (NotADigit 12)) }
+    ∷ record { question = standing (bytes "ports/5") (bytes "ports/5/upgradedClient"); outcome = stands true (Err NotAPath) (Read (UpgradeClientState (record { upgrade = at 0 5; height = record { 0 = 5 } })) true) }
+    ∷ record { question = standing (bytes "connections/connection-3") (bytes "connections/connection-3/upgradedClient"); outcome = stands true (Read (Connection (record { connection = at 12 12 })) true) (Err (NotADigit 12)) }
     -- what comes between `ports/55` and what lies below it in key order, and the same of a counter
     ∷ read (bytes "ports/55+a") (Read (Ports (record { port = at 6 4 })) true)
     ∷ read (bytes "nextClientSequence./5/upgradedClient") (Read (client5 19) true)

@@ -14,10 +14,10 @@ use Rattle.text.specs.declared.Fault.{Fault}
 use Rattle.identifiers.specs.Check.{named_index_fault, fault_of}
 use Rattle.identifiers.specs.Check as check
 use Rattle.identifiers.specs.Owned.{as_written, new_client, new_channel, made_client, made_connection, made_channel, made_port}
-use Rattle.identifiers.specs.declared.client_id.MadeClientId.{MadeClientId}
-use Rattle.identifiers.specs.declared.connection_id.MadeConnectionId.{MadeConnectionId}
-use Rattle.identifiers.specs.declared.channel_id.MadeChannelId.{MadeChannelId}
-use Rattle.identifiers.specs.declared.port_id.MadePortId.{MadePortId}
+use Rattle.identifiers.specs.declared.client_id.ClientId.{ClientId}
+use Rattle.identifiers.specs.declared.connection_id.ConnectionId.{ConnectionId}
+use Rattle.identifiers.specs.declared.channel_id.ChannelId.{ChannelId}
+use Rattle.identifiers.specs.declared.port_id.PortId.{PortId}
 use Rattle.path.specs.Kinds.{word, carried}
 use Rattle.path.specs.Read.{render_of, key_of, bytes_by, reading_bytes, read_fault}
 use Rattle.path.specs.Parents.{text_of, consensus_parent, consensus_leaf, packets_path}
@@ -37,9 +37,9 @@ use Rattle.iteration.specs.Block.{block_of, first_above, last_below, scanned}
 use Rattle.iteration.specs.Key.{iteration_key, key_revision, answered, pair_of}
 use Rattle.packet.specs.Key.{packet_wanted, packet_of}
 use Rattle.demands.specs.Numbers.{readings, renderings, clients, ends, wide_readings, wide_renderings, wide_clients, wide_ends, packet_reads, packet_writes, write_numbers, remove_numbers, look_numbers, new_numbers, convert_numbers, convert_owners_numbers, oldest_numbers, clear_numbers, fill_numbers, many_numbers, named, indexes, wide_named, wide_indexes, names, wide_names, unread, room, key_numbers}
-use Rattle.demands.specs.Shape.{Listed, AllZero, Demand1}
+use Rattle.demands.specs.Shape.{Listed, AllZero, number_in, others_in, Demand1}
 use Rattle.demands.specs.ShapeLaws.{writes, writes-number, checks, key_wants, reading_wants, render_wants, client_wants, channel_wants, leaf_wants, update_wants, parent_wants, packets_wants, plain_of, indexed_of, name_of, named-number, chars-number, length-number, prefix-number, named-index-number, bytes_wants, answer-listed}
-use Rattle.demands.specs.FunctionShapeLaws.{within-number, wide_chars-number, reading-number, shown_wants, written_listed, owned, key-listed, key-empty}
+use Rattle.demands.specs.FunctionShapeLaws.{within-number, wide_chars-number, reading-number, shown_wants, written_listed, owned, made-number, key-listed, key-empty}
 use Rattle.demands.specs.WideShapeLaws as wides
 use Rattle.demands.specs.IterationLaws.{pairs, key-refuses, scan-refuses}
 use Rattle.demands.specs.PacketLaws.{packet_wants, packets}
@@ -597,7 +597,7 @@ wide_validate_channel_identifier_holds = checks wide_indexes (λ κs a. tt) (λ 
 pub wide_name_fault_holds : Demand1 wide-name-fault.Pre wide-name-fault.Post wide_names (λ κs r. r) (λ κs r. []) (λ κs a. []) (λ κs s. [])
 wide_name_fault_holds = checks wide_names (λ κs a. tt) (λ κs r. r) (λ κs a r s p. subst (Listed wide_names) (sym p) (wides.name_of (Listed wide_names) refl refl refl refl refl refl refl refl refl _ _))
 
--- ---- owned identifiers: a refusal has length 0 and an array of zeros beside it
+-- ---- owned keys and identifiers: a refused key has length 0 and an array of zeros beside it, and with a refused identifier there is none
 pub key_of_holds : Demand1 key_of_it.Pre key_of_it.Post key_numbers (λ κs r. r.refusal) (λ κs r. r.kind ∷ r.key.len ∷ r.key.bytes) (λ κs a. []) (λ κs s. [])
 unfolding made_key
 key_of_holds =
@@ -608,25 +608,30 @@ key_of_holds =
       keeps = λ κs a r s p h. refl;
     }
 
-pub client_id_from_str_holds : Demand1 client-id-from-str.Pre client-id-from-str.Post (2 ∷ 5 ∷ 6 ∷ []) (λ κs r. r.refusal) (λ κs r. r.id.len ∷ r.id.bytes) (λ κs a. []) (λ κs s. [])
+pub client_id_from_str_holds : Demand1 client-id-from-str.Pre client-id-from-str.Post (2 ∷ 5 ∷ 6 ∷ []) (λ κs r. number_in (λ (n : ℕ). n) r) (λ κs r. others_in (λ (x : ClientId). x.len ∷ x.bytes) r) (λ κs a. []) (λ κs s. [])
 unfolding made_client
-client_id_from_str_holds = owned (2 ∷ 5 ∷ 6 ∷ []) 64 (λ κs a. tt) _ _ (λ κs a. as_written check.client a.0.now) (λ κs a. written_listed (2 ∷ 5 ∷ 6 ∷ []) check.client _ 64 (omega arith) refl (plain_of (Listed (2 ∷ 5 ∷ 6 ∷ [])) refl refl refl refl 9 64 _)) (λ κs a r s p. (ap (λ (m : MadeClientId). m.refusal) p, ap (λ (m : MadeClientId). m.id.len ∷ m.id.bytes) p))
+client_id_from_str_holds =
+    owned (2 ∷ 5 ∷ 6 ∷ []) 64 (λ κs a. tt) (λ (n : ℕ). n) (λ (x : ClientId). x.len ∷ x.bytes) (λ κs a. as_written check.client a.0.now) (λ κs a. written_listed (2 ∷ 5 ∷ 6 ∷ []) check.client _ 64 (omega arith) refl (plain_of (Listed (2 ∷ 5 ∷ 6 ∷ [])) refl refl refl refl 9 64 _)) (λ κs a r s p. ap (number_in (λ (n : ℕ). n)) p ∙ made-number (λ (n : ℕ). n) _ _ _ refl)
 
-pub client_id_new_holds : Demand1 client-id-new.Pre client-id-new.Post clients (λ κs r. r.refusal) (λ κs r. r.id.len ∷ r.id.bytes) (λ κs a. []) (λ κs s. [])
+pub client_id_new_holds : Demand1 client-id-new.Pre client-id-new.Post clients (λ κs r. number_in (λ (n : ℕ). n) r) (λ κs r. others_in (λ (x : ClientId). x.len ∷ x.bytes) r) (λ κs a. []) (λ κs s. [])
 unfolding made_client
-client_id_new_holds = owned clients 64 (λ κs a. tt) _ _ (λ κs a. new_client a.0.now a.1.0) (λ κs a. answer-listed clients refl _ 64 (client_wants _ _) refl) (λ κs a r s p. (ap (λ (m : MadeClientId). m.refusal) p, ap (λ (m : MadeClientId). m.id.len ∷ m.id.bytes) p))
+client_id_new_holds =
+    owned clients 64 (λ κs a. tt) (λ (n : ℕ). n) (λ (x : ClientId). x.len ∷ x.bytes) (λ κs a. new_client a.0.now a.1.0) (λ κs a. answer-listed clients refl _ 64 (client_wants _ _) refl) (λ κs a r s p. ap (number_in (λ (n : ℕ). n)) p ∙ made-number (λ (n : ℕ). n) _ _ _ refl)
 
-pub connection_id_from_str_holds : Demand1 connection-id-from-str.Pre connection-id-from-str.Post indexes (λ κs r. r.refusal) (λ κs r. r.id.len ∷ r.id.bytes) (λ κs a. []) (λ κs s. [])
+pub connection_id_from_str_holds : Demand1 connection-id-from-str.Pre connection-id-from-str.Post indexes (λ κs r. number_in (λ (e : Fault). e.refusal) r) (λ κs r. others_in (λ (x : ConnectionId). x.len ∷ x.bytes) r) (λ κs a. []) (λ κs s. [])
 unfolding made_connection
-connection_id_from_str_holds = owned indexes 64 (λ κs a. tt) _ _ (λ κs a. as_written check.connection a.0.now) (λ κs a. written_listed indexes check.connection _ 64 (omega arith) refl (indexed_of (Listed indexes) refl refl refl refl refl refl refl refl 10 64 _ _)) (λ κs a r s p. (ap (λ (m : MadeConnectionId). m.refusal) p, ap (λ (m : MadeConnectionId). m.id.len ∷ m.id.bytes) p))
+connection_id_from_str_holds =
+    owned indexes 64 (λ κs a. tt) (λ (e : Fault). e.refusal) (λ (x : ConnectionId). x.len ∷ x.bytes) (λ κs a. as_written check.connection a.0.now) (λ κs a. written_listed indexes check.connection _ 64 (omega arith) refl (indexed_of (Listed indexes) refl refl refl refl refl refl refl refl 10 64 _ _)) (λ κs a r s p. ap (number_in (λ (e : Fault). e.refusal)) p ∙ made-number (λ (e : Fault). e.refusal) _ _ _ refl)
 
-pub channel_id_from_str_holds : Demand1 channel-id-from-str.Pre channel-id-from-str.Post indexes (λ κs r. r.refusal) (λ κs r. r.id.len ∷ r.id.bytes) (λ κs a. []) (λ κs s. [])
+pub channel_id_from_str_holds : Demand1 channel-id-from-str.Pre channel-id-from-str.Post indexes (λ κs r. number_in (λ (e : Fault). e.refusal) r) (λ κs r. others_in (λ (x : ChannelId). x.len ∷ x.bytes) r) (λ κs a. []) (λ κs s. [])
 unfolding made_channel
-channel_id_from_str_holds = owned indexes 64 (λ κs a. tt) _ _ (λ κs a. as_written check.channel a.0.now) (λ κs a. written_listed indexes check.channel _ 64 (omega arith) refl (indexed_of (Listed indexes) refl refl refl refl refl refl refl refl 8 64 _ _)) (λ κs a r s p. (ap (λ (m : MadeChannelId). m.refusal) p, ap (λ (m : MadeChannelId). m.id.len ∷ m.id.bytes) p))
+channel_id_from_str_holds =
+    owned indexes 64 (λ κs a. tt) (λ (e : Fault). e.refusal) (λ (x : ChannelId). x.len ∷ x.bytes) (λ κs a. as_written check.channel a.0.now) (λ κs a. written_listed indexes check.channel _ 64 (omega arith) refl (indexed_of (Listed indexes) refl refl refl refl refl refl refl refl 8 64 _ _)) (λ κs a r s p. ap (number_in (λ (e : Fault). e.refusal)) p ∙ made-number (λ (e : Fault). e.refusal) _ _ _ refl)
 
-pub port_id_from_str_holds : Demand1 port-id-from-str.Pre port-id-from-str.Post (2 ∷ 5 ∷ 6 ∷ []) (λ κs r. r.refusal) (λ κs r. r.id.len ∷ r.id.bytes) (λ κs a. []) (λ κs s. [])
+pub port_id_from_str_holds : Demand1 port-id-from-str.Pre port-id-from-str.Post (2 ∷ 5 ∷ 6 ∷ []) (λ κs r. number_in (λ (n : ℕ). n) r) (λ κs r. others_in (λ (x : PortId). x.len ∷ x.bytes) r) (λ κs a. []) (λ κs s. [])
 unfolding made_port
-port_id_from_str_holds = owned (2 ∷ 5 ∷ 6 ∷ []) 128 (λ κs a. tt) _ _ (λ κs a. as_written check.port a.0.now) (λ κs a. written_listed (2 ∷ 5 ∷ 6 ∷ []) check.port _ 128 (omega arith) refl (plain_of (Listed (2 ∷ 5 ∷ 6 ∷ [])) refl refl refl refl 2 128 _)) (λ κs a r s p. (ap (λ (m : MadePortId). m.refusal) p, ap (λ (m : MadePortId). m.id.len ∷ m.id.bytes) p))
+port_id_from_str_holds =
+    owned (2 ∷ 5 ∷ 6 ∷ []) 128 (λ κs a. tt) (λ (n : ℕ). n) (λ (x : PortId). x.len ∷ x.bytes) (λ κs a. as_written check.port a.0.now) (λ κs a. written_listed (2 ∷ 5 ∷ 6 ∷ []) check.port _ 128 (omega arith) refl (plain_of (Listed (2 ∷ 5 ∷ 6 ∷ [])) refl refl refl refl 2 128 _)) (λ κs a r s p. ap (number_in (λ (n : ℕ). n)) p ∙ made-number (λ (n : ℕ). n) _ _ _ refl)
 
 -- ---- what a Rattle caller reads with: the answer's number, and its values, as `pair_of` and `packet_of` have them
 pub read_iteration_key_holds : Demand1 read-iteration-key.Pre read-iteration-key.Post (15 ∷ []) (λ κs r. (pair_of r).refusal) (λ κs r. (pair_of r).number ∷ (pair_of r).height ∷ []) (λ κs a. []) (λ κs s. [])

@@ -4,7 +4,7 @@
 -- arguments and buffers (PathCalls, Walk), and what holds of the functions below them.
 -- Assumes nothing.
 use Prim.Native.Nat.{ℕ, ◌≤◌, ◌<◌, ◌^◌, compare}
-use Rattle.std.specs.Prelude.{◌≡◌, ◌↔◌, Bool, true, List, length, take}
+use Rattle.std.specs.Prelude.{◌≡◌, ◌↔◌, Bool, true, List, length, take, Some}
 use Rattle.std.proofs.Common.{sym, ap, subst, ◌∙◌}
 use Rattle.text.specs.Bytes.{bytes}
 use Rattle.text.specs.Refusal.{not_ascii, not_a_path, no_room}
@@ -15,8 +15,7 @@ use Rattle.text.specs.Part.{ascii}
 use Rattle.text.specs.Put.{text, done, answer, left}
 use Rattle.identifiers.specs.Check.{fault_of, client, connection, port, channel, first, chars_of, prefix_length_of, general_of}
 use Rattle.path.specs.declared.Path.{Path}
-use Rattle.path.specs.declared.PathAnswer.TheVariants.{Found}
-use Rattle.path.specs.declared.Reading.TheVariants.{Read}
+use Rattle.path.specs.Reading.{Read}
 use Rattle.path.specs.Kinds.{Carried, carried, kinds}
 use Rattle.path.specs.Read.{name_fault, fits_kind, parts_of, texts_of, render_path, render_of, read_path, key_of, reading_bytes, read_fault}
 use Rattle.path.specs.Read as paths
@@ -215,7 +214,7 @@ when_read t out f out₁ call = demand2.when_read t out f out₁ call
 pub one_kind : (t : List ℕ) (j k : ℕ) → 1 ≤ j → j ≤ 19 → 1 ≤ k → k ≤ 19 → fits_kind (kind_at j) t ≡ true → fits_kind (kind_at k) t ≡ true → j ≡ k
 one_kind = reads.fits_one
 
-pub reads_exactly : (t : List ℕ) (p : Path) → rules.Reads t p ↔ (paths.read_first kinds t ≡ Found p)
+pub reads_exactly : (t : List ℕ) (p : Path) → rules.Reads t p ↔ (paths.read_first kinds t ≡ Some p)
 reads_exactly t p = (λ r. reads.reads-is r, λ e. reads.is-reads t p e)
 
 pub reads_one : (t : List ℕ) (p q : Path) → rules.Reads t p → rules.Reads t q → p ≡ q

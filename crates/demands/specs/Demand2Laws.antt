@@ -1,6 +1,6 @@
 -- What demand 2 rests on: a call that writes does so where there is room, and the laws of reading and rendering.
 -- Assumes nothing.
-use Rattle.std.specs.Prelude.{ℕ, ◌≤◌, ◌<◌, ◌≡◌, ◌↔◌, Bool, cond, List, eqb, leb, drop}
+use Rattle.std.specs.Prelude.{ℕ, ◌≤◌, ◌<◌, ◌≡◌, ◌↔◌, Bool, cond, List, eqb, leb, drop, Err, Option, Some, None}
 use Rattle.std.proofs.Math.Path.{refl, ap}
 use Rattle.std.proofs.Common.{sym, subst, ◌∙◌, arith, take_at, le-leb, ltb-true, ltb-false, leb-true, leb-false}
 use Rattle.std.proofs.Math.Bool.{true, false}
@@ -14,11 +14,9 @@ use Rattle.text.specs.PutLaws.{put-zero}
 use Rattle.identifiers.specs.Check.{check_of, client, client_type, connection, port, channel, first, chars_of, prefix_length_of, general_of}
 use Rattle.identifiers.specs.CheckLaws.{check_general, client_type_general}
 use Rattle.path.specs.declared.Path.{Path}
-use Rattle.path.specs.declared.PathAnswer.{PathAnswer}
-use Rattle.path.specs.declared.PathAnswer.TheVariants.{Found, Nothing}
 use Rattle.path.specs.declared.Refusal.{Refusal}
 use Rattle.path.specs.declared.Refusal.TheVariants.{TooLong, NotAscii, NotAPath, NoDigits as WithoutDigits, NotADigit as WithoutDigit, TooLarge as AboveAll}
-use Rattle.path.specs.declared.Reading.TheVariants.{Read, Refused}
+use Rattle.path.specs.Reading.{Read}
 use Rattle.path.specs.Kinds.{Carried, kinds}
 use Rattle.path.specs.Read.{fits, fits_kind, read_first, parts_of, texts_of, render, render_path, render_of, read_path, key_by, key_of, bytes_by, reading_bytes, refusal_of, why_not, place_of, as_fault, read_fault}
 use Rattle.path.specs.View.{kind_of, carried_of}
@@ -125,14 +123,14 @@ pub reads_back : (k : ℕ) (v : Carried (List ℕ)) → Valid k v → (out : Lis
 reads_back k v valid = as-back (render (parts_of k) v) k (only (parts_of k) v) (rendered-back k v valid)
 
 -- ---- when reading is refused
-no_kind : (t : List ℕ) → read_first kinds t ≡ Nothing → NoKind t
+no_kind : (t : List ℕ) → read_first kinds t ≡ None → NoKind t
 no_kind t h e m = go (fits_kind e t) refl
   where
     go : (b : Bool) → fits_kind e t ≡ b → b ≡ false
     go false f = refl
     go true f = let q = read_has t m kinds-apart f in clash (let z : ◌≡◌ {A = ℕ} 0 1 = cc in z)
 
-some-kind : (t : List ℕ) (p : Path) → read_first kinds t ≡ Found p → NoKind t → ⊥
+some-kind : (t : List ℕ) (p : Path) → read_first kinds t ≡ Some p → NoKind t → ⊥
 some-kind t p h n = let r = is-reads t p h in let f = n r.kind r.listed in let g = r.fitting in clash (let z : ◌≡◌ {A = ℕ} 0 1 = cc in z)
 
 pub iff_yes : {P Q : Type 0} → P → Q → P ↔ Q
@@ -145,7 +143,7 @@ iff-no p q = (λ x. absurd (p x), λ x. absurd (q x))
 abbrev IsRead : List ℕ → Type 0
 IsRead t = (p : Path) × (e : Bool) × (read_path t ≡ Read p e)
 
-not-read : (t : List ℕ) (w : Refusal) → read_path t ≡ Refused w → IsRead t → ⊥
+not-read : (t : List ℕ) (w : Refusal) → read_path t ≡ Err w → IsRead t → ⊥
 not-read t w h x = let q = x.2 in let z : ◌≡◌ {A = ℕ} 0 1 = cc in omega (arith, z)
 
 -- a number that has no place is none of theirs
@@ -153,7 +151,7 @@ no_place : (n : ℕ) (w : Refusal) → has_place n ≡ false → has_place (refu
 no_place n w h k e = let z : ◌≡◌ {A = ℕ} 0 1 = cc in omega (arith, z)
 
 module _ (t out : List ℕ) (f : Fault) (e : f ≡ read_fault t (length out)) where
-  module _ (w : Refusal) (h : read_path t ≡ Refused w) where
+  module _ (w : Refusal) (h : read_path t ≡ Err w) where
     fault-is : f ≡ as_fault w
     unfolding read_fault reading_bytes answer
     fault-is = e ∙ rw h
@@ -169,7 +167,7 @@ module _ (t out : List ℕ) (f : Fault) (e : f ≡ read_fault t (length out)) wh
     other-number : (w : Refusal) → has_place (refusal_of w) ≡ true → f ≡ as_fault w → ⊥
     other-number w k q = no_place n w none k (sym m ∙ ap (λ (x : Fault). x.refusal) q)
 
-  long_way : 4096 < length t → read_path t ≡ Refused TooLong → WhenRead t out f
+  long_way : 4096 < length t → read_path t ≡ Err TooLong → WhenRead t out f
   long_way l h =
       let m : f.refusal ≡ 1 = number_is TooLong h in
       record {
@@ -182,7 +180,7 @@ module _ (t out : List ℕ) (f : Fault) (e : f ≡ read_fault t (length out)) wh
         placeless = λ k. place_is TooLong h;
       }
 
-  ascii_way : length t ≤ 4096 → ascii t ≡ false → read_path t ≡ Refused NotAscii → WhenRead t out f
+  ascii_way : length t ≤ 4096 → ascii t ≡ false → read_path t ≡ Err NotAscii → WhenRead t out f
   ascii_way l a h =
       let m : f.refusal ≡ 2 = number_is NotAscii h in
       record {
@@ -195,8 +193,8 @@ module _ (t out : List ℕ) (f : Fault) (e : f ≡ read_fault t (length out)) wh
         placeless = λ k. place_is NotAscii h;
       }
 
-  module _ (l : length t ≤ 4096) (a : ascii t ≡ true) (none : read_first kinds t ≡ Nothing) where
-    path_way : why_not t ≡ NotAPath → read_path t ≡ Refused NotAPath → WhenRead t out f
+  module _ (l : length t ≤ 4096) (a : ascii t ≡ true) (none : read_first kinds t ≡ None) where
+    path_way : why_not t ≡ NotAPath → read_path t ≡ Err NotAPath → WhenRead t out f
     path_way y h =
         let m : f.refusal ≡ 3 = number_is NotAPath h in
         let nothing : NoNumber fits t = λ w x. let k = (wrong-marks t w x).placed in let z : w ≡ NotAPath = sym (wrong-why t w x) ∙ y in let q = rw z at k in clash (let z : ◌≡◌ {A = ℕ} 0 1 = cc in z) in
@@ -210,7 +208,7 @@ module _ (t out : List ℕ) (f : Fault) (e : f ≡ read_fault t (length out)) wh
           placeless = λ k. place_is NotAPath h;
         }
 
-    number_way : (w : Refusal) → why_not t ≡ w → (w ≡ NotAPath → ⊥) → read_path t ≡ Refused w → WhenRead t out f
+    number_way : (w : Refusal) → why_not t ≡ w → (w ≡ NotAPath → ⊥) → read_path t ≡ Err w → WhenRead t out f
     number_way w y n h =
         let x : NumberWrong fits t w = why-wrong t w n y in
         let k : has_place (refusal_of w) ≡ true = (wrong-marks t w x).placed in
@@ -226,7 +224,7 @@ module _ (t out : List ℕ) (f : Fault) (e : f ≡ read_fault t (length out)) wh
           placeless = λ q. absurd (no_place f.refusal w q k m);
         }
 
-  read_way : length t ≤ 4096 → ascii t ≡ true → (p : Path) (x : Bool) → read_first kinds t ≡ Found p → read_path t ≡ Read p x → WhenRead t out f
+  read_way : length t ≤ 4096 → ascii t ≡ true → (p : Path) (x : Bool) → read_first kinds t ≡ Some p → read_path t ≡ Read p x → WhenRead t out f
   unfolding answer read_fault
   read_way l a p x r h = go (leb 26 (length out)) refl
     where
@@ -271,10 +269,10 @@ module _ (t out : List ℕ) (f : Fault) (e : f ≡ read_fault t (length out)) wh
             placeless = λ k. place;
           }
 
-  unread_way : length t ≤ 4096 → ascii t ≡ true → read_first kinds t ≡ Nothing → read_path t ≡ Refused (why_not t) → WhenRead t out f
+  unread_way : length t ≤ 4096 → ascii t ≡ true → read_first kinds t ≡ None → read_path t ≡ Err (why_not t) → WhenRead t out f
   unread_way l a none h = go (why_not t) refl h
     where
-      go : (w : Refusal) → why_not t ≡ w → read_path t ≡ Refused w → WhenRead t out f
+      go : (w : Refusal) → why_not t ≡ w → read_path t ≡ Err w → WhenRead t out f
       go NotAPath y g = path_way l a none y g
       go TooLong y g = number_way l a none TooLong y (λ z. clash (let c : ◌≡◌ {A = ℕ} 0 1 = cc in c)) g
       go NotAscii y g = number_way l a none NotAscii y (λ z. clash (let c : ◌≡◌ {A = ℕ} 0 1 = cc in c)) g
@@ -286,11 +284,11 @@ module _ (t out : List ℕ) (f : Fault) (e : f ≡ read_fault t (length out)) wh
   unfolding read_path
   when_read = go (ltb 4096 (length t)) refl (ascii t) refl (read_first kinds t) refl
     where
-      go : (l : Bool) → ltb 4096 (length t) ≡ l → (a : Bool) → ascii t ≡ a → (x : PathAnswer) → read_first kinds t ≡ x → WhenRead t out f
+      go : (l : Bool) → ltb 4096 (length t) ≡ l → (a : Bool) → ascii t ≡ a → (x : Option Path) → read_first kinds t ≡ x → WhenRead t out f
       go true l a ea x ex = long_way (ltb-true 4096 (length t) l) (rw l)
       go false l false a x ex = ascii_way (ltb-false 4096 (length t) l) a (rw (l, a))
-      go false l true a Nothing ex = unread_way (ltb-false 4096 (length t) l) a ex (rw (l, a, ex))
-      go false l true a (Found p) ex = read_way (ltb-false 4096 (length t) l) a p (same t (render_path t p)) ex (rw (l, a, ex))
+      go false l true a None ex = unread_way (ltb-false 4096 (length t) l) a ex (rw (l, a, ex))
+      go false l true a (Some p) ex = read_way (ltb-false 4096 (length t) l) a p (same t (render_path t p)) ex (rw (l, a, ex))
 
 -- ---- iteration keys
 pub iteration_keys : (number height : ℕ) (out : List ℕ) (x : Written) (out₁ : List ℕ) → x ≡ answer (text (iteration_key number height)) (length out) → out₁ ≡ left (text (iteration_key number height)) out → 38 ≤ length out

@@ -1,6 +1,6 @@
 -- Calls on a book, `oldest` calls and clearings as a machine over the book's records.
 -- Assumes nothing.
-use Rattle.std.specs.Prelude.{ℕ, Bool, eqb}
+use Rattle.std.specs.Prelude.{ℕ, Bool, eqb, None}
 use Rattle.std.proofs.Math.Path.{◌≡◌, refl, ap}
 use Rattle.std.proofs.Common.{sym, ◌∙◌, arith, ne_eqb, eqb-true}
 use Rattle.std.proofs.Math.Bool.{true, false, cond}
@@ -19,7 +19,6 @@ use Rattle.book_records.specs.OwnerLaws.{only, get-only, sorted-only}
 use Rattle.book_records.specs.Calls.{Call, owner_of, meaning}
 use Rattle.book.specs.Book.{Current, bytes_with, full_in}
 use Rattle.book.specs.BookLaws.{lawful, one-book}
-use Rattle.book_oldest.specs.declared.StateAnswer.TheVariants.{Nothing}
 use Rattle.book_oldest.specs.Oldest.{own_state, older, oldest_state, oldest_in, Oldest}
 use Rattle.book_oldest.specs.Oldest as by-records
 use Rattle.book_clear.specs.declared.Count.{Count}
@@ -36,7 +35,7 @@ use Rattle.demands.specs.Isolation.{Event, call, oldest, clear, Reply, seen, pai
 
 -- ---- the oldest state of an owner who is kept, among the records of those who are
 module _ (keep : ℕ → Bool) (o : ℕ) (client : List ℕ) (h : keep o ≡ true) where
-  none_of : (k : Key) → keep (owner_of k) ≡ false → own_state o client k ≡ Nothing
+  none_of : (k : Key) → keep (owner_of k) ≡ false → own_state o client k ≡ None
   unfolding own_state
   none_of k e = rw (ne_eqb (owner_of k) o (λ q. let z : ◌≡◌ {A = ℕ} 0 1 = ap (λ (v : Bool). cond v 0 1) (sym h ∙ ap keep (sym q) ∙ e) in omega arith))
 

@@ -1,6 +1,6 @@
 -- Demand 1 of the functions below the calls, by the shape of a contract: owned identifiers, and the numbers that are answered alone.
 -- Assumes nothing.
-use Rattle.std.specs.Prelude.{ℕ, zero, suc, ◌≤◌, ◌≡◌, refl, Bool, true, false, cond, ◌&&◌, List, [], ◌∷◌, eqb, length}
+use Rattle.std.specs.Prelude.{ℕ, zero, suc, ◌≤◌, ◌≡◌, refl, Bool, true, false, cond, ◌&&◌, List, [], ◌∷◌, eqb, length, Ok, Err}
 use Rattle.std.proofs.Common.{sym, ap, subst, ◌∙◌, arith}
 use Rattle.std.proofs.Math.Dec.{leb}
 use Rattle.std.proofs.lemmas.List.{length-replicate}
@@ -8,13 +8,12 @@ use Rattle.text.specs.Part.{every}
 use Rattle.text.specs.Put.{Wanted, refused, text, answer, left, refusal, done}
 use Rattle.text.specs.PutLaws.{refusal_keeps}
 use Rattle.identifiers.specs.Check.{Rule, unless, identifier_byte, check_of, within}
-use Rattle.identifiers.specs.Owned.{as_written, zeros}
+use Rattle.identifiers.specs.Owned.{as_written, zeros, made}
 use Rattle.identifiers.specs.OwnedLaws.{owned-answer}
 use Rattle.letters.specs.Character.{utf8}
 use Rattle.letters.specs.Narrow.{narrow}
 use Rattle.letters.specs.Text.{wide_chars}
-use Rattle.path.specs.declared.Reading.{Reading}
-use Rattle.path.specs.declared.Reading.TheVariants.{Read, Refused}
+use Rattle.path.specs.Reading.{Reading}
 use Rattle.path.specs.Kinds.{carried}
 use Rattle.path.specs.Text.{shown_of}
 use Rattle.path.specs.Read.{render, render_path, parts_of, number_of, read_path, key_by, key_of}
@@ -25,8 +24,11 @@ use Rattle.book_records.specs.declared.Manner.{Manner}
 use Rattle.book_records.specs.Calls.{kind_in, is_loose, key_for, key_answer}
 use Rattle.book_key.specs.Field.{kind_made}
 use Rattle.demands.specs.Numbers.{readings, key_numbers}
-use Rattle.demands.specs.Shape.{Listed, AllZero, Demand1}
-use Rattle.demands.specs.ShapeLaws.{Wants, one_of, both_of, accepted_wants, reading-refusal, answer-zero}
+use Rattle.demands.specs.Shape.{Listed, AllZero, number_in, others_in, Demand1}
+use Rattle.std.specs.declared.result.Result.{Result}
+use Rattle.std.specs.declared.result.Result.TheVariants.{Ok, Err}
+use borrow.Author.Tests.{eqb-true}
+use Rattle.demands.specs.ShapeLaws.{Wants, one_of, both_of, accepted_wants, reading-refusal}
 use Rattle.demands.specs.BookNumberLaws.{unread_of}
 
 -- ---- the numbers, for any property that 0 and these have
@@ -40,18 +42,18 @@ module _ (P : ℕ → Type 0) (none : P 0) where
   wide_chars-number other five s = both_of P none (unless 21 (utf8 s)) (unless 5 (every identifier_byte (narrow s))) (one_of P none 21 (utf8 s) other) (one_of P none 5 (every identifier_byte (narrow s)) five)
 
   pub reading-number : P 1 → P 2 → P 3 → P 17 → P 18 → P 19 → (r : Reading) → P (number_of r)
-  reading-number a b c d e f (Read p x) = none
-  reading-number a b c d e f (Refused w) = unread_of P a b c d e f w
+  reading-number a b c d e f (Ok r) = none
+  reading-number a b c d e f (Err w) = unread_of P a b c d e f w
 
 -- ---- what is wanted
 pub shown_wants : (t : List ℕ) (r : Reading) → Wants readings (shown_by t r)
 unfolding shown_by shown_at view_of short
-shown_wants t (Read p e) =
-    let w : List ℕ = render (parts_of (kind_of p)) (carried (shown_of t (carried_of p).first) (shown_of t (carried_of p).second) (carried_of p).a (carried_of p).b) in
+shown_wants t (Ok r) =
+    let w : List ℕ = render (parts_of (kind_of r.path)) (carried (shown_of t (carried_of r.path).first) (shown_of t (carried_of r.path).second) (carried_of r.path).a (carried_of r.path).b) in
     accepted_wants readings (unless 1 (leb (length w) 4096)) w (one_of (Listed readings) refl 1 (leb (length w) 4096) refl)
-shown_wants t (Refused w) = reading-refusal w
+shown_wants t (Err w) = reading-refusal w
 
--- ---- owned identifiers: a text in an array of zeros, and its length
+-- ---- owned identifiers
 module _ (ns : List ℕ) (r : Rule) (s : List ℕ) (room : ℕ) (most : r.most ≤ room) where
   -- an array that has room for the longest gives no 4
   pub written_listed : Listed ns 0 → Listed ns (check_of r s) → Listed ns (answer (as_written r s) room).refusal
@@ -65,23 +67,32 @@ all-zero : (n : ℕ) → AllZero (zeros n)
 all-zero zero = tt
 all-zero (suc n) = (refl, all-zero n)
 
-module _ {L : Type 0} {A R S : L → Type 0} {Pre : (κs : L) → A κs → Type 0} {Post : (κs : L) → A κs → R κs → S κs → Type 0} where
-  pub owned : (listed : List ℕ) (room : ℕ) → ((κs : L) (a : A κs) → Pre κs a) → (number : (κs : L) → R κs → ℕ) (others : (κs : L) → R κs → List ℕ) (wanted : (κs : L) → A κs → Wanted)
+-- what is made where an answer's number is 0
+module _ {X E : Type 0} (f : E → ℕ) (n : ℕ) (x : X) (e : E) (q : f e ≡ n) where
+  pub made-number : number_in f (made n x e) ≡ n
+  made-number = go (eqb n 0) refl
+    where
+      go : (v : Bool) → eqb n 0 ≡ v → number_in f (cond v (Ok x) (Err e)) ≡ n
+      go true z = sym (eqb-true n 0 z)
+      go false z = q
+
+-- a refusal has nothing beside it
+pub made-alone : {X E : Type 0} (f : E → ℕ) (g : X → List ℕ) (r : Result X E) → (number_in f r ≡ 0 → ⊥) → AllZero (others_in g r)
+made-alone f g (Ok x) h = absurd (h refl)
+made-alone f g (Err e) h = tt
+
+module _ {L : Type 0} {A S : L → Type 0} {X E : Type 0} {Pre : (κs : L) → A κs → Type 0} {Post : (κs : L) → A κs → Result X E → S κs → Type 0} where
+  pub owned : (listed : List ℕ) (room : ℕ) → ((κs : L) (a : A κs) → Pre κs a) → (f : E → ℕ) (g : X → List ℕ) (wanted : (κs : L) → A κs → Wanted)
       → ((κs : L) (a : A κs) → Listed listed (answer (wanted κs a) room).refusal)
-      → ((κs : L) (a : A κs) (r : R κs) (s : S κs) → Post κs a r s → (number κs r ≡ (answer (wanted κs a) room).refusal) × (others κs r ≡ (answer (wanted κs a) room).length ∷ left (wanted κs a) (zeros room)))
-      → Demand1 Pre Post listed number others (λ κs a. []) (λ κs s. [])
-  owned listed room accepts number others wanted listed_by says =
+      → ((κs : L) (a : A κs) (r : Result X E) (s : S κs) → Post κs a r s → number_in f r ≡ (answer (wanted κs a) room).refusal)
+      → Demand1 Pre Post listed (λ κs r. number_in f r) (λ κs r. others_in g r) (λ κs a. []) (λ κs s. [])
+  owned listed room accepts f g wanted listed_by says =
       record {
         accepts = accepts;
-        numbered = λ κs a r s p. subst (Listed listed) (sym (says κs a r s p).0) (listed_by κs a);
-        nothing_else = λ κs a r s p h. let q = says κs a r s p in subst AllZero (sym q.1) (empty (wanted κs a) (λ e. h (q.0 ∙ e)));
+        numbered = λ κs a r s p. subst (Listed listed) (sym (says κs a r s p)) (listed_by κs a);
+        nothing_else = λ κs a r s p h. made-alone f g r h;
         keeps = λ κs a r s p h. refl;
       }
-    where
-      empty : (w : Wanted) → ((answer w room).refusal ≡ 0 → ⊥) → AllZero ((answer w room).length ∷ left w (zeros room))
-      empty w h =
-          let e : length (zeros room) ≡ room = length-replicate room 0 in
-          (answer-zero w room h, subst AllZero (sym (refusal_keeps w (zeros room) (λ q. h (ap (λ (n : ℕ). (answer w n).refusal) (sym e) ∙ q)))) (all-zero room))
 
 -- ---- the owned key of a call
 pub key-listed : (m : Manner) (t : List ℕ) → Listed key_numbers (key_answer (key_for m t)).refusal
@@ -94,8 +105,8 @@ key-listed m t = go (is_loose m (read_path t)) (read_path t)
 
     go : (b : Bool) (r : Reading) → Listed key_numbers (key_answer (cond b (refused 20) (key_by t r))).refusal
     go true r = refl
-    go false (Read p e) = fits (leb (length (render_path t p)) 255) (length (render_path t p))
-    go false (Refused w) = unread_of (Listed key_numbers) refl refl refl refl refl refl w
+    go false (Ok r) = fits (leb (length (render_path t r.path)) 255) (length (render_path t r.path))
+    go false (Err w) = unread_of (Listed key_numbers) refl refl refl refl refl refl w
 
 pub key-empty : (w : Wanted) → ((key_answer w).refusal ≡ 0 → ⊥) → AllZero (kind_made w ∷ (key_answer w).length ∷ left w (zeros 255))
 unfolding key_answer kind_made answer left

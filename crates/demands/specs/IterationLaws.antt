@@ -1,6 +1,6 @@
 -- What the calls on iteration keys come to, by the definitions that their contracts cite.
 -- Assumes nothing.
-use Rattle.std.specs.Prelude.{ℕ, ◌<◌, ◌^◌, ◌≡◌, refl, ◌↔◌, Bool, true, false, List, [], ◌∷◌, take}
+use Rattle.std.specs.Prelude.{ℕ, ◌<◌, ◌^◌, ◌≡◌, refl, ◌↔◌, Bool, true, false, List, [], ◌∷◌, take, Result, Ok, Err}
 use Rattle.std.proofs.Common.{sym, ap, subst, ◌∙◌, arith}
 use Rattle.std.proofs.Math.Option.{Option, none, some}
 use Rattle.text.specs.Number.{Bytes}
@@ -8,8 +8,6 @@ use Rattle.text.specs.declared.Written.{Written}
 use Rattle.path.specs.declared.Pair.{Pair}
 use Rattle.path.specs.declared.Revision.{Revision}
 use Rattle.path.specs.Pair.{pair}
-use Rattle.iteration.specs.declared.KeyAnswer.{KeyAnswer}
-use Rattle.iteration.specs.declared.KeyAnswer.TheVariants.{Key, Refused}
 use Rattle.iteration.specs.Key.{iteration_key, key_revision, answered, pair_of}
 use Rattle.iteration.specs.ReadLaws.{read-written, written_read, key-counted}
 use Rattle.iteration.specs.Block.{rising, block_of, scanned, Among, Nearest}
@@ -97,9 +95,9 @@ module _ (f : List Revision → Option Revision) (side : Revision → Bool) (nea
       go (some qs) x = within qs x (rw x at e) (f qs) refl
 
 -- ---- demand 1
-abbrev pub Refuses : List ℕ → KeyAnswer → Type 0
-Refuses ns (Key p) = Unit {0}
-Refuses ns (Refused n) = Listed ns n
+abbrev pub Refuses : List ℕ → Result Revision ℕ → Type 0
+Refuses ns (Ok p) = Unit {0}
+Refuses ns (Err n) = Listed ns n
 
 pub key-refuses : (x : Option Revision) → Refuses (15 ∷ []) (answered 15 x)
 key-refuses none = refl
@@ -115,7 +113,7 @@ scan-refuses f (some ps) = go (f ps)
 
 -- a call that answers a pair and is lent nothing to write
 module _ {L : Type 0} {A R S : L → Type 0} {Pre : (κs : L) → A κs → Type 0} {Post : (κs : L) → A κs → R κs → S κs → Type 0} (listed : List ℕ) where
-  pub pairs : Listed listed 0 → ((κs : L) (a : A κs) → Pre κs a) → (given : (κs : L) → R κs → Pair) (answers : (κs : L) → A κs → KeyAnswer) → ((κs : L) (a : A κs) → Refuses listed (answers κs a))
+  pub pairs : Listed listed 0 → ((κs : L) (a : A κs) → Pre κs a) → (given : (κs : L) → R κs → Pair) (answers : (κs : L) → A κs → Result Revision ℕ) → ((κs : L) (a : A κs) → Refuses listed (answers κs a))
       → ((κs : L) (a : A κs) (r : R κs) (s : S κs) → Post κs a r s → given κs r ≡ pair_of (answers κs a))
       → Demand1 Pre Post listed (λ κs r. (given κs r).refusal) (λ κs r. (given κs r).number ∷ (given κs r).height ∷ []) (λ κs a. []) (λ κs s. [])
   pairs zero accepts given answers numbers says =
@@ -126,10 +124,10 @@ module _ {L : Type 0} {A R S : L → Type 0} {Pre : (κs : L) → A κs → Type
         keeps = λ κs a r s p h. refl;
       }
     where
-      number_of : (x : KeyAnswer) → Refuses listed x → Listed listed (pair_of x).refusal
-      number_of (Key p) h = zero
-      number_of (Refused n) h = h
+      number_of : (x : Result Revision ℕ) → Refuses listed x → Listed listed (pair_of x).refusal
+      number_of (Ok p) h = zero
+      number_of (Err n) h = h
 
-      zeros : (x : KeyAnswer) → ((pair_of x).refusal ≡ 0 → ⊥) → AllZero ((pair_of x).number ∷ (pair_of x).height ∷ [])
-      zeros (Key p) h = absurd (h refl)
-      zeros (Refused n) h = (refl, (refl, tt))
+      zeros : (x : Result Revision ℕ) → ((pair_of x).refusal ≡ 0 → ⊥) → AllZero ((pair_of x).number ∷ (pair_of x).height ∷ [])
+      zeros (Ok p) h = absurd (h refl)
+      zeros (Err n) h = (refl, (refl, tt))

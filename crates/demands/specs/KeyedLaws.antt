@@ -1,6 +1,6 @@
 -- When the writing of a key is refused: one law, from when reading is.
 -- Assumes nothing.
-use Rattle.std.specs.Prelude.{ℕ, ◌≤◌, ◌<◌, ◌↔◌, Bool, List, eqb, length, replicate}
+use Rattle.std.specs.Prelude.{ℕ, ◌≤◌, ◌<◌, ◌↔◌, Bool, List, eqb, length, replicate, Ok, Err}
 use Rattle.std.proofs.Math.Path.{◌≡◌, refl, subst}
 use Rattle.std.proofs.Common.{sym, ap, ◌∙◌, arith}
 use Rattle.std.proofs.Math.Bool.{true, false}
@@ -15,8 +15,7 @@ use Rattle.text.specs.declared.Written.{Written}
 use Rattle.path.specs.declared.Path.{Path}
 use Rattle.path.specs.declared.Refusal.{Refusal}
 use Rattle.path.specs.declared.Refusal.TheVariants.{TooLong, NotAscii, NotAPath, NoDigits as WithoutDigits, NotADigit as WithoutDigit, TooLarge as AboveAll}
-use Rattle.path.specs.declared.Reading.{Reading}
-use Rattle.path.specs.declared.Reading.TheVariants.{Read, Refused}
+use Rattle.path.specs.Reading.{Reading, Read}
 use Rattle.path.specs.Number.{NumberWrong}
 use Rattle.path.specs.Read.{fits, read_path, key_of, render_path, refusal_of, as_fault, reading_bytes, read_fault}
 use Rattle.path.specs.Reads.{Reads}
@@ -168,12 +167,12 @@ module _ (t out : List ℕ) (x : Written) (e : x ≡ answer (key_of t) (length o
       w = when_read t room26 fault26 refl
 
       go : (y : Reading) → read_path t ≡ y → Way ascii 2 (λ s. s) NoKind (NumberWrong fits) t out x fault26
-      go (Refused r) h =
+      go (Err r) h =
           let f : fault26.refusal ≡ refusal_of r = rw h in
           let k : x.refusal ≡ refusal_of r = ap (λ (y : Written). y.refusal) e ∙ rw h in
           unread (λ q. let y = (w.done.0 q).0.2 in clash (let j : ◌≡◌ {A = ℕ} 0 1 = cc in j)) (f ∙ sym k)
-      go (Read p b) h =
-          read (w.done.1 ((p, b, h), omega arith)) (read_short t p b h) (read-ascii t p b h) p (read_reads t p b h)
+      go (Ok r) h =
+          read (w.done.1 ((r.path, r.exact, h), omega arith)) (read_short t r.path r.exact h) (read-ascii t r.path r.exact h) r.path (read_reads t r.path r.exact h)
           (ap (λ (y : Written). y.refusal) e ∙ rw h)
 
   pub when_keyed : WhenKeyed t out x

@@ -1,7 +1,7 @@
 -- The lines of demand 2, of functions that answer as `path` says.
 -- Assumes nothing.
 use Prim.Native.Nat.{ℕ, ◌≤◌, ◌<◌}
-use Rattle.std.specs.Prelude.{◌≡◌, ◌↔◌, Bool, ◌&&◌, List, eqb, length, take, drop, get_or}
+use Rattle.std.specs.Prelude.{◌≡◌, ◌↔◌, Bool, ◌&&◌, List, eqb, length, take, drop, get_or, Ok, Err}
 use Rattle.std.proofs.Math.Path.{refl, sym, ap}
 use Rattle.std.proofs.Common.{subst, ◌∙◌, arith, drop_at, ne_eqb, le-leb, leb-true, leb-false}
 use Rattle.std.proofs.Math.Bool.{true, false, cond}
@@ -17,8 +17,7 @@ use Rattle.text.specs.declared.Written.{Written}
 use Rattle.identifiers.specs.Check.{first, unless}
 use Rattle.path.specs.declared.Path.{Path}
 use Rattle.path.specs.declared.Refusal.TheVariants.{NotAPath}
-use Rattle.path.specs.declared.Reading.{Reading}
-use Rattle.path.specs.declared.Reading.TheVariants.{Read, Refused}
+use Rattle.path.specs.Reading.{Reading, Read}
 use Rattle.path.specs.Kinds.{Carried}
 use Rattle.path.specs.Read.{parts_of, texts_of, render, render_path, names_fault, render_of, read_path, key_of, bytes_by, reading_bytes, read_fault, refusal_of}
 use Rattle.path.specs.Reads.{Reads}
@@ -86,8 +85,8 @@ module _ (t out : List ℕ) (f : Fault) (out₁ : List ℕ) (e : f ≡ read_faul
   size = go (read_path t) refl ∙ ap (λ (n : ℕ). cond (eqb n 0) 26 0) number
     where
       go : (y : Reading) → read_path t ≡ y → (answer (bytes_by y) (length out)).length ≡ cond (eqb (answer (bytes_by y) (length out)).refusal 0) 26 0
-      go (Read p b) h = written-length (bytes26 p b) (length out) (length26 t p b h)
-      go (Refused r) h = rw (ne_eqb (refusal_of r) 0 (refusal-some r))
+      go (Ok r) h = written-length (bytes26 r.path r.exact) (length out) (length26 t r.path r.exact h)
+      go (Err r) h = rw (ne_eqb (refusal_of r) 0 (refusal-some r))
 
   pub read_leaves : Leaves f.refusal (read_length f) out out₁
   read_leaves =
@@ -95,8 +94,8 @@ module _ (t out : List ℕ) (f : Fault) (out₁ : List ℕ) (e : f ≡ read_faul
       subst (λ (r : ℕ). Leaves r (read_length f) out out₁) number (subst (λ (n : ℕ). Leaves (answer (reading_bytes t) (length out)).refusal n out out₁) size l)
 
 -- "clients" is no path
-clients-read : read_path (bytes "clients") ≡ Refused NotAPath
-clients-read = let q : gives (read_path (bytes "clients")) ≡ gives (Refused NotAPath) = ap (λ (l : List Outcome). get_or l 1 (gives (Refused NotAPath))) cases_hold in cc
+clients-read : read_path (bytes "clients") ≡ Err NotAPath
+clients-read = let q : gives (read_path (bytes "clients")) ≡ gives (Err NotAPath) = ap (λ (l : List Outcome). get_or l 1 (gives (Err NotAPath))) cases_hold in cc
 
 pub clients : (room : ℕ) → read_fault (bytes "clients") room ≡ record { refusal = 3; place = 0 }
 unfolding read_fault reading_bytes answer

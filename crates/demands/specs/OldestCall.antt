@@ -1,7 +1,7 @@
 -- `hp_book_oldest` answers a pair that the book holds for the owner's client, and none that it holds for it is below; and each refusal
 -- exactly when.
 -- Assumes nothing.
-use Rattle.std.specs.Prelude.{ℕ, ◌≡◌, true, false, List, ◌∷◌, ◌↔◌}
+use Rattle.std.specs.Prelude.{ℕ, ◌≡◌, true, false, List, ◌∷◌, ◌↔◌, Some}
 use Rattle.std.proofs.Math.Option.{some}
 use Rattle.std.proofs.Math.ListN.{get_elem?}
 use contract.Lifetimes.{Lfts}
@@ -13,7 +13,6 @@ use Rattle.text.specs.Refusal as refusal
 use Rattle.identifiers.specs.Check.{check_of}
 use Rattle.identifiers.specs.Check as check
 use Rattle.book_records.specs.Calls.{is_owner}
-use Rattle.book_oldest.specs.declared.StateAnswer.TheVariants.{State}
 use Rattle.path.specs.declared.Pair.{Pair}
 use Rattle.path.specs.Revision.{revision, below}
 use Rattle.book_oldest.specs.Oldest.{state_of}
@@ -41,7 +40,7 @@ pub record HoldsState (b : List ℕ) (owner : ℕ) (client : List ℕ) (m h : �
   pub key : List ℕ
   pub value : List ℕ
   pub there : get_elem? book.records place ≡ some (owner ∷ key, value)
-  pub tells : state_of client key ≡ State (revision m h)
+  pub tells : state_of client key ≡ Some (revision m h)
 
 pub record OldestSays (b : List ℕ) (owner : ℕ) (client : List ℕ) (x : Pair) : Type 0 where
   -- each answer exactly when: 9 on what is no book; on a book 23 where the owner is neither 1 nor 2; of an owner the number of the client's

@@ -1,6 +1,6 @@
 -- That `hp_book_oldest` says what `OldestCall` has.
 -- Assumes nothing.
-use Rattle.std.specs.Prelude.{ℕ, Bool, true, false, cond, drop, eqb}
+use Rattle.std.specs.Prelude.{ℕ, Bool, true, false, cond, drop, eqb, Option, Some, None}
 use Rattle.std.proofs.Math.Path.{◌≡◌, refl, sym, ap}
 use Rattle.std.proofs.Common.{subst, ◌∙◌}
 use mathlib.Core.List.{List, [], ◌∷◌}
@@ -13,8 +13,6 @@ use Rattle.identifiers.specs.Check as check
 use Rattle.book_records.specs.Records.{Key}
 use Rattle.book_records.specs.Act.{Rec}
 use Rattle.book_records.specs.Calls.{is_owner, owner_of}
-use Rattle.book_oldest.specs.declared.StateAnswer.{StateAnswer}
-use Rattle.book_oldest.specs.declared.StateAnswer.TheVariants.{State, Nothing}
 use Rattle.path.specs.declared.Pair.{Pair}
 use Rattle.path.specs.declared.Revision.{Revision}
 use Rattle.path.specs.Pair.{pair}
@@ -44,15 +42,15 @@ module _ (owner : ℕ) (client : List ℕ) where
   unfolding own_state
   of-own t = rw (eq-eqb owner owner refl)
 
-  own-state : is_owner owner ≡ true → (k : Key) (p : Revision) → own_state owner client k ≡ State p → (t : List ℕ) × (k ≡ owner ∷ t) × (state_of client t ≡ State p)
+  own-state : is_owner owner ≡ true → (k : Key) (p : Revision) → own_state owner client k ≡ Some p → (t : List ℕ) × (k ≡ owner ∷ t) × (state_of client t ≡ Some p)
   unfolding own_state
   own-state known k p e = go (eqb (owner_of k) owner) refl e
     where
-      split : (j : Key) → owner_of j ≡ owner → state_of client (drop 1 j) ≡ State p → (t : List ℕ) × (j ≡ owner ∷ t) × (state_of client t ≡ State p)
+      split : (j : Key) → owner_of j ≡ owner → state_of client (drop 1 j) ≡ Some p → (t : List ℕ) × (j ≡ owner ∷ t) × (state_of client t ≡ Some p)
       split [] o q = not_both (is_owner 0) (subst (λ (n : ℕ). is_owner n ≡ true) (sym o) known) refl
       split (a ∷ t) o q = (t, ap (λ (n : ℕ). n ∷ t) o, q)
 
-      go : (v : Bool) → eqb (owner_of k) owner ≡ v → cond v (state_of client (drop 1 k)) Nothing ≡ State p → (t : List ℕ) × (k ≡ owner ∷ t) × (state_of client t ≡ State p)
+      go : (v : Bool) → eqb (owner_of k) owner ≡ v → cond v (state_of client (drop 1 k)) None ≡ Some p → (t : List ℕ) × (k ≡ owner ∷ t) × (state_of client t ≡ Some p)
       go false f q = absurd (let z : ◌≡◌ {A = ℕ} 0 1 = cc in let y : ⊥ = omega arith in y)
       go true f q = split k (eqb-true (owner_of k) owner f) q
 
@@ -66,7 +64,7 @@ module _ {b : List ℕ} (owner : ℕ) (client : List ℕ) (y : ProperBook b) whe
 
   module _ (known : is_owner owner ≡ true) where
     module _ (accepted : check_of check.client client ≡ 0) where
-      some-state : (p : Revision) → oldest_state owner client y.records ≡ State p → Said
+      some-state : (p : Revision) → oldest_state owner client y.records ≡ Some p → Said
       unfolding oldest_in
       some-state p e = rw (known, accepted, e) (record {
         bad_book_when = (λ q. absurd (let w : ⊥ = omega arith in w), λ n. absurd (n y));
@@ -84,7 +82,7 @@ module _ {b : List ℕ} (owner : ℕ) (client : List ℕ) (y : ProperBook b) whe
               let k = own-state owner client known x.1.0 p x.3 in
               record { book = y; place = x.0; key = k.0; value = x.1.1; there = x.2 ∙ ap (λ (l : Key). some (l, x.1.1)) k.1; tells = k.2 }
 
-      no_state : oldest_state owner client y.records ≡ Nothing → Said
+      no_state : oldest_state owner client y.records ≡ None → Said
       unfolding oldest_in
       no_state e = rw (known, accepted, e) (record {
         bad_book_when = (λ q. absurd (let w : ⊥ = omega arith in w), λ n. absurd (n y));
@@ -99,7 +97,7 @@ module _ {b : List ℕ} (owner : ℕ) (client : List ℕ) (y : ProperBook b) whe
           none : (m h : ℕ) → HoldsState b owner client m h → ⊥
           none m h z =
               let c = oldest-nothing owner client y.records e z.place (owner ∷ z.key, z.value) (state-at z) in
-              let t : State (revision m h) ≡ Nothing = sym z.tells ∙ sym (of-own owner client z.key) ∙ c in
+              let t : Some (revision m h) ≡ None = sym z.tells ∙ sym (of-own owner client z.key) ∙ c in
               let w : ◌≡◌ {A = ℕ} 0 1 = cc in
               omega arith
 
@@ -121,9 +119,9 @@ module _ {b : List ℕ} (owner : ℕ) (client : List ℕ) (y : ProperBook b) whe
     of_owner : Said
     of_owner = go (eqb (check_of check.client client) 0) refl
       where
-        by_state : check_of check.client client ≡ 0 → (a : StateAnswer) → oldest_state owner client y.records ≡ a → Said
-        by_state f (State p) e = some-state f p e
-        by_state f Nothing e = no_state f e
+        by_state : check_of check.client client ≡ 0 → (a : Option Revision) → oldest_state owner client y.records ≡ a → Said
+        by_state f (Some p) e = some-state f p e
+        by_state f None e = no_state f e
 
         go : (t : Bool) → eqb (check_of check.client client) 0 ≡ t → Said
         go true e = by_state (eqb-true (check_of check.client client) 0 e) (oldest_state owner client y.records) refl

@@ -1,6 +1,6 @@
 -- The lines of demand 2 leave one answer: what meets them answers as the calls do.
 -- Assumes nothing.
-use Rattle.std.specs.Prelude.{ℕ, ◌≡◌, Bool, true, false, List, ◌++◌, eqb, leb, length, take, drop}
+use Rattle.std.specs.Prelude.{ℕ, ◌≡◌, Bool, true, false, List, ◌++◌, eqb, leb, length, take, drop, Ok, Err}
 use Rattle.std.proofs.Math.Path.{refl, ap}
 use Rattle.std.proofs.Common.{sym, subst, ◌∙◌, arith, take-append-drop, eqb-true, leb-true, leb-false}
 use Rattle.std.proofs.lemmas.Bool.{eqb-false}
@@ -13,8 +13,7 @@ use Rattle.text.specs.declared.Written.{Written}
 use Rattle.path.specs.declared.Path.{Path}
 use Rattle.path.specs.declared.Refusal.{Refusal}
 use Rattle.path.specs.declared.Refusal.TheVariants.{TooLong, NotAscii, NotAPath, NoDigits as WithoutDigits, NotADigit as WithoutDigit, TooLarge as AboveAll}
-use Rattle.path.specs.declared.Reading.{Reading}
-use Rattle.path.specs.declared.Reading.TheVariants.{Read, Refused}
+use Rattle.path.specs.Reading.{Reading}
 use Rattle.path.specs.declared.name.Name.{Name}
 use Rattle.path.specs.Kinds.{Carried}
 use Rattle.path.specs.Read.{read_path, key_of, render_path, reading_bytes, read_fault, as_fault, refusal_of}
@@ -45,21 +44,21 @@ module _ (t out : List ℕ) (f g : Fault) (w : WhenRead t out f) (e : g ≡ read
   unfolding read_fault reading_bytes answer
   one-fault = go (read_path t) refl
     where
-      is : (v : Refusal) → read_path t ≡ Refused v → g ≡ as_fault v
+      is : (v : Refusal) → read_path t ≡ Err v → g ≡ as_fault v
       is v h = e ∙ rw h
 
       go : (y : Reading) → read_path t ≡ y → f ≡ g
-      go (Refused TooLong) h = let b = ap (λ (y : Fault). y.refusal) (is TooLong h) in alike 1 refl (w.too_long_when.1 (ours.too_long_when.0 b)) b
-      go (Refused NotAscii) h = let b = ap (λ (y : Fault). y.refusal) (is NotAscii h) in alike 2 refl (w.not_ascii_when.1 (ours.not_ascii_when.0 b)) b
-      go (Refused NotAPath) h = let b = ap (λ (y : Fault). y.refusal) (is NotAPath h) in alike 3 refl (w.not_a_path_when.1 (ours.not_a_path_when.0 b)) b
-      go (Refused (WithoutDigits i)) h = by_number (WithoutDigits i) refl (is (WithoutDigits i) h)
-      go (Refused (WithoutDigit i)) h = by_number (WithoutDigit i) refl (is (WithoutDigit i) h)
-      go (Refused (AboveAll i)) h = by_number (AboveAll i) refl (is (AboveAll i) h)
-      go (Read p x) h = room (leb 26 (length out)) refl
+      go (Err TooLong) h = let b = ap (λ (y : Fault). y.refusal) (is TooLong h) in alike 1 refl (w.too_long_when.1 (ours.too_long_when.0 b)) b
+      go (Err NotAscii) h = let b = ap (λ (y : Fault). y.refusal) (is NotAscii h) in alike 2 refl (w.not_ascii_when.1 (ours.not_ascii_when.0 b)) b
+      go (Err NotAPath) h = let b = ap (λ (y : Fault). y.refusal) (is NotAPath h) in alike 3 refl (w.not_a_path_when.1 (ours.not_a_path_when.0 b)) b
+      go (Err (WithoutDigits i)) h = by_number (WithoutDigits i) refl (is (WithoutDigits i) h)
+      go (Err (WithoutDigit i)) h = by_number (WithoutDigit i) refl (is (WithoutDigit i) h)
+      go (Err (AboveAll i)) h = by_number (AboveAll i) refl (is (AboveAll i) h)
+      go (Ok found) h = room (leb 26 (length out)) refl
         where
           room : (b : Bool) → leb 26 (length out) ≡ b → f ≡ g
-          room true b = let r = leb-true 26 (length out) b in alike 0 refl (w.done.1 ((p, x, h), r)) (ours.done.1 ((p, x, h), r))
-          room false b = let r = leb-false 26 (length out) b in alike 4 refl (w.no_room_when.1 ((p, x, h), r)) (ours.no_room_when.1 ((p, x, h), r))
+          room true b = let r = leb-true 26 (length out) b in alike 0 refl (w.done.1 ((found.path, found.exact, h), r)) (ours.done.1 ((found.path, found.exact, h), r))
+          room false b = let r = leb-false 26 (length out) b in alike 4 refl (w.no_room_when.1 ((found.path, found.exact, h), r)) (ours.no_room_when.1 ((found.path, found.exact, h), r))
 
 -- what is told of a text is told of one path
 mark-one : (t : List ℕ) (p : Path) (a b : Told) → Says t p a → Says t p b → a.mark ≡ b.mark
@@ -139,28 +138,28 @@ module _ (t out : List ℕ) (x y : Written) (w : WhenKeyed t out x) (e : y ≡ a
   unfolding key_of answer
   one_key = go (read_path t) refl
     where
-      is : (v : Refusal) → read_path t ≡ Refused v → y.refusal ≡ refusal_of v
+      is : (v : Refusal) → read_path t ≡ Err v → y.refusal ≡ refusal_of v
       is v h = ap (λ (z : Written). z.refusal) e ∙ rw h
 
       go : (r : Reading) → read_path t ≡ r → x.refusal ≡ y.refusal
-      go (Refused TooLong) h = let b = is TooLong h in w.too_long_when.1 (keyed.too_long_when.0 b) ∙ sym b
-      go (Refused NotAscii) h = let b = is NotAscii h in w.not_taken.1 (keyed.not_taken.0 b) ∙ sym b
-      go (Refused NotAPath) h = let b = is NotAPath h in w.not_a_path_when.1 (keyed.not_a_path_when.0 b) ∙ sym b
-      go (Refused (WithoutDigits i)) h = let b = is (WithoutDigits i) h in (w.bad_number 17 refl).1 ((keyed.bad_number 17 refl).0 b) ∙ sym b
-      go (Refused (WithoutDigit i)) h = let b = is (WithoutDigit i) h in (w.bad_number 18 refl).1 ((keyed.bad_number 18 refl).0 b) ∙ sym b
-      go (Refused (AboveAll i)) h = let b = is (AboveAll i) h in (w.bad_number 19 refl).1 ((keyed.bad_number 19 refl).0 b) ∙ sym b
-      go (Read p z) h = room (leb (length (render_path t p)) (length out)) refl
+      go (Err TooLong) h = let b = is TooLong h in w.too_long_when.1 (keyed.too_long_when.0 b) ∙ sym b
+      go (Err NotAscii) h = let b = is NotAscii h in w.not_taken.1 (keyed.not_taken.0 b) ∙ sym b
+      go (Err NotAPath) h = let b = is NotAPath h in w.not_a_path_when.1 (keyed.not_a_path_when.0 b) ∙ sym b
+      go (Err (WithoutDigits i)) h = let b = is (WithoutDigits i) h in (w.bad_number 17 refl).1 ((keyed.bad_number 17 refl).0 b) ∙ sym b
+      go (Err (WithoutDigit i)) h = let b = is (WithoutDigit i) h in (w.bad_number 18 refl).1 ((keyed.bad_number 18 refl).0 b) ∙ sym b
+      go (Err (AboveAll i)) h = let b = is (AboveAll i) h in (w.bad_number 19 refl).1 ((keyed.bad_number 19 refl).0 b) ∙ sym b
+      go (Ok found) h = room (leb (length (render_path t found.path)) (length out)) refl
         where
-          room : (b : Bool) → leb (length (render_path t p)) (length out) ≡ b → x.refusal ≡ y.refusal
+          room : (b : Bool) → leb (length (render_path t found.path)) (length out) ≡ b → x.refusal ≡ y.refusal
           room true b =
-              let l = leb-true (length (render_path t p)) (length out) b in
-              let s = read_short t p z h in
-              let a = read-ascii t p z h in
-              let r = read_reads t p z h in
-              w.done.1 (s, a, (p, r, l)) ∙ sym (keyed.done.1 (s, a, (p, r, l)))
+              let l = leb-true (length (render_path t found.path)) (length out) b in
+              let s = read_short t found.path found.exact h in
+              let a = read-ascii t found.path found.exact h in
+              let r = read_reads t found.path found.exact h in
+              w.done.1 (s, a, (found.path, r, l)) ∙ sym (keyed.done.1 (s, a, (found.path, r, l)))
           room false b =
-              let l = leb-false (length (render_path t p)) (length out) b in
-              let s = read_short t p z h in
-              let a = read-ascii t p z h in
-              let r = read_reads t p z h in
-              w.no_room_when.1 (s, a, (p, r, l)) ∙ sym (keyed.no_room_when.1 (s, a, (p, r, l)))
+              let l = leb-false (length (render_path t found.path)) (length out) b in
+              let s = read_short t found.path found.exact h in
+              let a = read-ascii t found.path found.exact h in
+              let r = read_reads t found.path found.exact h in
+              w.no_room_when.1 (s, a, (found.path, r, l)) ∙ sym (keyed.no_room_when.1 (s, a, (found.path, r, l)))

@@ -1,6 +1,6 @@
 -- What the calls on packet keys come to, by the definitions that their contracts cite.
 -- Assumes nothing.
-use Rattle.std.specs.Prelude.{ℕ, ◌+◌, ◌≤◌, ◌<◌, ◌^◌, ◌↔◌, Bool, List, [], ◌∷◌, eqb, ltb, length, take}
+use Rattle.std.specs.Prelude.{ℕ, ◌+◌, ◌≤◌, ◌<◌, ◌^◌, ◌↔◌, Bool, List, [], ◌∷◌, eqb, ltb, length, take, Option, Some, None, Result, Ok, Err}
 use Rattle.std.proofs.Math.Path.{◌≡◌, refl}
 use Rattle.std.proofs.Common.{sym, ap, subst, ◌∙◌, arith, ltb-true, ltb-false, eq-eqb, eqb-true}
 use Rattle.std.proofs.Math.Bool.{true, false, cond}
@@ -13,17 +13,12 @@ use Rattle.text.specs.declared.Written.{Written}
 use Rattle.text.specs.Put.{text, answer, left}
 use Rattle.text.specs.PutLaws.{answer-refused, answer-fits, answer-short}
 use Rattle.identifiers.specs.Check.{check_of, client}
-use Rattle.path.specs.declared.Reading.TheVariants.{Refused as Unread}
 use Rattle.path.specs.declared.Refusal.TheVariants.{NotAscii, NotAPath}
 use Rattle.path.specs.Read.{read_path, read_fault, reading_bytes, why_not, refusal_of, place_of}
 use Rattle.book_records.specs.Act.{Seen}
 use Rattle.book_records.specs.Calls.{Call, is_owner}
 use Rattle.book_records.specs.Refusals.{Declined, bad_owner_when, not_ascii_when, not_a_path_when}
-use Rattle.packet.specs.declared.KindAnswer.{KindAnswer}
-use Rattle.packet.specs.declared.KindAnswer.TheVariants.{Kind, Unknown}
 use Rattle.packet.specs.declared.Packet.{Packet}
-use Rattle.packet.specs.declared.PacketAnswer.{PacketAnswer}
-use Rattle.packet.specs.declared.PacketAnswer.TheVariants.{Key, Refused}
 use Rattle.packet.specs.declared.PacketKey.{PacketKey}
 use Rattle.packet.specs.declared.PacketKind.{PacketKind}
 use Rattle.packet.specs.Key.{marker_of, kind_marked, packet_key, packet, cut_place, client_in, marker_in, read_as, packet_in, packet_of, write_as, packet_wanted}
@@ -53,10 +48,10 @@ client-numbers s = plain_of (λ n. (n ≡ 24 → ⊥) × (n ≡ 4 → ⊥)) (λ 
 
 -- ---- when a reading is refused
 module _ (key : List ℕ) where
-  marked-number : (k : PacketKind) → (packet_of (read_as (Kind k) key)).refusal ≡ check_of client (client_in key)
+  marked-number : (k : PacketKind) → (packet_of (read_as (Some k) key)).refusal ≡ check_of client (client_in key)
   marked-number k = go (eqb (check_of client (client_in key)) 0) refl
     where
-      go : (b : Bool) → eqb (check_of client (client_in key)) 0 ≡ b → (packet_of (read_as (Kind k) key)).refusal ≡ check_of client (client_in key)
+      go : (b : Bool) → eqb (check_of client (client_in key)) 0 ≡ b → (packet_of (read_as (Some k) key)).refusal ≡ check_of client (client_in key)
       go true e = rw e (sym (eqb-true (check_of client (client_in key)) 0 e))
       go false e = rw e
 
@@ -71,21 +66,21 @@ module _ (key : List ℕ) where
           by_client = λ r d. (λ w. (is, sym q ∙ w), λ w. q ∙ w.1);
         }
 
-    sized : 9 ≤ length key → (x : KindAnswer) → kind_marked (marker_in key) ≡ x → WhenV2Read key n
-    sized l Unknown z = unmarked (e ∙ ap (λ (a : PacketAnswer). (packet_of a).refusal) (sym (read-unknown key l (kind_marked (marker_in key)) refl z))) (λ w. no_kind (marker_in key) w.marker.0 z w.marker.1)
-    sized l (Kind k) z =
-        checked (record { size = l; marker = (k, marker-kind (marker_in key) k z) }) (e ∙ ap (λ (a : PacketAnswer). (packet_of a).refusal) (read_marked key l (Kind k) (sym z)) ∙ marked-number k)
+    sized : 9 ≤ length key → (x : Option PacketKind) → kind_marked (marker_in key) ≡ x → WhenV2Read key n
+    sized l None z = unmarked (e ∙ ap (λ (a : Result PacketKey ℕ). (packet_of a).refusal) (sym (read-unknown key l (kind_marked (marker_in key)) refl z))) (λ w. no_kind (marker_in key) w.marker.0 z w.marker.1)
+    sized l (Some k) z =
+        checked (record { size = l; marker = (k, marker-kind (marker_in key) k z) }) (e ∙ ap (λ (a : Result PacketKey ℕ). (packet_of a).refusal) (read_marked key l (Some k) (sym z)) ∙ marked-number k)
 
     pub when_read : WhenV2Read key n
     when_read = go (ltb (length key) 9) refl
       where
         go : (b : Bool) → ltb (length key) 9 ≡ b → WhenV2Read key n
-        go true z = let l = ltb-true (length key) 9 z in unmarked (e ∙ ap (λ (a : PacketAnswer). (packet_of a).refusal) (sym (read_short key l))) (λ w. omega (arith, w.size))
+        go true z = let l = ltb-true (length key) 9 z in unmarked (e ∙ ap (λ (a : Result PacketKey ℕ). (packet_of a).refusal) (sym (read_short key l))) (λ w. omega (arith, w.size))
         go false z = sized (ltb-false (length key) 9 z) (kind_marked (marker_in key)) refl
 
 -- ---- when a writing is refused
 module _ (m : ℕ) (c : List ℕ) (s : ℕ) (room : ℕ) (x : Written) (e : x ≡ answer (packet_wanted m c s) room) where
-  module _ (k : PacketKind) (z : kind_marked m ≡ Kind k) where
+  module _ (k : PacketKind) (z : kind_marked m ≡ Some k) where
     marks : IsMarker m
     marks = (k, marker-kind m k z)
 
@@ -130,7 +125,7 @@ module _ (m : ℕ) (c : List ℕ) (s : ℕ) (room : ℕ) (x : Written) (e : x �
         go true y (yes l) = short (eqb-true (check_of client c) 0 y) l
         go true y (no l) = fitting (eqb-true (check_of client c) 0 y) (omega arith)
 
-  unknown : kind_marked m ≡ Unknown → WhenV2Written m c room x.refusal
+  unknown : kind_marked m ≡ None → WhenV2Written m c room x.refusal
   unknown z =
       let q : x.refusal ≡ 24 = written-number (rw (write-unknown m c s (kind_marked m) refl z) at e ∙ answer-refused 24 room) in
       let not : IsMarker m → ⊥ = λ w. no_kind m w.0 z w.1 in
@@ -144,9 +139,9 @@ module _ (m : ℕ) (c : List ℕ) (s : ℕ) (room : ℕ) (x : Written) (e : x �
   pub when_written : WhenV2Written m c room x.refusal
   when_written = go (kind_marked m) refl
     where
-      go : (y : KindAnswer) → kind_marked m ≡ y → WhenV2Written m c room x.refusal
-      go Unknown z = unknown z
-      go (Kind k) z = of-kind k z
+      go : (y : Option PacketKind) → kind_marked m ≡ y → WhenV2Written m c room x.refusal
+      go None z = unknown z
+      go (Some k) z = of-kind k z
 
 -- ---- what a writing that is done wrote
 module _ (m : ℕ) (c : List ℕ) (s : ℕ) (out : List ℕ) (x : Written) (out₁ : List ℕ) (e : x ≡ answer (packet_wanted m c s) (length out)) (f : out₁ ≡ left (packet_wanted m c s) out) where
@@ -159,18 +154,18 @@ module _ (m : ℕ) (c : List ℕ) (s : ℕ) (out : List ℕ) (x : Written) (out�
 -- ---- what a reading says, and of what
 module _ (key : List ℕ) (b : Bytes key) (y : Packet) (e : y ≡ packet_of (packet_in key)) where
   -- a reading that is done
-  pub packet-read : y.refusal ≡ 0 → (p : PacketKey) × (packet_in key ≡ Key p) × (y ≡ packet_of (Key p))
+  pub packet-read : y.refusal ≡ 0 → (p : PacketKey) × (packet_in key ≡ Ok p) × (y ≡ packet_of (Ok p))
   packet-read z =
       let w = ((when_read key y.refusal (number e)).by_client 0 (λ q. omega arith)).0 z in
       let m = w.0.marker in
       let k = m.0 in
-      let is : kind_marked (marker_in key) ≡ Kind k = ap kind_marked (sym m.1) ∙ kind-marker k in
+      let is : kind_marked (marker_in key) ≡ Some k = ap kind_marked (sym m.1) ∙ kind-marker k in
       let p : PacketKey = packet k (cut_place key) (big_at (cut_place key + 1) 8 key) in
-      let found : read_as (Kind k) key ≡ Key p = rw (eq-eqb (check_of client (client_in key)) 0 w.1) in
-      let q : packet_in key ≡ Key p = read_marked key w.0.size (Kind k) (sym is) ∙ found in
+      let found : read_as (Some k) key ≡ Ok p = rw (eq-eqb (check_of client (client_in key)) 0 w.1) in
+      let q : packet_in key ≡ Ok p = read_marked key w.0.size (Some k) (sym is) ∙ found in
       (p, q, e ∙ ap packet_of q)
 
-  pub is-packet : (p : PacketKey) → packet_in key ≡ Key p → IsPacket key p.kind (take p.length key) p.sequence.0
+  pub is-packet : (p : PacketKey) → packet_in key ≡ Ok p → IsPacket key p.kind (take p.length key) p.sequence.0
   is-packet p q = let r = key_reads key p q in record { accepted = ap (λ (i : ℕ). check_of client (take i key)) r.length-is ∙ r.accepted; counted = key-counted key p b q; bytes = sym (written_read key p b q) }
 
   pub says : (k : PacketKind) (c : List ℕ) (n : ℕ) → IsPacket key k c n ↔ Says key y k c n
@@ -178,8 +173,8 @@ module _ (key : List ℕ) (b : Bytes key) (y : Packet) (e : y ≡ packet_of (pac
     where
       to : IsPacket key k c n → Says key y k c n
       to w =
-          let q : packet_in key ≡ Key (packet k (length c) n) = rw w.bytes (read-written k c n w.counted w.accepted) in
-          let z : y ≡ packet_of (Key (packet k (length c) n)) = e ∙ ap packet_of q in
+          let q : packet_in key ≡ Ok (packet k (length c) n) = rw w.bytes (read-written k c n w.counted w.accepted) in
+          let z : y ≡ packet_of (Ok (packet k (length c) n)) = e ∙ ap packet_of q in
           record {
             done = number z;
             kind = ap (λ (p : Packet). p.kind) z;
@@ -202,7 +197,7 @@ pub read_back : (m : ℕ) (c : List ℕ) (n : ℕ) → n < 2 ^ 64 → (out : Lis
 read_back m c n small out x out₁ e f z y g =
     let w = written-done m c n out x out₁ e f z in
     let key = w.3.shown in
-    let q : y ≡ packet_of (Key (packet w.0 (length c) n)) = g ∙ ap packet_of (ap packet_in key ∙ read-written w.0 c n small w.2) in (
+    let q : y ≡ packet_of (Ok (packet w.0 (length c) n)) = g ∙ ap packet_of (ap packet_in key ∙ read-written w.0 c n small w.2) in (
       number q,
       ap (λ (p : Packet). p.kind) q ∙ w.1,
       ap (λ (p : Packet). take p.length (take x.length out₁)) q ∙ ap (take (length c)) key ∙ client-there w.0 c n,
@@ -226,7 +221,7 @@ one_key j m c d n p a b h k s t e = let w = key_one h k c d n p a b e in (sym s 
 
 -- ---- a key is no path, and no book takes it
 module _ (key : List ℕ) (k : PacketKind) (c : List ℕ) (n : ℕ) (is : IsPacket key k c n) where
-  pub unread-key : read_path key ≡ Unread (cond (ascii key) NotAPath NotAscii)
+  pub unread-key : read_path key ≡ Err (cond (ascii key) NotAPath NotAscii)
   unread-key = rw is.bytes (no_path k c n is.accepted)
 
   pub declined-key : (a : Call) → a.text ≡ key → Declined a (cond (is_owner a.owner) (cond (ascii key) 3 2) 23)
@@ -275,22 +270,22 @@ read-listed key = go (ltb (length key) 9) (kind_marked (marker_in key))
     checks : Listed packet_reads (check_of client (client_in key))
     checks = plain_of (Listed packet_reads) refl refl refl refl 9 64 (client_in key)
 
-    go : (v : Bool) (x : KindAnswer) → Listed packet_reads (packet_of (cond v (Refused 24) (read_as x key))).refusal
+    go : (v : Bool) (x : Option PacketKind) → Listed packet_reads (packet_of (cond v (Err 24) (read_as x key))).refusal
     go true x = refl
-    go false Unknown = refl
-    go false (Kind k) = rw (marked-number key k) checks
+    go false None = refl
+    go false (Some k) = rw (marked-number key k) checks
 
-zeros : (x : PacketAnswer) → ((packet_of x).refusal ≡ 0 → ⊥) → AllZero ((packet_of x).kind ∷ (packet_of x).length ∷ (packet_of x).sequence ∷ [])
-zeros (Key p) h = absurd (h refl)
-zeros (Refused n) h = (refl, (refl, (refl, tt)))
+zeros : (x : Result PacketKey ℕ) → ((packet_of x).refusal ≡ 0 → ⊥) → AllZero ((packet_of x).kind ∷ (packet_of x).length ∷ (packet_of x).sequence ∷ [])
+zeros (Ok p) h = absurd (h refl)
+zeros (Err n) h = (refl, (refl, (refl, tt)))
 
 pub packet_wants : (m : ℕ) (c : List ℕ) (n : ℕ) → Wants packet_writes (packet_wanted m c n)
 unfolding packet_wanted
 packet_wants m c n = go (kind_marked m)
   where
-    go : (x : KindAnswer) → Wants packet_writes (write_as x c n)
-    go Unknown = refl
-    go (Kind k) = accepted_wants packet_writes (check_of client c) (packet_key k c n) (plain_of (Listed packet_writes) refl refl refl refl 9 64 c)
+    go : (x : Option PacketKind) → Wants packet_writes (write_as x c n)
+    go None = refl
+    go (Some k) = accepted_wants packet_writes (check_of client c) (packet_key k c n) (plain_of (Listed packet_writes) refl refl refl refl 9 64 c)
 
 -- a call that answers what a packet key says and is lent nothing to write
 module _ {L : Type 0} {A R S : L → Type 0} {Pre : (κs : L) → A κs → Type 0} {Post : (κs : L) → A κs → R κs → S κs → Type 0} where

@@ -7,7 +7,7 @@ use Rattle.text.specs.Part.{same}
 use Rattle.text.specs.PartLaws.{same-is, same_refl}
 use Rattle.path.specs.declared.Revision.{Revision}
 use Rattle.path.specs.declared.Path.{Path}
-use Rattle.path.specs.declared.Reading.TheVariants.{Read}
+use Rattle.path.specs.Reading.{Read}
 use Rattle.path.specs.Kinds.{Carried}
 use Rattle.path.specs.Read.{read_path, texts_of}
 use Rattle.path.specs.Revision.{revision}

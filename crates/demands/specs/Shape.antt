@@ -1,6 +1,8 @@
 -- What demand 1 says of a call, over the shape of its contract.
 -- Assumes nothing.
 use Rattle.std.specs.Prelude.{ℕ, ◌≡◌, Bool, true, ◌||◌, List, [], ◌∷◌, eqb}
+use Rattle.std.specs.declared.result.Result.{Result}
+use Rattle.std.specs.declared.result.Result.TheVariants.{Ok, Err}
 
 -- 0, or one of the numbers listed for a call
 abbrev pub one_of : List ℕ → ℕ → Bool
@@ -13,6 +15,15 @@ Listed ns n = one_of ns n ≡ true
 abbrev pub AllZero : List ℕ → Type 0
 AllZero [] = Unit {0}
 AllZero (n ∷ ns) = (n ≡ 0) × AllZero ns
+
+-- what a call answers that makes something or refuses: its number, 0 where it makes it, and the numbers of what it makes
+abbrev pub number_in : {X E : Type 0} → (E → ℕ) → Result X E → ℕ
+number_in f (Ok x) = 0
+number_in f (Err e) = f e
+
+abbrev pub others_in : {X E : Type 0} → (X → List ℕ) → Result X E → List ℕ
+others_in g (Ok x) = g x
+others_in g (Err e) = []
 
 -- A contract as Rattle makes it of the source: what it asks of the caller, and what it ensures, of lifetimes, arguments, result, and the
 -- parameters at exit. Of the result are shown its refusal number and its other numbers; of the buffer that is lent to be written, if there is

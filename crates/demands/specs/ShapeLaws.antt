@@ -1,7 +1,7 @@
 -- Demand 1 by the shape of a contract: calls that write a text, calls that answer a number; and the numbers that the checks give.
 -- Assumes nothing.
 use Prim.Native.Nat.{ℕ}
-use Rattle.std.specs.Prelude.{◌≡◌, refl, cond, ◌&&◌, max, ◌+◌, ◌-◌, eqb, length}
+use Rattle.std.specs.Prelude.{◌≡◌, refl, cond, ◌&&◌, max, ◌+◌, ◌-◌, eqb, length, Ok, Err}
 use Rattle.std.proofs.Common.{sym, ap, subst, ◌∙◌}
 use Rattle.std.proofs.Math.Bool.{Bool, true, false, not}
 use mathlib.Core.List.{List, [], ◌∷◌, ◌++◌}
@@ -9,9 +9,8 @@ use Rattle.std.proofs.Math.Dec.{ltb, leb}
 use Rattle.std.proofs.Math.ListN.{drop}
 use Rattle.text.specs.Bytes.{bytes}
 use Rattle.text.specs.Fault.{numeral_fault}
-use Rattle.text.specs.Number.{numeral_of, decimal}
-use Rattle.text.specs.declared.Numeral.{Numeral}
-use Rattle.text.specs.declared.Numeral.TheVariants.{Value, NoDigits, NotADigit, TooLarge}
+use Rattle.text.specs.Number.{Numeral, numeral_of, decimal}
+use Rattle.text.specs.declared.NumberFault.TheVariants.{NoDigits, NotADigit, TooLarge}
 use Rattle.text.specs.declared.Written.{Written}
 use Rattle.text.specs.Part.{every, ascii, starts_with}
 use Rattle.text.specs.Put.{Wanted, refused, text, accepted, answer, left, refusal, done}
@@ -21,8 +20,7 @@ use Rattle.identifiers.specs.Check as check
 use Rattle.identifiers.specs.Owned.{trim, new_client, new_channel}
 use Rattle.path.specs.declared.Refusal.{Refusal}
 use Rattle.path.specs.declared.Refusal.TheVariants.{TooLong, NotAscii, NotAPath, NoDigits as WithoutDigits, NotADigit as WithoutDigit, TooLarge as AboveAll}
-use Rattle.path.specs.declared.Reading.{Reading}
-use Rattle.path.specs.declared.Reading.TheVariants.{Read, Refused}
+use Rattle.path.specs.Reading.{Reading}
 use Rattle.path.specs.Kinds.{Part, word, name, count, pair, Carried, name_in}
 use Rattle.path.specs.declared.name.Name.{Name}
 use Rattle.path.specs.declared.name.Name.TheVariants.{Client, Connection, Port, Channel, Upgrade}
@@ -102,10 +100,10 @@ module _ (P : ℕ → Type 0) (zero : P 0) where
       go false = p
 
   numeral_of_lem : P 17 → P 18 → P 19 → (x : Numeral) → P (numeral_fault x)
-  numeral_of_lem none other large (Value v) = zero
-  numeral_of_lem none other large (NoDigits i) = none
-  numeral_of_lem none other large (NotADigit i) = other
-  numeral_of_lem none other large (TooLarge i) = large
+  numeral_of_lem none other large (Ok v) = zero
+  numeral_of_lem none other large (Err (NoDigits i)) = none
+  numeral_of_lem none other large (Err (NotADigit i)) = other
+  numeral_of_lem none other large (Err (TooLarge i)) = large
 
   pub named-number : P 7 → P 17 → P 18 → P 19 → (n s : List ℕ) → P (named_of n s)
   unfolding named_of index_of
@@ -194,12 +192,12 @@ unfolding key_of
 key_wants t = go (read_path t)
   where
     go : (x : Reading) → Wants readings (key_by t x)
-    go (Read p e) = tt
-    go (Refused w) = reading-refusal w
+    go (Ok r) = tt
+    go (Err w) = reading-refusal w
 
 pub bytes_wants : (x : Reading) → Wants readings (bytes_by x)
-bytes_wants (Read p e) = tt
-bytes_wants (Refused w) = reading-refusal w
+bytes_wants (Ok r) = tt
+bytes_wants (Err w) = reading-refusal w
 
 pub reading_wants : (t : List ℕ) → Wants readings (reading_bytes t)
 unfolding reading_bytes

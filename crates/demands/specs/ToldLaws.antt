@@ -11,7 +11,7 @@ use Rattle.text.specs.Number.{big_endian, big_at}
 use Rattle.text.specs.NumberLaws.{length_big, big-at}
 use Rattle.path.specs.declared.Place.{Place}
 use Rattle.path.specs.declared.Path.{Path}
-use Rattle.path.specs.declared.Reading.TheVariants.{Read}
+use Rattle.path.specs.Reading.{Read}
 use Rattle.path.specs.Kinds.{Carried}
 use Rattle.path.specs.PlaceLaws.{read_lies}
 use Rattle.path.specs.Read.{place_bytes, read_path}

@@ -1,7 +1,7 @@
 -- What demands 2 and 3 and isolation refuse: useless readers, renderers and writers of keys, and useless books, each with the line that it breaks.
 -- And that demand 3 is not empty: every list has a run.
 -- Assumes nothing.
-use Rattle.std.specs.Prelude.{ℕ, zero, suc, ◌-◌, ◌*◌, ◌≤◌, ◌<◌, ◌≡◌, Bool, true, false, ◌⊎◌, List, [], ◌∷◌, ◌++◌, eqb, length, get_or, take}
+use Rattle.std.specs.Prelude.{ℕ, zero, suc, ◌-◌, ◌*◌, ◌≤◌, ◌<◌, ◌≡◌, Bool, true, false, ◌⊎◌, List, [], ◌∷◌, ◌++◌, eqb, length, get_or, take, Err}
 use Rattle.std.proofs.Math.Path.{refl, ap}
 use Rattle.std.proofs.Common.{sym, subst, ◌∙◌, inl, inr, ⊎_elim, arith, eqb-true}
 use Rattle.std.proofs.Math.Bool.{and-false}
@@ -14,7 +14,7 @@ use Rattle.path.specs.declared.Pair.{Pair}
 use Rattle.book_clear.specs.declared.Count.{Count}
 use Rattle.path.specs.declared.Path.{Path}
 use Rattle.path.specs.declared.Path.TheVariants.{Ports, UpgradeClientState}
-use Rattle.path.specs.declared.Reading.TheVariants.{Read, Refused as Unread}
+use Rattle.path.specs.Reading.{Read}
 use Rattle.path.specs.declared.Refusal.TheVariants.{NotAPath}
 use Rattle.path.specs.declared.name.Name.{Name}
 use Rattle.path.specs.Text.{join_by}
@@ -89,7 +89,7 @@ abbrev port_path : Path
 port_path = Ports (record { port = record { start = 6; len = 2 } })
 
 port_read : read_path port ≡ Read port_path true
-port_read = let q : gives (read_path port) ≡ gives (Read port_path true) = ap (λ (l : List Outcome). get_or l 7 (gives (Unread NotAPath))) cases_hold in cc
+port_read = let q : gives (read_path port) ≡ gives (Read port_path true) = ap (λ (l : List Outcome). get_or l 7 (gives (Err NotAPath))) cases_hold in cc
 
 port_key : key_of port ≡ text port
 unfolding key_of
@@ -403,7 +403,7 @@ abbrev upgrade_path : Path
 upgrade_path = UpgradeClientState (record { upgrade = record { start = 0; len = 0 }; height = record { 0 = 5 } })
 
 upgrade_read : read_path upgrade ≡ Read upgrade_path true
-upgrade_read = let q : gives (read_path upgrade) ≡ gives (Read upgrade_path true) = ap (λ (l : List Outcome). get_or l 12 (gives (Unread NotAPath))) cases_hold in cc
+upgrade_read = let q : gives (read_path upgrade) ≡ gives (Read upgrade_path true) = ap (λ (l : List Outcome). get_or l 12 (gives (Err NotAPath))) cases_hold in cc
 
 abbrev Counter : ℕ → Type 0
 Counter k = (k ≡ 1) ⊎ (k ≡ 2)

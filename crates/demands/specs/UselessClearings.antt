@@ -13,7 +13,7 @@ use Rattle.path.specs.declared.Revision.{Revision}
 use Rattle.path.specs.declared.ConsensusPlaces.{ConsensusPlaces}
 use Rattle.path.specs.declared.Path.{Path}
 use Rattle.path.specs.declared.Path.TheVariants.{ClientConsensusState, ClientUpdateTime}
-use Rattle.path.specs.declared.Reading.TheVariants.{Read}
+use Rattle.path.specs.Reading.{Read}
 use Rattle.path.specs.Text.{cut_at, join_by, places_from}
 use Rattle.path.specs.Kinds.{kinds}
 use Rattle.path.specs.Read.{name_fault, fits, fits_kind, read_kind, read_first, read_path, show, render, parts_of, render_path, texts_of, key_of}

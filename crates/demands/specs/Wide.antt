@@ -1,7 +1,7 @@
 -- Request L8, over the wide calls of the C interface: on ASCII texts each is the plain call of its name; an identifier is accepted by its characters;
 -- a wide path that is rendered reads back; exact is that the key is the text; each refusal of reading, rendering and keys exactly when.
 -- Assumes nothing.
-use Rattle.std.specs.Prelude.{ℕ, ◌≤◌, ◌≡◌, refl, ◌↔◌, Bool, true, List, [], ◌++◌, length, take}
+use Rattle.std.specs.Prelude.{ℕ, ◌≤◌, ◌≡◌, refl, ◌↔◌, Bool, true, List, [], ◌++◌, length, take, Some}
 use Rattle.std.proofs.Common.{sym, ap, ◌∙◌}
 use Rattle.text.specs.Bytes.{bytes}
 use Rattle.text.specs.declared.Fault.{Fault}
@@ -12,7 +12,7 @@ use Rattle.text.specs.Put.{Wanted, text, answer, left}
 use Rattle.identifiers.specs.Check.{chars_of, length_of, prefix_length_of, named_index_fault, Rule, check_of, fault_of, client, client_type, connection, port, channel}
 use Rattle.identifiers.specs.Owned.{new_client}
 use Rattle.path.specs.declared.Path.{Path}
-use Rattle.path.specs.declared.Reading.TheVariants.{Read}
+use Rattle.path.specs.Reading.{Read}
 use Rattle.path.specs.declared.name.Name.{Name}
 use Rattle.path.specs.Kinds.{carried, Kind, kinds}
 use Rattle.path.specs.Parents.{text_of, consensus_parent, packets_path}
@@ -20,7 +20,6 @@ use Rattle.path.specs.Read.{name_fault, fits_kind, parts_of, render_path}
 use Rattle.path.specs.Reads.{Has}
 use Rattle.path.specs.Read as paths
 use Rattle.path.specs.Valid.{only}
-use Rattle.wide.specs.declared.read.WideReading.TheVariants.{Of}
 use Rattle.wide.specs.Mode.{wide}
 use Rattle.wide.specs.Check.{check_in, fault_in}
 use Rattle.wide.specs.Read.{read_in, key_in}
@@ -183,7 +182,7 @@ pub name_picture : (n : Name) (c : List ℕ) → utf8 c ≡ true → name_fault_
 name_picture = alikes.name_picture
 
 -- ---- a reading is exact exactly where the key is the text
-module _ (t : List ℕ) (p : Path) (e : Bool) (h : read_in wide t ≡ Of (Read p e)) where
+module _ (t : List ℕ) (p : Path) (e : Bool) (h : read_in wide t ≡ Some (Read p e)) where
   pub key_is : key_in wide t ≡ text (render_path t p)
   key_is = more.key_is t p e h
 

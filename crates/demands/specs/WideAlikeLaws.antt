@@ -8,13 +8,12 @@ use Rattle.std.proofs.Math.ListN.{length}
 use Rattle.std.proofs.lemmas.Bool.{lt-leb}
 use Rattle.text.specs.Bytes.{bytes}
 use Rattle.text.specs.Fault.{numeral_fault, numeral_place, has_place}
-use Rattle.text.specs.Number.{is_digit, with_digit, digits_from, digits_at, numeral_of}
+use Rattle.text.specs.Number.{Numeral, is_digit, with_digit, digits_from, digits_at, numeral_of}
 use Rattle.text.specs.Part.{every, starts_with, same}
 use Rattle.text.specs.PartLaws.{and_left, and_right, every_append}
 use Rattle.identifiers.specs.FaultLaws.{check-last_of}
 use Rattle.identifiers.specs.Check.{first, unless, index_of, named_of, Form, plain, indexed, Rule, form_of, chars_of, check_of}
 use Rattle.identifiers.specs.Check as check
-use Rattle.text.specs.declared.Numeral.{Numeral}
 use Rattle.path.specs.declared.Refusal.{Refusal}
 use Rattle.path.specs.declared.name.Name.{Name}
 use Rattle.path.specs.declared.name.Name.TheVariants.{Client as client, Connection as connection, Port as port, Channel as channel, Upgrade as upgrade}

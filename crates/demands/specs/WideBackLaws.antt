@@ -15,7 +15,7 @@ use Rattle.identifiers.specs.Check.{unless, Rule, check_of}
 use Rattle.identifiers.specs.Check as check
 use Rattle.identifiers.specs.CheckLaws.{first-zero, unless-zero, accepted-no_slash}
 use Rattle.path.specs.declared.Path.{Path}
-use Rattle.path.specs.declared.Reading.TheVariants.{Read}
+use Rattle.path.specs.Reading.{Read}
 use Rattle.path.specs.declared.name.Name.{Name}
 use Rattle.path.specs.declared.name.Name.TheVariants.{Client as client, Connection as connection, Port as port, Channel as channel, Upgrade as upgrade}
 use Rattle.path.specs.Kinds.{Part, word, name, count, pair, Carried, carried, name_in, set_name, kinds}

@@ -1,6 +1,6 @@
 -- The calls of request L8 where there is room, and the exact mark.
 -- Assumes nothing.
-use Rattle.std.specs.Prelude.{ℕ, ◌≤◌, ◌↔◌, Bool, List, eqb, length, take}
+use Rattle.std.specs.Prelude.{ℕ, ◌≤◌, ◌↔◌, Bool, List, eqb, length, take, Err, Some, None}
 use Rattle.std.proofs.Math.Path.{◌≡◌, refl}
 use Rattle.std.proofs.Common.{sym, ap, ◌∙◌, arith, le-ltb, ltb-false, eq-eqb}
 use Rattle.std.proofs.Math.Bool.{true, false, cond}
@@ -10,7 +10,7 @@ use Rattle.text.specs.declared.Written.{Written}
 use Rattle.text.specs.Put.{Wanted, text, answer, left}
 use Rattle.path.specs.declared.Path.{Path}
 use Rattle.path.specs.declared.Refusal.TheVariants.{TooLong}
-use Rattle.path.specs.declared.Reading.TheVariants.{Read, Refused}
+use Rattle.path.specs.Reading.{Read}
 use Rattle.path.specs.Kinds.{Carried}
 use Rattle.path.specs.Read.{parts_of, render, render_path, read_path, read_fault, reading_bytes}
 use Rattle.path.specs.ExactLaws.{exact-by-length}
@@ -19,7 +19,6 @@ use Rattle.letters.specs.Character.{utf8}
 use Rattle.letters.specs.Narrow.{narrow}
 use Rattle.letters.specs.NarrowLaws.{length-narrow}
 use Rattle.key.specs.KeyLaws.{length-rendering}
-use Rattle.wide.specs.declared.read.WideReading.TheVariants.{Of, NotTaken}
 use Rattle.wide.specs.Mode.{wide}
 use Rattle.wide.specs.Read.{read_in, key_in, reading_bytes_in, read_fault_in}
 use Rattle.wide.specs.Render.{render_in}
@@ -33,12 +32,12 @@ pub renders : (k : ℕ) (v : Carried (List ℕ)) → WideValid k v → (out : Li
 renders k v valid out x out₁ p q room = wrote (render (parts_of k) v) out room (render_in wide k v) (wide-rendered k v valid) x out₁ p q
 
 -- ---- a text that reads is UTF-8, and its picture reads so
-module _ (t : List ℕ) (p : Path) (e : Bool) (h : read_in wide t ≡ Of (Read p e)) where
+module _ (t : List ℕ) (p : Path) (e : Bool) (h : read_in wide t ≡ Some (Read p e)) where
   pub opened : (length t ≤ 4096) × (utf8 t ≡ true) × (read_path (narrow t) ≡ Read p e)
   unfolding wide read_in
   opened = go (ltb 4096 (length t)) refl (utf8 t) refl h
     where
-      go : (a : Bool) → ltb 4096 (length t) ≡ a → (b : Bool) → utf8 t ≡ b → cond a (Of (Refused TooLong)) (cond b (Of (read_path (narrow t))) NotTaken) ≡ Of (Read p e) → (length t ≤ 4096) × (utf8 t ≡ true) × (read_path (narrow t) ≡ Read p e)
+      go : (a : Bool) → ltb 4096 (length t) ≡ a → (b : Bool) → utf8 t ≡ b → cond a (Some (Err TooLong)) (cond b (Some (read_path (narrow t))) None) ≡ Some (Read p e) → (length t ≤ 4096) × (utf8 t ≡ true) × (read_path (narrow t) ≡ Read p e)
       go true f b g k = let z : ◌≡◌ {A = ℕ} 0 1 = cc in absurd (omega arith)
       go false f true g k = (ltb-false 4096 (length t) f, g, cc)
       go false f false g k = let z : ◌≡◌ {A = ℕ} 0 1 = cc in absurd (omega arith)

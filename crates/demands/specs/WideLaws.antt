@@ -1,6 +1,6 @@
 -- What the theorems of request L8 rest on.
 -- Assumes nothing.
-use Rattle.std.specs.Prelude.{ℕ, ◌≤◌, ◌<◌, ◌≡◌, refl, ◌↔◌, Bool, cond, ◌&&◌, List, [], ◌∷◌, ltb, leb}
+use Rattle.std.specs.Prelude.{ℕ, ◌≤◌, ◌<◌, ◌≡◌, refl, ◌↔◌, Bool, cond, ◌&&◌, List, [], ◌∷◌, ltb, leb, Ok, Err}
 use Rattle.std.proofs.Math.Path.{sym}
 use Rattle.std.proofs.Common.{ap, subst, ◌∙◌, arith}
 use Rattle.std.proofs.Math.Bool.{true, false}
@@ -15,8 +15,7 @@ use Rattle.identifiers.specs.Check.{unless, among, identifier_byte, within, Rule
 use Rattle.identifiers.specs.CheckLaws.{first-zero, unless-zero}
 use Rattle.path.specs.declared.Path.{Path}
 use Rattle.path.specs.declared.Refusal.TheVariants.{TooLong, NotAscii, NotAPath, NoDigits as WithoutDigits, NotADigit as WithoutDigit, TooLarge as AboveAll}
-use Rattle.path.specs.declared.Reading.{Reading}
-use Rattle.path.specs.declared.Reading.TheVariants.{Read, Refused}
+use Rattle.path.specs.Reading.{Reading, Read}
 use Rattle.path.specs.Kinds.{kinds}
 use Rattle.path.specs.Read.{carried_from, read_first, render_path, read_path, bytes_by, reading_bytes, read_fault, as_fault}
 use Rattle.path.specs.ReadLaws.{read_has, kinds-apart}
@@ -105,13 +104,13 @@ read_never p e room h = text_never _ room h
 
 never-utf8 : (r : Reading) (room : ℕ) → (answer (bytes_by r) room).refusal ≡ 21 → ⊥
 unfolding answer
-never-utf8 (Read p e) room h = read_never p e room h
-never-utf8 (Refused TooLong) room h = omega arith
-never-utf8 (Refused NotAscii) room h = omega arith
-never-utf8 (Refused NotAPath) room h = omega arith
-never-utf8 (Refused (WithoutDigits i)) room h = omega arith
-never-utf8 (Refused (WithoutDigit i)) room h = omega arith
-never-utf8 (Refused (AboveAll i)) room h = omega arith
+never-utf8 (Ok r) room h = read_never r.path r.exact room h
+never-utf8 (Err TooLong) room h = omega arith
+never-utf8 (Err NotAscii) room h = omega arith
+never-utf8 (Err NotAPath) room h = omega arith
+never-utf8 (Err (WithoutDigits i)) room h = omega arith
+never-utf8 (Err (WithoutDigit i)) room h = omega arith
+never-utf8 (Err (AboveAll i)) room h = omega arith
 
 module _ (t out : List ℕ) (f : Fault) (e : f ≡ read_fault_in wide t (length out)) where
   module _ (long : 4096 < length t) where

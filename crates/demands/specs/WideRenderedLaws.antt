@@ -1,21 +1,19 @@
 -- When the writing of a wide key is refused, from when wide reading is.
 -- Assumes nothing.
-use Rattle.std.specs.Prelude.{ℕ, ◌≤◌, ◌≡◌, List, length, replicate}
+use Rattle.std.specs.Prelude.{ℕ, ◌≤◌, ◌≡◌, List, length, replicate, Ok, Err, Option, Some, None}
 use Rattle.std.proofs.Math.Path.{refl, sym, ap}
 use Rattle.std.proofs.Common.{◌∙◌, arith}
 use Rattle.text.specs.Part.{same}
 use Rattle.text.specs.Put.{answer}
 use Rattle.text.specs.declared.Fault.{Fault}
 use Rattle.text.specs.declared.Written.{Written}
-use Rattle.path.specs.declared.Reading.TheVariants.{Read, Refused}
+use Rattle.path.specs.Reading.{Reading}
 use Rattle.path.specs.Number.{NumberWrong}
 use Rattle.path.specs.Read.{render_path, refusal_of}
 use Rattle.path.specs.BackLaws.{read_reads}
 use Rattle.letters.specs.Character.{utf8}
 use Rattle.letters.specs.Narrow.{narrow}
 use Rattle.letters.specs.NarrowLaws.{length-narrow, narrow-ascii}
-use Rattle.wide.specs.declared.read.WideReading.{WideReading}
-use Rattle.wide.specs.declared.read.WideReading.TheVariants.{Of, NotTaken}
 use Rattle.wide.specs.Mode.{wide}
 use Rattle.wide.specs.Read.{read_in, key_in, reading_bytes_in, read_fault_in}
 use Rattle.demands.specs.WideWritten.{fits_wide, NoWideKind, WhenWideRead}
@@ -54,18 +52,18 @@ module _ (t out : List ℕ) (x : Written) (e : x ≡ answer (key_in wide t) (len
   unfolding key_in read_fault_in reading_bytes_in answer
   way = go (read_in wide t) refl
     where
-      go : (y : WideReading) → read_in wide t ≡ y → Way utf8 21 narrow NoWideKind (NumberWrong fits_wide) t out x fault26
-      go NotTaken h =
+      go : (y : Option Reading) → read_in wide t ≡ y → Way utf8 21 narrow NoWideKind (NumberWrong fits_wide) t out x fault26
+      go None h =
           let f : fault26.refusal ≡ wide.other = rw h in
           let k : x.refusal ≡ wide.other = ap (λ (y : Written). y.refusal) e ∙ rw h in
           unread (λ q. other-some (sym f ∙ q)) (f ∙ sym k)
-      go (Of (Refused r)) h =
+      go (Some (Err r)) h =
           let f : fault26.refusal ≡ refusal_of r = rw h in
           let k : x.refusal ≡ refusal_of r = ap (λ (y : Written). y.refusal) e ∙ rw h in
           unread (λ q. refusal-some r (sym f ∙ q)) (f ∙ sym k)
-      go (Of (Read p b)) h =
-          let o = opened t p b h in
-          read (when26.done.1 (o.0, o.1, laws.read-kind t o.1 (p, b, o.2), omega arith)) o.0 o.1 p (read_reads (narrow t) p b o.2) (ap (λ (y : Written). y.refusal) e ∙ rw h)
+      go (Some (Ok r)) h =
+          let o = opened t r.path r.exact h in
+          read (when26.done.1 (o.0, o.1, laws.read-kind t o.1 (r.path, r.exact, o.2), omega arith)) o.0 o.1 r.path (read_reads (narrow t) r.path r.exact o.2) (ap (λ (y : Written). y.refusal) e ∙ rw h)
 
   pub when_wide_keyed : WhenWideKeyed t out x
   when_wide_keyed = when-keyed-by utf8 21 narrow NoWideKind (NumberWrong fits_wide) t out x fault26 rows (λ q. omega (arith, q), λ q. omega (arith, q)) way

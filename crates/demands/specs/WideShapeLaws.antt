@@ -1,6 +1,6 @@
 -- Demand 1 of the wide calls: the numbers that their checks give, and what is wanted of them. 21 stands in the place of 2, which none gives.
 -- Assumes nothing.
-use Rattle.std.specs.Prelude.{ℕ, max, ◌-◌, ◌≡◌, refl, Bool, true, false, cond, ◌&&◌, eqb, ltb, length}
+use Rattle.std.specs.Prelude.{ℕ, max, ◌-◌, ◌≡◌, refl, Bool, true, false, cond, ◌&&◌, eqb, ltb, length, Ok, Err, Option, Some, None}
 use Rattle.std.proofs.Math.Bool.{not}
 use mathlib.Core.List.{List, [], ◌∷◌, ◌++◌}
 use Rattle.std.proofs.Common.{arith}
@@ -10,9 +10,9 @@ use Rattle.text.specs.Number.{decimal}
 use Rattle.text.specs.Part.{every, ascii}
 use Rattle.text.specs.Put.{refused, answer}
 use Rattle.identifiers.specs.Check.{first, unless, identifier_byte, within, named_of, plain, indexed, client, client_type, port, channel}
+use Rattle.path.specs.Reading.{Reading}
 use Rattle.path.specs.declared.Refusal.{Refusal}
 use Rattle.path.specs.declared.Refusal.TheVariants.{TooLong, NotAscii, NotAPath, NoDigits as WithoutDigits, NotADigit as WithoutDigit, TooLarge as AboveAll}
-use Rattle.path.specs.declared.Reading.TheVariants.{Read, Refused}
 use Rattle.path.specs.Kinds.{Part, word, name, count, pair, Carried, name_in}
 use Rattle.path.specs.declared.name.Name.{Name}
 use Rattle.path.specs.declared.name.Name.TheVariants.{Client, Connection, Port, Channel, Upgrade}
@@ -21,8 +21,6 @@ use Rattle.path.specs.Parents.{consensus_parent, packets_path}
 use Rattle.letters.specs.Character.{utf8}
 use Rattle.letters.specs.Narrow.{narrow}
 use Rattle.letters.specs.NarrowLaws.{narrow-ascii}
-use Rattle.wide.specs.declared.read.WideReading.{WideReading}
-use Rattle.wide.specs.declared.read.WideReading.TheVariants.{Of, NotTaken}
 use Rattle.wide.specs.Mode.{wide}
 use Rattle.wide.specs.Check.{taken_in, chars_in, length_in, prefix_length_in, named_index_in, check_in, trim_in, new_client_in}
 use Rattle.wide.specs.Read.{read_in, key_by_in, key_in, bytes_by_in, reading_bytes_in}
@@ -89,7 +87,7 @@ module _ (P : ℕ → Type 0) (zero : P 0) (other : P 21) where
         names_of (pair ∷ ps) v = names_of ps v
 
 -- ---- a reading never gives 2, since a picture is ASCII
-picture-reads : (t : List ℕ) → read_path (narrow t) ≡ Refused NotAscii → ⊥
+picture-reads : (t : List ℕ) → read_path (narrow t) ≡ Err NotAscii → ⊥
 unfolding read_fault reading_bytes answer
 picture-reads t h =
     let when : WhenRead (narrow t) [] (read_fault (narrow t) 0) = when_read (narrow t) [] (read_fault (narrow t) 0) refl in
@@ -99,16 +97,16 @@ picture-reads t h =
     let z : ◌≡◌ {A = ℕ} 0 1 = cc in
     omega arith
 
-never-two : (t : List ℕ) → read_in wide t ≡ Of (Refused NotAscii) → ⊥
+never-two : (t : List ℕ) → read_in wide t ≡ Some (Err NotAscii) → ⊥
 unfolding wide read_in
 never-two t h = go (ltb 4096 (length t)) (utf8 t) h
   where
-    go : (a b : Bool) → cond a (Of (Refused TooLong)) (cond b (Of (read_path (narrow t))) NotTaken) ≡ Of (Refused NotAscii) → ⊥
+    go : (a b : Bool) → cond a (Some (Err TooLong)) (cond b (Some (read_path (narrow t))) None) ≡ Some (Err NotAscii) → ⊥
     go true b e = let z : ◌≡◌ {A = ℕ} 0 1 = cc in omega arith
     go false true e = picture-reads t cc
     go false false e = let z : ◌≡◌ {A = ℕ} 0 1 = cc in omega arith
 
-reading-refusal : (t : List ℕ) (w : Refusal) → read_in wide t ≡ Of (Refused w) → Listed wide_readings (refusal_of w)
+reading-refusal : (t : List ℕ) (w : Refusal) → read_in wide t ≡ Some (Err w) → Listed wide_readings (refusal_of w)
 reading-refusal t TooLong h = refl
 reading-refusal t NotAscii h = absurd (never-two t h)
 reading-refusal t NotAPath h = refl
@@ -121,19 +119,19 @@ pub key_wants : (t : List ℕ) → Wants wide_readings (key_in wide t)
 unfolding wide key_in
 key_wants t = go (read_in wide t) refl
   where
-    go : (x : WideReading) → read_in wide t ≡ x → Wants wide_readings (key_by_in wide t x)
-    go (Of (Read p e)) h = tt
-    go (Of (Refused w)) h = reading-refusal t w h
-    go NotTaken h = refl
+    go : (x : Option Reading) → read_in wide t ≡ x → Wants wide_readings (key_by_in wide t x)
+    go (Some (Ok r)) h = tt
+    go (Some (Err w)) h = reading-refusal t w h
+    go None h = refl
 
 pub reading_wants : (t : List ℕ) → Wants wide_readings (reading_bytes_in wide t)
 unfolding wide reading_bytes_in
 reading_wants t = go (read_in wide t) refl
   where
-    go : (x : WideReading) → read_in wide t ≡ x → Wants wide_readings (bytes_by_in wide x)
-    go (Of (Read p e)) h = tt
-    go (Of (Refused w)) h = reading-refusal t w h
-    go NotTaken h = refl
+    go : (x : Option Reading) → read_in wide t ≡ x → Wants wide_readings (bytes_by_in wide x)
+    go (Some (Ok r)) h = tt
+    go (Some (Err w)) h = reading-refusal t w h
+    go None h = refl
 
 pub render_wants : (k : ℕ) (v : Carried (List ℕ)) → Wants wide_renderings (render_in wide k v)
 unfolding render_in

@@ -1,6 +1,6 @@
 -- What request L8 says of a wide call: which identifiers are accepted, by their characters, and when a reading is refused.
 -- Assumes nothing.
-use Rattle.std.specs.Prelude.{ℕ, ◌≤◌, ◌<◌, ◌^◌, ◌≡◌, ◌↔◌, Bool, true, false, cond, ◌&&◌, List, eqb, ltb, length}
+use Rattle.std.specs.Prelude.{ℕ, ◌≤◌, ◌<◌, ◌^◌, ◌≡◌, ◌↔◌, Bool, true, false, cond, ◌&&◌, List, eqb, ltb, length, Some}
 use Rattle.text.specs.declared.Fault.{Fault}
 use Rattle.text.specs.Fault.{has_place}
 use Rattle.text.specs.Part.{same}
@@ -8,7 +8,7 @@ use Rattle.text.specs.Refusal.{too_long, not_a_path, no_room, bad_utf8}
 use Rattle.identifiers.specs.Check.{identifier_byte, Rule, form_of}
 use Rattle.path.specs.declared.Path.{Path}
 use Rattle.path.specs.declared.Refusal.{Refusal}
-use Rattle.path.specs.declared.Reading.TheVariants.{Read}
+use Rattle.path.specs.Reading.{Read}
 use Rattle.path.specs.Kinds.{Part, word, name, count, pair, Carried, Kind, kinds}
 use Rattle.path.specs.Text.{cut_at}
 use Rattle.path.specs.Reads.{Has}
@@ -19,7 +19,6 @@ use Rattle.letters.specs.declared.Character.{Character}
 use Rattle.letters.specs.declared.Character.TheVariants.{Scalar, Broken}
 use Rattle.letters.specs.Character.{characters, each, utf8}
 use Rattle.letters.specs.Class.{is_letter}
-use Rattle.wide.specs.declared.read.WideReading.TheVariants.{Of}
 use Rattle.wide.specs.Mode.{wide}
 use Rattle.wide.specs.Read.{read_in}
 use Rattle.wide.specs.Render.{name_fault_in, names_fault_in}
@@ -50,7 +49,7 @@ pub record WideValid (k : ℕ) (v : Carried (List ℕ)) : Type 0 where
 -- the text t reads, exact, as the path of kind k with these identifiers, which are parts of t itself, and these numbers
 pub record WideReadsAs (t : List ℕ) (k : ℕ) (v : Carried (List ℕ)) : Type 0 where
   pub path : Path
-  pub read : read_in wide t ≡ Of (Read path true)
+  pub read : read_in wide t ≡ Some (Read path true)
   pub kind : kind_of path ≡ k
   pub carried : texts_of t (carried_of path) ≡ v
 

@@ -8,7 +8,7 @@ use Rattle.text.specs.Part.{ascii}
 use Rattle.text.specs.Put.{done}
 use Rattle.text.specs.Refusal.{too_long, not_ascii, not_a_path, no_room}
 use Rattle.path.specs.declared.Path.{Path}
-use Rattle.path.specs.declared.Reading.TheVariants.{Read}
+use Rattle.path.specs.Reading.{Read}
 use Rattle.path.specs.declared.Refusal.{Refusal}
 use Rattle.path.specs.Kinds.{Part, Carried, Kind, kinds}
 use Rattle.path.specs.Text.{part_of}

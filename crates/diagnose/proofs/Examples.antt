@@ -1,16 +1,15 @@
 -- What is wrong with some texts, computed from the definition.
 -- Assumes nothing.
 use mathlib.Core.Path.{◌≡◌, refl}
-use mathlib.Core.List.{[], ◌∷◌, reverse}
+use mathlib.Core.List.{[], ◌∷◌}
 use Rattle.text.specs.Bytes.{bytes}
 use Rattle.text.specs.Number.{numeral_of, digits_at, digits_from}
-use Rattle.text.specs.Part.{every, ascii, starts_with, same}
+use Rattle.text.specs.Part.{every, ascii, starts_with}
 use Rattle.identifiers.specs.Check.{among, identifier_byte, chars_of, within, index_of, named_of, check_of, fault_of}
-use Rattle.path.specs.Kinds.{word, name, count, pair, kinds}
+use Rattle.path.specs.Kinds.{word, name, pair, kinds}
 use Rattle.path.specs.declared.name.Name.TheVariants.{Channel as channel}
 use Rattle.path.specs.Text.{cut_at}
-use Rattle.path.specs.Read.{name_fault, fits}
-use Rattle.diagnose.specs.Diagnosis.{agree, until, alike, along, most, letters, stands, placed, score, nearest_from, nearest, front, why, number_why, word_why, length_why, prefix_why, fault_why, name_why, part_why, why_at}
+use Rattle.diagnose.specs.Diagnosis.{agree, alike, along, most, letters, stands, placed, score, nearest_from, nearest, why, number_why, word_why, prefix_why, fault_why, name_why, part_why}
 
 -- a word that stands there whole counts its letters twice; of `clientstate` six agree from the front and four from the back
 whole_word : alike (word (bytes "ports")) (bytes "ports") ≡ 10

@@ -1,4 +1,4 @@
--- `Steps` has what the cases of an answer tell; `Examples`: the definition, computed; `Unique`: the contract leaves one outcome.
+-- `Steps` has what it tells of a number text whether it has a value; `Examples`: the definition, computed; `Unique`: the contract leaves one outcome.
 pub mod Steps
 pub mod Examples
 pub mod Unique

@@ -1,15 +1,11 @@
--- What the case of an answer that a match took tells.
+-- What it tells of a number text whether it has a value.
 -- Assumes nothing.
+use Rattle.std.specs.Prelude.{Ok, Err}
+use Rattle.std.specs.Result.{is_ok}
 use mathlib.Core.Path.{◌≡◌, refl}
-use mathlib.Core.Bool.{false}
-use Prim.Native.Nat.{ℕ}
-use Rattle.text.specs.declared.Numeral.{Numeral}
-use Rattle.text.specs.declared.Numeral.TheVariants.{Value, NoDigits, NotADigit, TooLarge}
+use Rattle.text.specs.Number.{Numeral}
 use Rattle.identifiers.specs.Check.{is_value}
 
--- a numeral of another case is no value
-pub no_value : (n : Numeral) → ((x : ℕ) → n ≡ Value x → ⊥) → is_value n ≡ false
-no_value (Value v) h = absurd (h v refl)
-no_value (NoDigits i) h = refl
-no_value (NotADigit i) h = refl
-no_value (TooLarge i) h = refl
+pub ok-value : (n : Numeral) → is_value n ≡ is_ok n
+ok-value (Ok v) = refl
+ok-value (Err fault) = refl

@@ -1,24 +1,35 @@
 -- How far two texts agree, one byte at a time.
 -- Assumes nothing.
-use Rattle.std.specs.Prelude.{ℕ, zero, suc, ◌+◌, ◌-◌, ◌≤◌, ◌<◌, ◌≡◌, refl, Bool, true, false, cond, not, ◌&&◌, eqb, leb, length, drop, get_or}
-use Rattle.std.proofs.Common.{sym, ap, ◌∙◌, arith, add-one}
+use Rattle.std.specs.Prelude.{ℕ, zero, suc, ◌+◌, ◌-◌, ◌≤◌, ◌<◌, ◌≡◌, refl, Bool, true, false, cond, eqb, leb, min, length, drop, get_or}
+use Rattle.std.specs.Char.{LowercasesTo}
+use Rattle.std.specs.Int.{IsOutOfRange}
+use Rattle.std.proofs.Math.Decide.{dec_lt}
+use Rattle.std.proofs.Common.{ap, ◌∙◌, inl, inr, arith, add-one}
 use Rattle.std.proofs.Math.Bool.{and-false}
 use mathlib.Core.List.{List, [], ◌∷◌, reverse, reverse_aux}
 use Rattle.std.proofs.Math.ListN.{drop_of_length-le}
 use Rattle.std.proofs.lemmas.List.{length-reverse}
 use Rattle.std.proofs.Math.Seq.{drop-cons}
 use borrow.Author.Tests.{eq-eqb, ne_eqb, lt-leb, le-leb}
-use Rattle.diagnose.specs.Diagnosis.{lower, cased, agree, until, alike_but}
+use Rattle.diagnose.specs.Diagnosis.{cased, agree, until, alike_but}
 
 -- ---- from place i on
 module _ (fold : Bool) (a b : List ℕ) (i : ℕ) where
-  pub agree-end : length a ≤ i → agree fold (drop i a) (drop i b) ≡ 0
+  agree-end : length a ≤ i → agree fold (drop i a) (drop i b) ≡ 0
   unfolding agree
   agree-end h = rw (drop_of_length-le a h)
 
-  pub agree-short : i < length a → length b ≤ i → agree fold (drop i a) (drop i b) ≡ 0
+  agree-short : i < length a → length b ≤ i → agree fold (drop i a) (drop i b) ≡ 0
   unfolding agree
   agree-short h k = rw (drop-cons a i 0 h, drop_of_length-le b k)
+
+  -- past the end of one of them
+  pub agree-past : min (length a) (length b) ≤ i → agree fold (drop i a) (drop i b) ≡ 0
+  agree-past h = go (dec_lt i (length a))
+    where
+      go : Dec (i < length a) → agree fold (drop i a) (drop i b) ≡ 0
+      go (yes p) = agree-short p (omega (arith, p, h))
+      go (no p) = agree-end (omega (arith, p))
 
   module _ (h : i < length a) (k : i < length b) where
     pub agree-other : (cased fold (get_or a i 0) ≡ cased fold (get_or b i 0) → ⊥) → agree fold (drop i a) (drop i b) ≡ 0
@@ -97,22 +108,14 @@ until-within f (b ∷ s) = go (f b) (until-within f s)
     go true h = omega arith
     go false h = omega arith
 
--- ---- a byte with its letter case, or without
-pub cased-plain : (fold : Bool) (b : ℕ) → not fold ≡ true → b ≡ cased fold b
-cased-plain true b h = let z : ◌≡◌ {A = ℕ} 0 1 = cc in absurd (omega arith)
-cased-plain false b h = refl
-
-pub cased-below : (fold : Bool) (b : ℕ) → b < 65 → b ≡ cased fold b
-cased-below true b l = rw (lt-leb 65 b l)
-cased-below false b l = refl
-
-pub cased-above : (fold : Bool) (b : ℕ) → 90 < b → b ≡ cased fold b
-cased-above true b l = rw (lt-leb b 90 l, and-false (leb 65 b))
-cased-above false b l = refl
-
-pub cased_capital : (fold : Bool) (b : ℕ) → not fold ≡ false → 65 ≤ b → b ≤ 90 → b + 32 ≡ cased fold b
-cased_capital true b h l m = rw (le-leb 65 b l, le-leb b 90 m)
-cased_capital false b h l m = let z : ◌≡◌ {A = ℕ} 0 1 = cc in absurd (omega arith)
+-- ---- a byte without its letter case
+pub cased-low : (b r : ℕ) → LowercasesTo b r → r ≡ cased true b
+cased-low b r (inl x) = x.1 ∙ rw (le-leb 65 b x.0.0, le-leb b 90 x.0.1)
+cased-low b r (inr x) = x.1 ∙ go x.0
+  where
+    go : IsOutOfRange 65 90 b → b ≡ cased true b
+    go (inl l) = rw (lt-leb 65 b l)
+    go (inr l) = rw (lt-leb b 90 l, and-false (leb 65 b))
 
 -- ---- the same text but for letter case
 module _ (w c : List ℕ) where

@@ -1,6 +1,6 @@
 -- The score, the nearest kind and the diagnosis, one way out of the code after the other.
 -- Assumes nothing.
-use Rattle.std.specs.Prelude.{ℕ, zero, suc, max, ◌+◌, ◌-◌, ◌≤◌, ◌<◌, ◌≡◌, refl, Bool, true, false, cond, ◌&&◌, List, [], ◌∷◌, eqb, ltb, length, drop}
+use Rattle.std.specs.Prelude.{ℕ, ◌+◌, ◌≤◌, ◌<◌, ◌≡◌, Bool, true, false, cond, List, [], ◌∷◌, eqb, ltb, length, drop, zero, suc, max, ◌-◌, refl, ◌&&◌, Ok, Err}
 use Rattle.std.proofs.Common.{sym, ap, ◌∙◌, arith}
 use Rattle.std.proofs.Math.Bool.{and-false}
 use borrow.Author.Tests.{lt-ltb, le-ltb, eq-eqb, ne_eqb}
@@ -12,17 +12,15 @@ use Rattle.identifiers.specs.Check as check
 use Rattle.path.specs.declared.name.Name.{Name}
 use Rattle.path.specs.declared.name.Name.TheVariants.{Client as client, Connection as connection, Port as port, Channel as channel, Upgrade as upgrade}
 use Rattle.identifiers.specs.FaultLaws.{plain-placeless}
-use Rattle.path.specs.declared.Reading.{Reading}
-use Rattle.path.specs.declared.Reading.TheVariants.{Read, Refused}
+use Rattle.path.specs.Reading.{Reading}
 use Rattle.path.specs.declared.PathView.{PathView}
-use Rattle.path.specs.declared.ViewAnswer.TheVariants.{Seen, Refused as Unread}
 use Rattle.path.specs.View.{view_of, viewed_by}
 use Rattle.path.specs.declared.Refusal.{Refusal}
 use Rattle.path.specs.Kinds.{Part, Kind, kinds}
 use Rattle.path.specs.Read.{parts_of, read_path, refusal_of}
 use Rattle.diagnose.specs.declared.Diagnosis.{Diagnosis}
 use Rattle.diagnose.specs.declared.Why.{Why}
-use Rattle.diagnose.specs.Diagnosis.{letters, placed, score, nearest_from, nearest, front, why, fault_why, name_why, why_at, why_in, seven, how_many, start_at, diagnosis, shown_as, shown, diagnosis_by, diagnosis_of}
+use Rattle.diagnose.specs.Diagnosis.{letters, placed, score, nearest_from, nearest, front, why, fault_why, name_why, why_at, seven, how_many, start_at, diagnosis, shown_as, shown, diagnosis_by, diagnosis_of}
 use Rattle.diagnose.specs.Table.{parts_in, kind_text}
 use Rattle.diagnose.specs.PiecesLaws.{parts-length}
 use Rattle.diagnose.specs.PlaceLaws.{byte-within}
@@ -117,24 +115,24 @@ pub byte-room : (n m : ℕ) (ps : List Part) (t : List ℕ) (f : ℕ) (w : Why) 
 byte-room n m ps t f w e s g = rw (e, g) (byte-within n m ps t f)
 
 -- ---- the diagnosis by what the text reads as
-by-view : (t : List ℕ) (v : PathView) (x : Reading) → Seen v ≡ viewed_by x → diagnosis 0 v.kind 0 0 0 ≡ diagnosis_by t x
+by-view : (t : List ℕ) (v : PathView) (x : Reading) → Ok v ≡ viewed_by x → diagnosis 0 v.kind 0 0 0 ≡ diagnosis_by t x
 unfolding viewed_by view_of diagnosis_by
-by-view t v (Read p e) h = let k : v ≡ view_of p e = cc in ap (λ (y : PathView). diagnosis 0 y.kind 0 0 0) k
-by-view t v (Refused w) h = let z : ◌≡◌ {A = ℕ} 0 1 = cc in absurd (omega arith)
+by-view t v (Ok r) h = let k : v ≡ view_of r.path r.exact = cc in ap (λ (y : PathView). diagnosis 0 y.kind 0 0 0) k
+by-view t v (Err w) h = let z : ◌≡◌ {A = ℕ} 0 1 = cc in absurd (omega arith)
 
-pub told-read : (t : List ℕ) (v : PathView) → Seen v ≡ viewed_by (read_path t) → diagnosis 0 v.kind 0 0 0 ≡ diagnosis_of t
+pub told-read : (t : List ℕ) (v : PathView) → Ok v ≡ viewed_by (read_path t) → diagnosis 0 v.kind 0 0 0 ≡ diagnosis_of t
 unfolding diagnosis_of
 told-read t v h = by-view t v (read_path t) h
 
-un-view : (w : Refusal) (x : Reading) → Unread w ≡ viewed_by x → x ≡ Refused w
+un-view : (w : Refusal) (x : Reading) → Err w ≡ viewed_by x → x ≡ Err w
 unfolding viewed_by
-un-view w (Read p e) h = let z : ◌≡◌ {A = ℕ} 0 1 = cc in absurd (omega arith)
-un-view w (Refused v) h = let k : w ≡ v = cc in ap Refused (sym k)
+un-view w (Ok r) h = let z : ◌≡◌ {A = ℕ} 0 1 = cc in absurd (omega arith)
+un-view w (Err v) h = let k : w ≡ v = cc in ap Err (sym k)
 
-pub told-refused : (t : List ℕ) (w : Refusal) → Unread w ≡ viewed_by (read_path t) → read_path t ≡ Refused w
+pub told-refused : (t : List ℕ) (w : Refusal) → Err w ≡ viewed_by (read_path t) → read_path t ≡ Err w
 told-refused t w h = un-view w (read_path t) h
 
-module _ (t : List ℕ) (w : Refusal) (e : read_path t ≡ Refused w) (n : ℕ) (f : n ≡ refusal_of w) where
+module _ (t : List ℕ) (w : Refusal) (e : read_path t ≡ Err w) (n : ℕ) (f : n ≡ refusal_of w) where
   pub told-bare : n < 3 → diagnosis n 0 0 0 0 ≡ diagnosis_of t
   unfolding diagnosis_of diagnosis_by
   told-bare h = rw (e, ← f, lt-ltb n 3 h)

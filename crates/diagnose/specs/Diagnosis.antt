@@ -1,16 +1,14 @@
 -- What is wrong with a text that is no path: the kind that it comes nearest to, the first component that does not fit, why, and at which byte.
 -- Assumes nothing.
-use Rattle.std.specs.Prelude.{ℕ, zero, suc, max, min, ◌+◌, ◌*◌, ◌-◌, ◌≡◌, refl, Bool, true, false, cond, not, ◌&&◌, List, [], ◌∷◌, ◌++◌, reverse, eqb, ltb, leb, length, take, drop, get_or}
+use Rattle.std.specs.Prelude.{ℕ, zero, suc, max, min, ◌+◌, ◌*◌, ◌-◌, Bool, true, false, cond, not, ◌&&◌, List, [], ◌∷◌, ◌++◌, reverse, eqb, ltb, leb, length, take, drop, ◌≡◌, refl, get_or, Ok, Err}
 use Rattle.text.specs.Bytes.{bytes}
 use Rattle.text.specs.Fault.{numeral_fault, numeral_place}
-use Rattle.text.specs.Number.{numeral_of}
+use Rattle.text.specs.Number.{Numeral, numeral_of}
 use Rattle.text.specs.Refusal.{not_a_path, bad_char, bad_length, bad_prefix}
 use Rattle.text.specs.declared.Fault.{Fault}
-use Rattle.text.specs.declared.Numeral.{Numeral}
 use Rattle.identifiers.specs.Check.{Rule, Form, plain, indexed, identifier_byte, is_value, fault_of}
 use Rattle.identifiers.specs.Check as check
-use Rattle.path.specs.declared.Reading.{Reading}
-use Rattle.path.specs.declared.Reading.TheVariants.{Read, Refused}
+use Rattle.path.specs.Reading.{Reading}
 use Rattle.path.specs.declared.name.Name.{Name}
 use Rattle.path.specs.declared.name.Name.TheVariants.{Client as client, Connection as connection, Port as port, Channel as channel, Upgrade as upgrade}
 use Rattle.path.specs.Text.{cut_at, components, place_at}
@@ -255,8 +253,8 @@ unfoldable pub shown : List ℕ → ℕ → ℕ → Diagnosis
 shown t r k = cond (eqb k 0) (diagnosis r 0 1 unknown 0) (shown_as t r k (front (parts_of k) (seven t)))
 
 unfoldable pub diagnosis_by : List ℕ → Reading → Diagnosis
-diagnosis_by t (Read p e) = diagnosis 0 (kind_of p) 0 0 0
-diagnosis_by t (Refused w) = cond (ltb (refusal_of w) not_a_path) (diagnosis (refusal_of w) 0 0 0 0) (shown t (refusal_of w) (nearest (how_many t) (seven t)))
+diagnosis_by t (Ok r) = diagnosis 0 (kind_of r.path) 0 0 0
+diagnosis_by t (Err w) = cond (ltb (refusal_of w) not_a_path) (diagnosis (refusal_of w) 0 0 0 0) (shown t (refusal_of w) (nearest (how_many t) (seven t)))
 
 unfoldable pub diagnosis_of : List ℕ → Diagnosis
 diagnosis_of t = diagnosis_by t (read_path t)

@@ -1,18 +1,17 @@
 -- The loops of the search for the nearest kind, one turn at a time, and the table of kinds as the code writes it.
 -- Assumes nothing.
-use Rattle.std.specs.Prelude.{ℕ, zero, suc, max, ◌+◌, ◌*◌, ◌-◌, ◌≤◌, ◌<◌, ◌≡◌, refl, Bool, true, false, cond, not, ◌&&◌, List, [], ◌∷◌, map, reverse, ltb, leb, eqb, length, take, drop, get_or}
-use Rattle.std.proofs.Common.{sym, ap, ◌∙◌, arith, add-one, length-take, drop_of_length-le, drop-cons, leb-true}
-use Rattle.std.proofs.lemmas.List.{length-reverse}
-use Rattle.std.proofs.lemmas.Bool.{not-true, not-false}
+use Rattle.std.specs.Prelude.{ℕ, zero, suc, max, min, ◌+◌, ◌*◌, ◌-◌, ◌≤◌, ◌<◌, ◌≡◌, refl, Bool, true, false, cond, ◌&&◌, List, [], ◌∷◌, map, reverse, ltb, leb, length, drop, get_or}
+use Rattle.std.proofs.Common.{sym, ◌∙◌, arith, add-zero, add-one, drop_of_length-le, drop-cons, leb-true}
+use Rattle.std.proofs.Math.Decide.{dec_lt}
 use Rattle.text.specs.PartLaws.{and_left, and_right}
 use Rattle.text.specs.TableLaws.{span, agree_at}
 use Rattle.path.specs.Text.{component, cut_at, place_at}
 use Rattle.read_pieces.specs.CutLaws.{component-ends}
-use Rattle.path.specs.Kinds.{Part, word, name, count, pair, Kind, kinds, kind1}
+use Rattle.path.specs.Kinds.{Part, kinds, kind1}
 use Rattle.path.specs.Read.{fits, parts_of}
 use Rattle.path.specs.Reads.{kind_at}
 use Rattle.path.specs.ReadLaws.{kind-parts}
-use Rattle.diagnose.specs.Diagnosis.{agree, alike, along, stands, placed, score, nearest_from, nearest, front, most, letters_but, letters, seven, first_fits, fits_first}
+use Rattle.diagnose.specs.Diagnosis.{alike, along, stands, placed, score, nearest_from, nearest, front, most, letters_but, letters, seven, first_fits, fits_first}
 use Rattle.diagnose.specs.Table.{part_in, parts_in, part_by, shape_of, letter_shape, table, starts, kind_text}
 use Rattle.diagnose.specs.declared.shape.Shape.{Shape}
 use Rattle.diagnose.specs.declared.shape.Shape.TheVariants.{Word, Named, Count, Pair}
@@ -32,31 +31,26 @@ alike-most w c = go (shape_of w)
 
 -- ---- parts from the i-th on, components from the j-th on
 module _ (g t : List ℕ) (i j : ℕ) where
-  module _ (h : length (seven g) ≤ i) where
-    pub along-end : (n : ℕ) → along n (drop i (parts_in g)) (drop j (seven t)) ≡ 0
+  -- where either has ended
+  module _ (h : min (length (seven g) - i) (length (seven t) - j) ≡ 0) where
+    ended : (P : List Part → List (List ℕ) → Type 0) → ((cs : List (List ℕ)) → P [] cs) → ((p : Part) (ps : List Part) → P (p ∷ ps) []) → P (drop i (parts_in g)) (drop j (seven t))
+    ended P a b = go (dec_lt i (length (seven g)))
+      where
+        go : Dec (i < length (seven g)) → P (drop i (parts_in g)) (drop j (seven t))
+        go (yes p) = let k : length (seven t) ≤ j = omega (arith, p, h) in rw (parts_more g i p, seven-none t j k) (b _ _)
+        go (no p) = let k : length (seven g) ≤ i = omega (arith, p) in rw (parts_none g i k) (a _)
+
+    pub along-past : (n : ℕ) → along n (drop i (parts_in g)) (drop j (seven t)) ≡ 0
     unfolding along
-    along-end n = rw (parts_none g i h)
+    along-past n = ended (λ ps cs. along n ps cs ≡ 0) (λ cs. refl) (λ p ps. refl)
 
-    pub placed_end : placed (drop i (parts_in g)) (drop j (seven t)) ≡ true
+    pub placed-past : placed (drop i (parts_in g)) (drop j (seven t)) ≡ true
     unfolding placed
-    placed_end = rw (parts_none g i h)
+    placed-past = ended (λ ps cs. placed ps cs ≡ true) (λ cs. refl) (λ p ps. refl)
 
-    pub front-end : front (drop i (parts_in g)) (drop j (seven t)) ≡ 0
+    pub front-past : front (drop i (parts_in g)) (drop j (seven t)) ≡ 0
     unfolding front
-    front-end = rw (parts_none g i h)
-
-  module _ (h : i < length (seven g)) (k : length (seven t) ≤ j) where
-    pub along-short : (n : ℕ) → along n (drop i (parts_in g)) (drop j (seven t)) ≡ 0
-    unfolding along
-    along-short n = rw (parts_more g i h, seven-none t j k)
-
-    pub placed-short : placed (drop i (parts_in g)) (drop j (seven t)) ≡ true
-    unfolding placed
-    placed-short = rw (parts_more g i h, seven-none t j k)
-
-    pub front-short : front (drop i (parts_in g)) (drop j (seven t)) ≡ 0
-    unfolding front
-    front-short = rw (parts_more g i h, seven-none t j k)
+    front-past = ended (λ ps cs. front ps cs ≡ 0) (λ cs. refl) (λ p ps. refl)
 
   module _ (h : i < length (seven g)) (k : j < length (seven t)) where
     pub along-more : (n : ℕ) → along n (drop i (parts_in g)) (drop j (seven t)) ≡ n * alike (part_in (component g i)) (component t j) + along 1 (drop (i + 1) (parts_in g)) (drop (j + 1) (seven t))
@@ -71,28 +65,24 @@ module _ (g t : List ℕ) (i j : ℕ) where
     unfolding front
     front-more = rw (parts_more g i h, seven-more t j k)
 
--- ---- the turns of the loop of `front_of`: parts and components are so many, and i of them fit
-module _ (g t : List ℕ) (i parts seen : ℕ) (e : front (parts_in g) (seven t) ≡ i + front (drop i (parts_in g)) (drop i (seven t))) (a : parts ≡ length (seven g)) (b : seen ≡ length (seven t)) where
-  pub front-at_end : parts ≤ i → i ≡ front (parts_in g) (seven t)
-  front-at_end h = omega (arith, front-end g t i i (omega arith))
+-- ---- the turns of the loop of `front_of`: i of them fit
+module _ (g t : List ℕ) (i : ℕ) (e : front (parts_in g) (seven t) ≡ i + front (drop i (parts_in g)) (drop i (seven t))) where
+  pub front-at_end : min (length (seven g)) (length (seven t)) ≤ i → i ≡ front (parts_in g) (seven t)
+  front-at_end h = omega (arith, front-past g t i i (omega (arith, h)))
 
-  module _ (h : i < parts) where
-    pub front-at-short : seen ≤ i → i ≡ front (parts_in g) (seven t)
-    front-at-short k = omega (arith, front-short g t i i (omega arith) (omega arith))
+  module _ (h : i < length (seven g)) (k : i < length (seven t)) (w c : List ℕ) (f : w ≡ component g i) (x : c ≡ component t i) (r : Bool) (y : r ≡ fits (part_in w) c) where
+    told : fits (part_in (component g i)) (component t i) ≡ r
+    told = rw (← f, ← x) (sym y)
 
-    module _ (k : i < seen) (w c : List ℕ) (f : w ≡ component g i) (x : c ≡ component t i) (r : Bool) (y : r ≡ fits (part_in w) c) where
-      told : fits (part_in (component g i)) (component t i) ≡ r
-      told = rw (← f, ← x) (sym y)
+    pub front-at-stop : r ≡ false → i ≡ front (parts_in g) (seven t)
+    front-at-stop q =
+        let z : front (drop i (parts_in g)) (drop i (seven t)) ≡ 0 = front-more g t i i h k ∙ rw (told, q) in
+        omega arith
 
-      pub front-at-stop : not r ≡ true → i ≡ front (parts_in g) (seven t)
-      front-at-stop q =
-          let z : front (drop i (parts_in g)) (drop i (seven t)) ≡ 0 = front-more g t i i (omega arith) (omega arith) ∙ rw (told, not-true r q) in
-          omega arith
-
-      pub front-at-next : not r ≡ false → front (parts_in g) (seven t) ≡ i + 1 + front (drop (i + 1) (parts_in g)) (drop (i + 1) (seven t))
-      front-at-next q =
-          let z : front (drop i (parts_in g)) (drop i (seven t)) ≡ suc (front (drop (i + 1) (parts_in g)) (drop (i + 1) (seven t))) = front-more g t i i (omega arith) (omega arith) ∙ rw (told, not-false r q) in
-          omega arith
+    pub front-at-next : r ≡ true → front (parts_in g) (seven t) ≡ i + 1 + front (drop (i + 1) (parts_in g)) (drop (i + 1) (seven t))
+    front-at-next q =
+        let z : front (drop i (parts_in g)) (drop i (seven t)) ≡ suc (front (drop (i + 1) (parts_in g)) (drop (i + 1) (seven t))) = front-more g t i i h k ∙ rw (told, q) in
+        omega arith
 
 -- the turns of that of `letters_along`: the sum so far, and n for the next
 add-three : (k s x y p : ℕ) → k ≡ s + x → x ≡ p + y → k ≡ s + p + y
@@ -110,41 +100,37 @@ piece-room g w i e h = omega (arith, component-ends g w i (place_at g i) refl e)
 pub letters-room : (n m : ℕ) (w c : List ℕ) → n ≤ 2 → length w ≤ 64 → m ≡ alike (part_in w) c → n * m ≤ 256
 letters-room n m w c h k e = product-room n m h (omega (arith, alike-most w c))
 
-module _ (g t : List ℕ) (times at from n sum i j parts seen : ℕ)
-    (e : along times (drop at (parts_in g)) (drop from (seven t)) ≡ sum + along n (drop i (parts_in g)) (drop j (seven t)))
-    (a : parts ≡ length (seven g))
-    (b : seen ≡ length (seven t)) where
-  pub along-at_end : parts ≤ i → sum ≡ along times (drop at (parts_in g)) (drop from (seven t))
-  along-at_end h = omega (arith, along-end g t i j (omega arith) n)
+pub along-start : (g t : List ℕ) (times at from : ℕ)
+    → along times (drop at (parts_in g)) (drop from (seven t)) ≡ 0 + along times (drop (at + 0) (parts_in g)) (drop (from + 0) (seven t))
+along-start g t times at from = rw (add-zero at, add-zero from) (omega arith)
 
-  module _ (h : i < parts) where
-    pub along-at-short : seen ≤ j → sum ≡ along times (drop at (parts_in g)) (drop from (seven t))
-    along-at-short k = omega (arith, along-short g t i j (omega arith) (omega arith) n)
+module _ (g t : List ℕ) (times at from n sum k : ℕ)
+    (e : along times (drop at (parts_in g)) (drop from (seven t)) ≡ sum + along n (drop (at + k) (parts_in g)) (drop (from + k) (seven t))) where
+  pub along-at_end : min (length (seven g) - at) (length (seven t) - from) ≤ k → sum ≡ along times (drop at (parts_in g)) (drop from (seven t))
+  along-at_end h = omega (arith, along-past g t (at + k) (from + k) (omega (arith, h)) n)
 
-    pub along-at-next : j < seen → (w c : List ℕ) → w ≡ component g i → c ≡ component t j → (m : ℕ) → m ≡ alike (part_in w) c
-        → along times (drop at (parts_in g)) (drop from (seven t)) ≡ sum + n * m + along 1 (drop (i + 1) (parts_in g)) (drop (j + 1) (seven t))
-    along-at-next k w c f x m y =
-        let z : m ≡ alike (part_in (component g i)) (component t j) = y ∙ rw (f, x) in
-        add-three _ sum _ _ (n * m) e (along-more g t i j (omega arith) (omega arith) n ∙ rw (← z))
+  pub along-at-next : at + k < length (seven g) → from + k < length (seven t) → (w c : List ℕ) → w ≡ component g (at + k) → c ≡ component t (from + k) → (m : ℕ) → m ≡ alike (part_in w) c
+      → along times (drop at (parts_in g)) (drop from (seven t)) ≡ sum + n * m + along 1 (drop (at + (k + 1)) (parts_in g)) (drop (from + (k + 1)) (seven t))
+  along-at-next h l w c f x m y =
+      let z : m ≡ alike (part_in (component g (at + k))) (component t (from + k)) = y ∙ rw (f, x) in
+      let p : at + (k + 1) ≡ at + k + 1 = omega arith in
+      let q : from + (k + 1) ≡ from + k + 1 = omega arith in
+      rw (p, q) (add-three _ sum _ _ (n * m) e (along-more g t (at + k) (from + k) h l n ∙ rw (← z)))
 
 -- the turns of that of `all_placed`
-module _ (g t : List ℕ) (i parts seen : ℕ) (e : placed (parts_in g) (seven t) ≡ placed (drop i (parts_in g)) (drop i (seven t))) (a : parts ≡ length (seven g)) (b : seen ≡ length (seven t)) where
-  pub placed-at_end : parts ≤ i → true ≡ placed (parts_in g) (seven t)
-  placed-at_end h = sym (e ∙ placed_end g t i i (omega arith))
+module _ (g t : List ℕ) (i : ℕ) (e : placed (parts_in g) (seven t) ≡ placed (drop i (parts_in g)) (drop i (seven t))) where
+  pub placed-at_end : min (length (seven g)) (length (seven t)) ≤ i → true ≡ placed (parts_in g) (seven t)
+  placed-at_end h = sym (e ∙ placed-past g t i i (omega (arith, h)))
 
-  module _ (h : i < parts) where
-    pub placed-at-short : seen ≤ i → true ≡ placed (parts_in g) (seven t)
-    placed-at-short k = sym (e ∙ placed-short g t i i (omega arith) (omega arith))
+  module _ (h : i < length (seven g)) (k : i < length (seven t)) (w c : List ℕ) (f : w ≡ component g i) (x : c ≡ component t i) (r : Bool) (y : r ≡ stands (part_in w) c) where
+    stood : stands (part_in (component g i)) (component t i) ≡ r
+    stood = rw (← f, ← x) (sym y)
 
-    module _ (k : i < seen) (w c : List ℕ) (f : w ≡ component g i) (x : c ≡ component t i) (r : Bool) (y : r ≡ stands (part_in w) c) where
-      stood : stands (part_in (component g i)) (component t i) ≡ r
-      stood = rw (← f, ← x) (sym y)
+    pub placed-at-stop : r ≡ false → false ≡ placed (parts_in g) (seven t)
+    placed-at-stop q = sym (e ∙ placed-more g t i i h k ∙ rw (stood, q))
 
-      pub placed-at-stop : not r ≡ true → false ≡ placed (parts_in g) (seven t)
-      placed-at-stop q = sym (e ∙ placed-more g t i i (omega arith) (omega arith) ∙ rw (stood, not-true r q))
-
-      pub placed-at-next : not r ≡ false → placed (parts_in g) (seven t) ≡ placed (drop (i + 1) (parts_in g)) (drop (i + 1) (seven t))
-      placed-at-next q = e ∙ placed-more g t i i (omega arith) (omega arith) ∙ rw (stood, not-false r q)
+    pub placed-at-next : r ≡ true → placed (parts_in g) (seven t) ≡ placed (drop (i + 1) (parts_in g)) (drop (i + 1) (seven t))
+    placed-at-next q = e ∙ placed-more g t i i h k ∙ rw (stood, q)
 
 -- ---- one component, or one part, that may not be there: n is how many there are
 module _ (t : List ℕ) (k n : ℕ) (e : n ≡ length (seven t)) where

@@ -1,16 +1,14 @@
 -- The first seven components of a text, and the parts of a kind, one at a time; what a cut tells of them.
 -- Assumes nothing.
-use Rattle.std.specs.Prelude.{ℕ, zero, suc, min, ◌+◌, ◌-◌, ◌≤◌, ◌<◌, ◌≡◌, refl, Bool, true, false, cond, List, [], ◌∷◌, map, length, take, drop, get_or}
-use Rattle.std.proofs.Common.{sym, ap, ◌∙◌, arith, add-one, length-take, drop_of_length-le, drop-cons, get_or-take, lt-ltb, le-ltb}
+use Rattle.std.specs.Prelude.{ℕ, min, ◌+◌, ◌-◌, ◌≤◌, ◌<◌, ◌≡◌, List, [], ◌∷◌, length, take, drop, get_or}
+use Rattle.std.proofs.Common.{◌∙◌, arith, add-one, length-take, drop_of_length-le, drop-cons, get_or-take, lt-ltb, le-ltb}
 use Rattle.std.proofs.lemmas.List.{length-map}
 use Rattle.std.proofs.Math.ListN.{get_or-map}
 use Rattle.path.specs.declared.Cut.{Cut}
 use Rattle.path.specs.Cut.{cut_of}
-use Rattle.path.specs.Text.{components, component, place_at, places, part_of}
+use Rattle.path.specs.Text.{components, component, place_at, places}
 use Rattle.path.specs.TextLaws.{count-components, part-component, place-next, place-last, place-within}
-use Rattle.path.specs.Kinds.{Part}
 use Rattle.read_pieces.specs.CutLaws.{cut-start, cut-count}
-use Rattle.text.specs.PartLaws.{part-rest}
 use Rattle.diagnose.specs.Diagnosis.{seven, how_many, start_at}
 use Rattle.diagnose.specs.Table.{part_in, parts_in}
 

@@ -1,32 +1,28 @@
 -- The byte that is shown stands in the shown component or at its end.
 -- Assumes nothing.
-use Rattle.std.specs.Prelude.{ℕ, zero, suc, ◌+◌, ◌-◌, ◌≤◌, ◌<◌, ◌≡◌, refl, Bool, true, false, cond, not, ◌&&◌, List, [], ◌∷◌, ◌++◌, eqb, ltb, leb, length, take, drop, get_or}
-use Rattle.std.proofs.Common.{sym, ap, subst, ◌∙◌, arith, length-take, length-drop, length-append, length-take-le, ltb-true, ltb-false, leb-true, leb-false, eqb-true, lt-ltb}
+use Rattle.std.specs.Prelude.{ℕ, ◌+◌, ◌-◌, ◌≤◌, ◌<◌, ◌≡◌, refl, Bool, true, false, cond, not, ◌&&◌, List, [], ◌∷◌, ◌++◌, eqb, ltb, leb, length, take, drop, get_or, Ok, Err}
+use Rattle.std.proofs.Common.{sym, subst, ◌∙◌, arith, length-drop, length-append, length-take-le, ltb-true, ltb-false, leb-true, leb-false, eqb-true, lt-ltb}
 use Rattle.text.specs.Bytes.{bytes}
-use Rattle.text.specs.Fault.{fault, has_place, numeral_fault, numeral_place}
+use Rattle.text.specs.Fault.{has_place, numeral_fault, numeral_place}
 use Rattle.text.specs.FaultLaws.{number-place}
-use Rattle.text.specs.Number.{numeral_of}
+use Rattle.text.specs.Number.{Numeral, numeral_of}
 use Rattle.text.specs.Part.{every, ascii, starts_with}
 use Rattle.text.specs.PartLaws.{starts-short}
 use Rattle.text.specs.declared.Fault.{Fault}
-use Rattle.text.specs.declared.Numeral.{Numeral}
-use Rattle.text.specs.declared.Numeral.TheVariants.{Value, NoDigits, NotADigit, TooLarge}
+use Rattle.text.specs.declared.NumberFault.TheVariants.{NoDigits, NotADigit, TooLarge}
 use Rattle.identifiers.specs.Check.{Rule, Form, plain, indexed, first, unless, chars_of, within, index_of, named_of, form_of, form_place, check_of, fault_of, identifier_byte, is_value}
 use Rattle.identifiers.specs.Check as check
-use Rattle.identifiers.specs.CheckLaws.{within_both, first-none, first_some}
+use Rattle.identifiers.specs.CheckLaws.{within_both, first-none}
 use Rattle.identifiers.specs.FaultLaws.{check-last_of}
 use Rattle.path.specs.declared.name.Name.{Name}
 use Rattle.path.specs.declared.name.Name.TheVariants.{Client as client, Connection as connection, Port as port, Channel as channel, Upgrade as upgrade}
-use Rattle.path.specs.Text.{component, components, place_at}
+use Rattle.path.specs.Text.{component, place_at}
 use Rattle.path.specs.TextLaws.{place-within}
 use Rattle.path.specs.Kinds.{Part, word, name, count, pair}
-use Rattle.path.specs.Read.{fits, is_number}
+use Rattle.path.specs.Read.{is_number}
 use Rattle.read_pieces.specs.CutLaws.{component-ends}
 use Rattle.read_pieces.specs.Pieces.{first_dash}
-use Rattle.read_pieces.specs.PairLaws.{dash-within}
-use Rattle.diagnose.specs.declared.Why.{Why}
-use Rattle.diagnose.specs.Diagnosis.{agree, until, why, dash, number_why, numbers_why, word_why, length_why, prefix_why, fault_why, prefix_of, rule_why, name_why, part_why, lacks, first_fits, fits_first, why_at, seven, how_many, start_at}
-use Rattle.diagnose.specs.Table.{parts_in}
+use Rattle.diagnose.specs.Diagnosis.{agree, until, why, number_why, numbers_why, word_why, length_why, prefix_why, fault_why, prefix_of, rule_why, name_why, part_why, lacks, first_fits, fits_first, why_at, seven, how_many, start_at}
 use Rattle.diagnose.specs.AgreeLaws.{agree-second, until-within}
 use Rattle.diagnose.specs.PiecesLaws.{seven-length, seven-more, seven-none}
 use Rattle.diagnose.specs.ReasonLaws.{pair_undashed, pair-second, pair-numbers}
@@ -48,10 +44,10 @@ unfolding chars_of
 chars-six s = not-six _ _ (unless-six 2 (ascii s) (λ e. omega arith)) (unless-six 5 (every identifier_byte s) (λ e. omega arith))
 
 number-six : (x : Numeral) → numeral_fault x ≡ 6 → ⊥
-number-six (Value n) h = omega arith
-number-six (NoDigits i) h = omega arith
-number-six (NotADigit i) h = omega arith
-number-six (TooLarge i) h = omega arith
+number-six (Ok n) h = omega arith
+number-six (Err (NoDigits i)) h = omega arith
+number-six (Err (NotADigit i)) h = omega arith
+number-six (Err (TooLarge i)) h = omega arith
 
 form-six : (f : Form) (s : List ℕ) → form_of f s ≡ 6 → ⊥
 unfolding named_of index_of

@@ -1,49 +1,26 @@
 -- The reasons, one way out of the code after the other; and where their places are.
 -- Assumes nothing.
-use Rattle.std.specs.Prelude.{ℕ, zero, suc, ◌+◌, ◌-◌, ◌^◌, ◌≤◌, ◌<◌, ◌≡◌, refl, Bool, true, false, cond, not, ◌&&◌, List, [], ◌∷◌, eqb, ltb, take, drop, get_or}
+use Rattle.std.specs.Prelude.{ℕ, ◌+◌, ◌-◌, ◌^◌, ◌≤◌, ◌<◌, ◌≡◌, refl, Bool, true, false, cond, List, [], ◌∷◌, eqb, take, drop}
 use Rattle.std.proofs.Math.Path.{sym}
-use Rattle.std.proofs.Common.{ap, ◌∙◌, length-take, length-drop}
+use Rattle.std.proofs.Common.{ap, ◌∙◌, length-drop}
 use native.Mathlib.Omega.{arith}
 use Rattle.std.proofs.Math.ListN.{length}
 use Rattle.std.proofs.Math.Seq.{length-take-le, drop-drop}
-use Rattle.text.specs.Fault.{numeral_fault, numeral_place}
-use Rattle.text.specs.Number.{numeral_of}
-use Rattle.text.specs.declared.Numeral.{Numeral}
-use Rattle.text.specs.declared.Numeral.TheVariants.{Value, NoDigits, NotADigit, TooLarge}
+use Rattle.text.specs.Fault.{numeral_place}
+use Rattle.text.specs.Number.{numeral_of, Numeral}
 use Rattle.text.specs.FaultLaws.{number-place}
 use Rattle.text.specs.PartLaws.{part-rest}
 use Rattle.identifiers.specs.Check.{is_value}
 use Rattle.path.specs.Text.{cut_at, cut_step, component}
-use Rattle.path.specs.Kinds.{Part, word, name, count, pair}
-use Rattle.path.specs.Read.{fits, is_number}
+use Rattle.path.specs.Kinds.{Part, pair}
 use Rattle.read_pieces.specs.Pieces.{first_dash}
-use Rattle.read_pieces.specs.PairLaws.{cut-here, cut-there, dash-within}
+use Rattle.read_pieces.specs.PairLaws.{cut-here, cut-there}
 use Rattle.diagnose.specs.declared.Why.{Why}
 use Rattle.diagnose.specs.Diagnosis.{why, extra, missing, empty, dash, number_why, numbers_why, pair_by, part_why, lacks, first_fits, fits_first, why_at, seven, how_many}
 use Rattle.diagnose.specs.Table.{part_in, parts_in}
 use Rattle.diagnose.specs.PiecesLaws.{seven-more, seven-none, parts_more, parts_none, parts-length}
 
--- ---- a number, by the case of its reading n
-module _ (at : ℕ) (n : Numeral) where
-  pub number-value : (v : ℕ) → n ≡ Value v → why 0 at ≡ number_why at n
-  unfolding number_why
-  number-value v e = let z : at + 0 ≡ at = omega arith in rw (e, z)
-
-  pub number-none : (i : ℕ) → n ≡ NoDigits i → why 13 (at + i) ≡ number_why at n
-  unfolding number_why
-  number-none i e = rw e
-
-  pub number-other : (i : ℕ) → n ≡ NotADigit i → why 14 (at + i) ≡ number_why at n
-  unfolding number_why
-  number-other i e = rw e
-
-  pub number_large : (i : ℕ) → n ≡ TooLarge i → why 15 (at + i) ≡ number_why at n
-  unfolding number_why
-  number_large i e = rw e
-
-pub number-room : (at : ℕ) (n x : Numeral) → n ≡ x → at + numeral_place n < 2 ^ 64 → at + numeral_place x < 2 ^ 64
-number-room at n x e h = rw (← e) h
-
+-- ---- a number, by its reading
 pub count-told : (c : List ℕ) (x : Numeral) → x ≡ numeral_of c → (r : Why) → r ≡ number_why 0 x → r ≡ number_why 0 (numeral_of c)
 count-told c x e r h = h ∙ ap (number_why 0) e
 
@@ -105,8 +82,8 @@ module _ (c : List ℕ) (d : ℕ) (x : Numeral) (e : x ≡ numeral_of (take (d -
     behind_dash : numeral_of (drop (d + 1) c) ≡ y
     behind_dash = sym (f ∙ rw part-rest)
 
-    pub numbers-second : (v : ℕ) → x ≡ Value v → (r : Why) → r ≡ number_why (d + 1) y → r ≡ numbers_why d c
-    numbers-second v k r h = let b : numeral_of (take d c) ≡ Value v = before_dash ∙ k in h ∙ rw (b, behind_dash)
+    pub numbers-second : is_value x ≡ true → (r : Why) → r ≡ number_why (d + 1) y → r ≡ numbers_why d c
+    numbers-second v r h = h ∙ rw (before_dash, v, behind_dash)
 
     pub second-room : d < length c → length c < 2 ^ 64 → d + 1 + numeral_place y < 2 ^ 64
     second-room h l =

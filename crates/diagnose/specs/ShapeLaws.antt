@@ -1,9 +1,8 @@
 -- What a component of a kind is, and what a component of a text is to it, one way out of the code after the other.
 -- Assumes nothing.
-use Rattle.std.specs.Prelude.{ℕ, zero, suc, ◌+◌, ◌-◌, ◌*◌, ◌≤◌, ◌<◌, ◌≡◌, refl, Bool, true, false, cond, not, ◌&&◌, List, [], ◌∷◌, reverse, ltb, length, take, drop, get_or}
+use Rattle.std.specs.Prelude.{refl, ℕ, ◌+◌, ◌-◌, ◌≤◌, ◌<◌, ◌≡◌, Bool, true, false, not, List, [], ◌∷◌, reverse, length, take, drop, get_or}
 use Rattle.std.proofs.Math.Path.{sym, ap}
 use Rattle.std.proofs.Common.{◌∙◌}
-use Rattle.std.proofs.Math.Bool.{and-false}
 use native.Mathlib.Omega.{arith}
 use Rattle.std.proofs.Math.Dec.{eqb}
 use borrow.Author.Tests.{lt-ltb, le-ltb, eq-eqb, ne_eqb, not-true, not-false}
@@ -60,50 +59,46 @@ module _ (w c : List ℕ) (s : Shape) (e : s ≡ shape_of w) where
   unfolding alike
   letters-word h m n k l = rw (k, l) (sym (ap (λ (p : Part). alike p c) (part-is (word w) (ap (part_by w) h))))
 
-  pub letters-name : (n : Name) → s ≡ Named n → 0 ≡ alike (part_in w) c
+  pub letters-other : (s ≡ Word → ⊥) → 0 ≡ alike (part_in w) c
   unfolding alike
-  letters-name n h = sym (ap (λ (p : Part). alike p c) (part-is (name n) (ap (part_by w) h)))
-
-  pub letters-count : s ≡ Count → 0 ≡ alike (part_in w) c
-  unfolding alike
-  letters-count h = sym (ap (λ (p : Part). alike p c) (part-is count (ap (part_by w) h)))
-
-  pub letters-pair : s ≡ Pair → 0 ≡ alike (part_in w) c
-  unfolding alike
-  letters-pair h = sym (ap (λ (p : Part). alike p c) (part-is pair (ap (part_by w) h)))
+  letters-other h = go s refl
+    where
+      go : (x : Shape) → s ≡ x → 0 ≡ alike (part_in w) c
+      go Word i = absurd (h i)
+      go (Named n) i = sym (ap (λ (p : Part). alike p c) (part-is (name n) (ap (part_by w) i)))
+      go Count i = sym (ap (λ (p : Part). alike p c) (part-is count (ap (part_by w) i)))
+      go Pair i = sym (ap (λ (p : Part). alike p c) (part-is pair (ap (part_by w) i)))
 
   pub stands_word : s ≡ Word → (r : Bool) → r ≡ alike_but w c → r ≡ stands (part_in w) c
   unfolding stands
   stands_word h r k = k ∙ sym (ap (λ (p : Part). stands p c) (part-is (word w) (ap (part_by w) h)))
 
-  pub stands-name : (n : Name) → s ≡ Named n → true ≡ stands (part_in w) c
+  pub stands-other : (s ≡ Word → ⊥) → true ≡ stands (part_in w) c
   unfolding stands
-  stands-name n h = sym (ap (λ (p : Part). stands p c) (part-is (name n) (ap (part_by w) h)))
-
-  pub stands-count : s ≡ Count → true ≡ stands (part_in w) c
-  unfolding stands
-  stands-count h = sym (ap (λ (p : Part). stands p c) (part-is count (ap (part_by w) h)))
-
-  pub stands-pair : s ≡ Pair → true ≡ stands (part_in w) c
-  unfolding stands
-  stands-pair h = sym (ap (λ (p : Part). stands p c) (part-is pair (ap (part_by w) h)))
+  stands-other h = go s refl
+    where
+      go : (x : Shape) → s ≡ x → true ≡ stands (part_in w) c
+      go Word i = absurd (h i)
+      go (Named n) i = sym (ap (λ (p : Part). stands p c) (part-is (name n) (ap (part_by w) i)))
+      go Count i = sym (ap (λ (p : Part). stands p c) (part-is count (ap (part_by w) i)))
+      go Pair i = sym (ap (λ (p : Part). stands p c) (part-is pair (ap (part_by w) i)))
 
   -- whether nothing stands where something has to
   module _ (z : length c ≡ 0) where
     lacks-by : (p : Part) → part_by w s ≡ p → lacks (part_in w) c ≡ not (is_count p)
     lacks-by p h = rw (part-is p h, eq-eqb (length c) 0 z)
 
-    pub lacks-word : s ≡ Word → true ≡ lacks (part_in w) c
-    lacks-word h = sym (lacks-by (word w) (ap (part_by w) h))
-
-    pub lacks-name : (n : Name) → s ≡ Named n → true ≡ lacks (part_in w) c
-    lacks-name n h = sym (lacks-by (name n) (ap (part_by w) h))
-
     pub lacks-count : s ≡ Count → false ≡ lacks (part_in w) c
     lacks-count h = sym (lacks-by count (ap (part_by w) h))
 
-    pub lacks-pair : s ≡ Pair → true ≡ lacks (part_in w) c
-    lacks-pair h = sym (lacks-by pair (ap (part_by w) h))
+    pub lacks-other : (s ≡ Count → ⊥) → true ≡ lacks (part_in w) c
+    lacks-other h = go s refl
+      where
+        go : (x : Shape) → s ≡ x → true ≡ lacks (part_in w) c
+        go Word i = sym (lacks-by (word w) (ap (part_by w) i))
+        go (Named n) i = sym (lacks-by (name n) (ap (part_by w) i))
+        go Count i = absurd (h i)
+        go Pair i = sym (lacks-by pair (ap (part_by w) i))
 
   -- what is wrong with it
   pub why-word : s ≡ Word → (r : Why) → r ≡ word_why w c → r ≡ part_why (part_in w) c

@@ -1,15 +1,13 @@
 -- What a diagnosis tells: its refusal is the reader's, and it shows nothing where the text reads; the components before the shown one fit,
 -- and the shown one does not.
 -- Assumes nothing.
-use Rattle.std.specs.Prelude.{ℕ, zero, suc, ◌+◌, ◌≤◌, ◌<◌, ◌≡◌, refl, Bool, true, false, cond, List, [], ◌∷◌, eqb, ltb, length, get_or}
-use Rattle.std.proofs.Common.{sym, ap, ◌∙◌, arith}
+use Rattle.std.specs.Prelude.{ℕ, zero, suc, ◌<◌, ◌≡◌, refl, Bool, true, false, cond, List, [], ◌∷◌, eqb, ltb, length, get_or, ◌+◌, ◌≤◌, Ok, Err}
+use Rattle.std.proofs.Common.{arith}
 use Rattle.path.specs.declared.Path.{Path}
-use Rattle.path.specs.declared.Reading.{Reading}
-use Rattle.path.specs.declared.Reading.TheVariants.{Read, Refused}
+use Rattle.path.specs.Reading.{Reading, Read}
 use Rattle.path.specs.Kinds.{Part, count}
 use Rattle.path.specs.Read.{fits, parts_of, read_path, number_of, refusal_of}
 use Rattle.path.specs.View.{kind_of}
-use Rattle.diagnose.specs.declared.Diagnosis.{Diagnosis}
 use Rattle.diagnose.specs.Diagnosis.{front, diagnosis, shown_as, shown, diagnosis_by, diagnosis_of, nearest, how_many, seven}
 
 -- ---- the refusal is the reader's
@@ -23,8 +21,8 @@ shown-refusal t r k = go (eqb k 0)
 
 by-refusal : (t : List ℕ) (x : Reading) → (diagnosis_by t x).refusal ≡ number_of x
 unfolding diagnosis_by
-by-refusal t (Read p e) = refl
-by-refusal t (Refused w) = go (ltb (refusal_of w) 3)
+by-refusal t (Ok r) = refl
+by-refusal t (Err w) = go (ltb (refusal_of w) 3)
   where
     go : (v : Bool) → (cond v (diagnosis (refusal_of w) 0 0 0 0) (shown t (refusal_of w) (nearest (how_many t) (seven t)))).refusal ≡ refusal_of w
     go true = refl

@@ -1,8 +1,7 @@
 -- The kinds as the code writes them, in the words of their table: one text, a space between two of them.
 -- Assumes nothing.
-use Rattle.std.specs.Prelude.{ℕ, suc, ◌+◌, ◌-◌, Bool, cond, List, [], ◌∷◌, map, eqb, ltb, length, take, drop, get_or}
+use Rattle.std.specs.Prelude.{ℕ, ◌-◌, cond, List, [], ◌∷◌, map, eqb, ltb, length, take, drop, get_or}
 use Rattle.text.specs.Bytes.{bytes}
-use Rattle.path.specs.declared.name.Name.{Name}
 use Rattle.path.specs.declared.name.Name.TheVariants.{Client as client, Connection as connection, Port as port, Channel as channel, Upgrade as upgrade}
 use Rattle.path.specs.Kinds.{Part, word, name, count, pair}
 use Rattle.diagnose.specs.declared.shape.Shape.{Shape}

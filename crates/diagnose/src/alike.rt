@@ -9,72 +9,50 @@ use identifiers::validate::is_identifier_byte;
 fn cased_byte(fold: bool, b: u8) -> u8
     ensures { result ≡ cased fold b }
 {
-    if !fold {
-        return b;
-    }
-    if b < b'A' {
-        return b;
-    }
-    if b'Z' < b {
-        return b;
-    }
-    b + 32
+    if fold { b.to_ascii_lowercase() } else { b }
 }
 
 // How many bytes agree from the front on.
 pub(crate) fn agree_front(fold: bool, a: &[u8], b: &[u8]) -> usize
     ensures { result ≡ agree fold a.now b.now }
 {
-    let mut i = 0;
-    while i < a.len() {
-        if b.len() <= i {
-            return i;
-        }
+    let n = a.len().min(b.len());
+    for i in 0..n {
         if cased_byte(fold, a[i]) != cased_byte(fold, b[i]) {
             return i;
         }
-        i += 1;
     }
-    i
+    n
 }
 
 // How many bytes agree from the back on.
 pub(crate) fn agree_back(a: &[u8], b: &[u8]) -> usize
     ensures { result ≡ agree false (reverse a.now) (reverse b.now) }
 {
-    let mut i = 0;
-    while i < a.len() {
-        if b.len() <= i {
-            return i;
-        }
+    let n = a.len().min(b.len());
+    for i in 0..n {
         if a[a.len() - 1 - i] != b[b.len() - 1 - i] {
             return i;
         }
-        i += 1;
     }
-    i
+    n
 }
 
 // Whether two texts are the same but for letter case.
 pub(crate) fn alike_but(w: &[u8], c: &[u8]) -> bool
     ensures { result ≡ alike_but w.now c.now }
 {
-    if c.len() != w.len() {
-        return false;
-    }
-    agree_front(true, w, c) == w.len()
+    c.len() == w.len() && agree_front(true, w, c) == w.len()
 }
 
 // How many bytes may stand in an identifier, from the front on.
 pub(crate) fn identifier_run(c: &[u8]) -> usize
     ensures { result ≡ until identifier_byte c.now }
 {
-    let mut i = 0;
-    while i < c.len() {
+    for i in 0..c.len() {
         if !is_identifier_byte(c[i]) {
             return i;
         }
-        i += 1;
     }
-    i
+    c.len()
 }

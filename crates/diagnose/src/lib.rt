@@ -18,7 +18,7 @@ use crate::nearest::{front_of, kind_at, nearest_kind};
 use crate::pieces::{piece_at, seen_of};
 use crate::reason::part_why;
 use crate::shape::{Shape, fits_part, shape_of};
-use path::{Cut, ViewAnswer, fault_of};
+use path::{Cut, fault_of};
 use read_pieces::cutter::cut_text;
 use walk::walk_view;
 
@@ -46,10 +46,7 @@ fn fits_at(text: &[u8], cut: Cut, k: usize, w: &[u8]) -> bool
     requires { cut ≡ cut_of text.now }
     ensures { result ≡ first_fits (part_in w.now) (drop k (seven text.now)) }
 {
-    if seen_of(text, cut) <= k {
-        return false;
-    }
-    fits_part(w, piece_at(text, cut, k))
+    k < seen_of(text, cut) && fits_part(w, piece_at(text, cut, k))
 }
 
 // Whether part k is there and the component c fits it.
@@ -57,32 +54,20 @@ fn part_fits(kind: &[u8], cut: Cut, k: usize, c: &[u8]) -> bool
     requires { cut ≡ cut_of kind.now }
     ensures { result ≡ fits_first (drop k (parts_in kind.now)) c.now }
 {
-    if seen_of(kind, cut) <= k {
-        return false;
-    }
-    fits_part(piece_at(kind, cut, k), c)
+    k < seen_of(kind, cut) && fits_part(piece_at(kind, cut, k), c)
 }
 
 // Whether nothing stands where something has to.
 fn is_lacking(w: &[u8], c: &[u8]) -> bool
     ensures { result ≡ lacks (part_in w.now) c.now }
 {
-    if c.len() != 0 {
+    if !c.is_empty() {
         return false;
     }
     match shape_of(w) {
-        Shape::Word => true,
-        Shape::Named(_) => true,
         Shape::Count => false,
-        Shape::Pair => true,
+        _ => true,
     }
-}
-
-// How much more a is than b, 0 where it is not.
-fn over(a: usize, b: usize) -> usize
-    ensures { result ≡ a - b }
-{
-    if a < b { 0 } else { a - b }
 }
 
 // Why component f does not fit, where those before it do.
@@ -112,13 +97,13 @@ fn why_at(text: &[u8], cut: Cut, kind: &[u8], kind_cut: Cut, f: usize) -> Why
             place: 0,
         };
     }
-    if fits_at(text, cut, f + over(n, m), w) {
+    if fits_at(text, cut, f + n.saturating_sub(m), w) {
         return Why {
             reason: 3,
             place: 0,
         };
     }
-    if part_fits(kind, kind_cut, f + over(m, n), c) {
+    if part_fits(kind, kind_cut, f + m.saturating_sub(n), c) {
         return Why {
             reason: 2,
             place: 0,
@@ -187,8 +172,8 @@ pub fn diagnose(text: &[u8]) -> Diagnosis
     ensures { result ≡ diagnosis_of text.now }
 {
     match walk_view(text) {
-        ViewAnswer::Seen(v) => bare(0, v.kind),
-        ViewAnswer::Refused(why) => {
+        Ok(v) => bare(0, v.kind),
+        Err(why) => {
             let fault = fault_of(why);
             let refusal = fault.refusal;
             if refusal < 3 {

@@ -1,5 +1,5 @@
 // The kind that a text comes nearest to.
-ghost use Rattle.std.specs.Prelude.{◌≡◌, cond, ◌≤◌, ◌<◌, ltb, length, drop};
+ghost use Rattle.std.specs.Prelude.{◌≡◌, ◌≤◌, ◌<◌, length, drop};
 ghost use Rattle.path.specs.Cut.{cut_of};
 ghost use Rattle.path.specs.Read.{parts_of};
 ghost use Rattle.diagnose.specs.Diagnosis.{along, letters, placed, score, nearest, front, seven, how_many};
@@ -7,7 +7,6 @@ ghost use Rattle.diagnose.specs.Table.{parts_in, table, kind_text};
 
 use crate::pieces::{piece_at, seen_of};
 use crate::shape::{fits_part, letters_of, word_stands};
-use identifiers::validate::larger;
 use path::Cut;
 use read_pieces::cutter::cut_text;
 
@@ -40,20 +39,14 @@ fn letters_along(
     requires { (cut ≡ cut_of text.now) × (kind_cut ≡ cut_of kind.now) × (length kind.now ≤ 64) × (times ≤ 2) × (from ≤ 7) × (at ≤ 7) }
     ensures { result ≡ along times (drop at (parts_in kind.now)) (drop from (seven text.now)) }
 {
-    let parts = seen_of(kind, kind_cut);
-    let seen = seen_of(text, cut);
+    let parts = seen_of(kind, kind_cut).saturating_sub(at);
+    let seen = seen_of(text, cut).saturating_sub(from);
     let mut sum: u64 = 0;
     let mut n = times;
-    let mut i = at;
-    let mut j = from;
-    while i < parts {
-        if seen <= j {
-            return sum;
-        }
-        sum += n * (letters_of(piece_at(kind, kind_cut, i), piece_at(text, cut, j)) as u64);
+    for k in 0..parts.min(seen) {
+        let w = piece_at(kind, kind_cut, at + k);
+        sum += n * (letters_of(w, piece_at(text, cut, from + k)) as u64);
         n = 1;
-        i += 1;
-        j += 1;
     }
     sum
 }
@@ -64,12 +57,10 @@ fn most_letters(text: &[u8], cut: Cut, kind: &[u8], kind_cut: Cut) -> u64
     ensures { result ≡ letters (parts_in kind.now) (seven text.now) }
 {
     let mut best: u64 = 0;
-    let mut d: usize = 0;
-    while d < 7 {
+    for d in 0..7 {
         let later = letters_along(text, cut, d, kind, kind_cut, 0, 2);
         let cut_short = letters_along(text, cut, 0, kind, kind_cut, d, 1);
-        best = larger(best, larger(later, cut_short));
-        d += 1;
+        best = best.max(later.max(cut_short));
     }
     best
 }
@@ -79,17 +70,11 @@ fn all_placed(text: &[u8], cut: Cut, kind: &[u8], kind_cut: Cut) -> bool
     requires { (cut ≡ cut_of text.now) × (kind_cut ≡ cut_of kind.now) }
     ensures { result ≡ placed (parts_in kind.now) (seven text.now) }
 {
-    let parts = seen_of(kind, kind_cut);
-    let seen = seen_of(text, cut);
-    let mut i: usize = 0;
-    while i < parts {
-        if seen <= i {
-            return true;
-        }
+    let n = seen_of(kind, kind_cut).min(seen_of(text, cut));
+    for i in 0..n {
         if !word_stands(piece_at(kind, kind_cut, i), piece_at(text, cut, i)) {
             return false;
         }
-        i += 1;
     }
     true
 }
@@ -110,13 +95,6 @@ fn score_of(text: &[u8], cut: Cut, kind: &[u8]) -> u64
     most_letters(text, cut, kind, kind_cut)
 }
 
-// Of two kinds the later where its score is higher.
-fn better_kind(best: u64, score: u64, k: u8, kind: u8) -> u8
-    ensures { result ≡ cond (ltb best score) k kind }
-{
-    if best < score { k } else { kind }
-}
-
 // The kind with the highest score, 0 where no kind has five letters.
 pub(crate) fn nearest_kind(text: &[u8], cut: Cut, kinds: &[u8]) -> u8
     requires { (cut ≡ cut_of text.now) × (kinds.now ≡ table) }
@@ -124,12 +102,12 @@ pub(crate) fn nearest_kind(text: &[u8], cut: Cut, kinds: &[u8]) -> u8
 {
     let mut kind: u8 = 0;
     let mut best: u64 = 4;
-    let mut k: u8 = 1;
-    while k < 20 {
+    for k in 1..20 {
         let s = score_of(text, cut, kind_at(kinds, k));
-        kind = better_kind(best, s, k, kind);
-        best = larger(best, s);
-        k += 1;
+        if best < s {
+            kind = k;
+            best = s;
+        }
     }
     kind
 }
@@ -139,17 +117,11 @@ pub(crate) fn front_of(text: &[u8], cut: Cut, kind: &[u8], kind_cut: Cut) -> usi
     requires { (cut ≡ cut_of text.now) × (kind_cut ≡ cut_of kind.now) }
     ensures { result ≡ front (parts_in kind.now) (seven text.now) }
 {
-    let parts = seen_of(kind, kind_cut);
-    let seen = seen_of(text, cut);
-    let mut i: usize = 0;
-    while i < parts {
-        if seen <= i {
-            return i;
-        }
+    let n = seen_of(kind, kind_cut).min(seen_of(text, cut));
+    for i in 0..n {
         if !fits_part(piece_at(kind, kind_cut, i), piece_at(text, cut, i)) {
             return i;
         }
-        i += 1;
     }
-    i
+    n
 }

@@ -11,11 +11,7 @@ pub(crate) fn seen_of(text: &[u8], cut: Cut) -> usize
     requires { cut ≡ cut_of text.now }
     ensures { result ≡ length (seven text.now) }
 {
-    let count = cut.count;
-    if count < 7 {
-        return count;
-    }
-    7
+    cut.count.min(7)
 }
 
 // Component k of them.

@@ -12,27 +12,28 @@ use identifiers::validate;
 use path::name::Name;
 use read_pieces::first_dash;
 use text::refusal::{BAD_CHAR, BAD_LENGTH, BAD_PREFIX};
-use text::{Fault, Numeral};
+use text::{Fault, NumberFault};
 
 // Of a number, whose first byte stands at `at`.
-fn number_why(x: Numeral, at: usize) -> Why
+#[tactic(auto, unfolding(crate::specs::Diagnosis::number_why))]
+fn number_why(x: Result<u64, NumberFault>, at: usize) -> Why
     requires { at + numeral_place x < 2 ^ 64 }
     ensures { result ≡ number_why at x }
 {
     match x {
-        Numeral::Value(_) => Why {
+        Ok(_) => Why {
             reason: 0,
             place: at as u64,
         },
-        Numeral::NoDigits(i) => Why {
+        Err(NumberFault::NoDigits(i)) => Why {
             reason: 13,
             place: (at + i) as u64,
         },
-        Numeral::NotADigit(i) => Why {
+        Err(NumberFault::NotADigit(i)) => Why {
             reason: 14,
             place: (at + i) as u64,
         },
-        Numeral::TooLarge(i) => Why {
+        Err(NumberFault::TooLarge(i)) => Why {
             reason: 15,
             place: (at + i) as u64,
         },
@@ -84,16 +85,6 @@ fn prefix_why(w: &[u8], c: &[u8]) -> Why
     }
 }
 
-// The reason of a bad number.
-fn number_reason(refusal: u8) -> u8
-    ensures { result ≡ refusal - 4 }
-{
-    if refusal < 4 {
-        return 0;
-    }
-    refusal - 4
-}
-
 // Of an identifier, by what its check says.
 fn fault_why(fault: Fault, least: u64, most: u64, w: &[u8], c: &[u8]) -> Why
     ensures { result ≡ fault_why fault least most w.now c.now }
@@ -112,7 +103,7 @@ fn fault_why(fault: Fault, least: u64, most: u64, w: &[u8], c: &[u8]) -> Why
         return prefix_why(w, c);
     }
     Why {
-        reason: number_reason(refusal),
+        reason: refusal.saturating_sub(4),
         place: fault.place,
     }
 }
@@ -152,9 +143,9 @@ fn numbers_why(c: &[u8], dash: usize) -> Why
 {
     let number = text::read_number(&c[0..dash]);
     let after = dash + 1;
-    let Numeral::Value(_) = number else {
+    if number.is_err() {
         return number_why(number, 0);
-    };
+    }
     number_why(text::read_number(&c[after..]), after)
 }
 

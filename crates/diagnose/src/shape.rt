@@ -8,7 +8,6 @@ ghost use Rattle.diagnose.specs.Table.{letter_shape, shape_of, part_in};
 use crate::alike::{agree_back, agree_front, alike_but};
 use path::name::{Name, name_fault};
 use read_pieces::first_dash;
-use text::Numeral;
 use text::part::equal;
 
 #[derive(Clone, Copy)]
@@ -23,25 +22,15 @@ pub enum Shape {
 fn letter_shape(b: u8) -> Shape
     ensures { result ≡ letter_shape b }
 {
-    if b == b'C' {
-        return Shape::Named(Name::Client);
+    match b {
+        b'C' => Shape::Named(Name::Client),
+        b'K' => Shape::Named(Name::Connection),
+        b'P' => Shape::Named(Name::Port),
+        b'H' => Shape::Named(Name::Channel),
+        b'U' => Shape::Named(Name::Upgrade),
+        b'R' => Shape::Pair,
+        _ => Shape::Count,
     }
-    if b == b'K' {
-        return Shape::Named(Name::Connection);
-    }
-    if b == b'P' {
-        return Shape::Named(Name::Port);
-    }
-    if b == b'H' {
-        return Shape::Named(Name::Channel);
-    }
-    if b == b'U' {
-        return Shape::Named(Name::Upgrade);
-    }
-    if b == b'R' {
-        return Shape::Pair;
-    }
-    Shape::Count
 }
 
 // What a component of a kind is, as kinds are written.
@@ -61,10 +50,7 @@ pub(crate) fn shape_of(w: &[u8]) -> Shape
 fn is_number(c: &[u8]) -> bool
     ensures { result ≡ fits count c.now }
 {
-    let Numeral::Value(_) = text::read_number(c) else {
-        return false;
-    };
-    true
+    text::read_number(c).is_ok()
 }
 
 // Whether the text is R-h: a second dash is no digit, so the second number fails at it.
@@ -101,9 +87,7 @@ pub(crate) fn letters_of(w: &[u8], c: &[u8]) -> usize
 {
     match shape_of(w) {
         Shape::Word => agree_front(false, w, c) + agree_back(w, c),
-        Shape::Named(_) => 0,
-        Shape::Count => 0,
-        Shape::Pair => 0,
+        _ => 0,
     }
 }
 
@@ -113,8 +97,6 @@ pub(crate) fn word_stands(w: &[u8], c: &[u8]) -> bool
 {
     match shape_of(w) {
         Shape::Word => alike_but(w, c),
-        Shape::Named(_) => true,
-        Shape::Count => true,
-        Shape::Pair => true,
+        _ => true,
     }
 }

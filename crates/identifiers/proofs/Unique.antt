@@ -1,5 +1,12 @@
 -- The contract of each public function, as the source has it, leaves one outcome: the result, and the content of the buffer that is lent.
 -- Assumes nothing.
+use denote.RattleType.{RattleType}
+use denote.Param.Laws.{Laws}
+use mir.Syntax.{Dict}
+use Rattle.identifiers.specs.declared.alphabet.Alphabet as Alphabet
+use Rattle.identifiers.proofs.alphabet.check_length.Reads as check-length
+use Rattle.identifiers.proofs.alphabet.check_named_index.Reads as check-named-index
+use Rattle.identifiers.proofs.alphabet.check_plain.Reads as check-plain
 use mathlib.Core.Path.{sym, ◌∙◌}
 use Rattle.text.specs.Outcome.{One, OneWith}
 use Rattle.text.specs.OutcomeLaws.{agree}
@@ -16,8 +23,6 @@ use Rattle.identifiers.proofs.validate.validate_channel_identifier.Reads as vali
 use Rattle.identifiers.proofs.validate.length_within.Reads as length-within
 use Rattle.identifiers.proofs.validate.placeless.Reads as placeless
 use Rattle.identifiers.proofs.validate.check_named.Reads as check-named
-use Rattle.identifiers.proofs.validate.larger.Reads as larger
-use Rattle.identifiers.proofs.validate.less.Reads as less
 use Rattle.identifiers.proofs.write_named.Reads as write-named
 use Rattle.identifiers.proofs.client_id.is_white.Reads as is_white
 use Rattle.identifiers.proofs.client_id.ClientId.from_str.Reads as client-id-from-str
@@ -68,12 +73,6 @@ one-placeless κs a r₁ r₂ s₁ s₂ p q = p ∙ sym q
 pub one-check_named : One check-named.Post
 one-check_named κs a r₁ r₂ s₁ s₂ p q = p ∙ sym q
 
-pub one-larger : One larger.Post
-one-larger κs a r₁ r₂ s₁ s₂ p q = p ∙ sym q
-
-pub one_less : One less.Post
-one_less κs a r₁ r₂ s₁ s₂ p q = p ∙ sym q
-
 pub one-write_named : OneWith write-named.Post (λ κs s. s.1.1.0.now)
 one-write_named κs a r₁ r₂ s₁ s₂ p q = agree p q
 
@@ -103,3 +102,13 @@ one-write_channel_id κs a r₁ r₂ s₁ s₂ p q = agree p q
 
 pub one-port-id-from_str : One port-id-from-str.Post
 one-port-id-from_str κs a r₁ r₂ s₁ s₂ p q = p ∙ sym q
+
+-- whatever identifiers are made of
+pub one-check_length : (T : RattleType) (M : Laws T) (G : Alphabet.Ghosts T.Denot) (D : Dict) → One (check-length.Post T M G D)
+one-check_length T M G D κs a r₁ r₂ s₁ s₂ p q = p ∙ sym q
+
+pub one-check_named_index : (T : RattleType) (M : Laws T) (G : Alphabet.Ghosts T.Denot) (D : Dict) → One (check-named-index.Post T M G D)
+one-check_named_index T M G D κs a r₁ r₂ s₁ s₂ p q = p ∙ sym q
+
+pub one-check_plain : (T : RattleType) (M : Laws T) (G : Alphabet.Ghosts T.Denot) (D : Dict) → One (check-plain.Post T M G D)
+one-check_plain T M G D κs a r₁ r₂ s₁ s₂ p q = p ∙ sym q

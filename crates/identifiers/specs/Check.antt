@@ -1,14 +1,12 @@
 -- The checks of identifiers. Each answers a refusal number, and 0 where the text is accepted.
 -- Assumes nothing.
-use Rattle.std.specs.Prelude.{ℕ, max, ◌+◌, ◌-◌, Bool, true, false, cond, not, ◌&&◌, ◌||◌, List, [], ◌∷◌, ◌++◌, eqb, ltb, leb, length, drop}
+use Rattle.std.specs.Prelude.{ℕ, max, ◌+◌, ◌-◌, Bool, true, false, cond, not, ◌&&◌, ◌||◌, List, [], ◌∷◌, ◌++◌, eqb, ltb, leb, length, drop, Ok, Err}
 use Rattle.text.specs.Bytes.{bytes}
-use Rattle.text.specs.Number.{is_digit, numeral_of}
+use Rattle.text.specs.Number.{Numeral, is_digit, numeral_of}
 use Rattle.text.specs.Part.{every, ascii, starts_with}
 use Rattle.text.specs.Fault.{fault, numeral_fault, numeral_place}
 use Rattle.text.specs.Refusal.{not_ascii, bad_char, bad_length, bad_prefix}
 use Rattle.text.specs.declared.Fault.{Fault}
-use Rattle.text.specs.declared.Numeral.{Numeral}
-use Rattle.text.specs.declared.Numeral.TheVariants.{Value, NoDigits, NotADigit, TooLarge}
 
 -- the first check that refuses
 abbrev pub first : ℕ → ℕ → ℕ
@@ -29,10 +27,8 @@ identifier_byte b = (leb 65 b && leb b 90) || ((leb 97 b && leb b 122) || (is_di
 
 -- a number text
 abbrev pub is_value : Numeral → Bool
-is_value (Value n) = true
-is_value (NoDigits i) = false
-is_value (NotADigit i) = false
-is_value (TooLarge i) = false
+is_value (Ok n) = true
+is_value (Err fault) = false
 
 -- 2, then 5
 unfoldable pub chars_of : List ℕ → ℕ

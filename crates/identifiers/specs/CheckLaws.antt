@@ -64,12 +64,10 @@ unfolding ascii every
 low-bytes [] h = refl
 low-bytes (b ∷ s) h = rw (lt-ltb b 128 (identifier-low b (and_left (identifier_byte b) _ h))) (low-bytes s (and_right (identifier_byte b) _ h))
 
--- the i bytes from place `at` on pass, and so does the one behind them
-pub run-one : (f : ℕ → Bool) (s : List ℕ) (at i : ℕ) → at + i < length s → every f (take i (drop at s)) ≡ true → f (get_or s (at + i) 0) ≡ true → every f (take (i + 1) (drop at s)) ≡ true
+-- the first i bytes pass, and so does the one behind them
+pub run-one : (f : ℕ → Bool) (s : List ℕ) (i : ℕ) → i < length s → every f (take i s) ≡ true → f (get_or s i 0) ≡ true → every f (take (i + 1) s) ≡ true
 unfolding every
-run-one f s at i h k e =
-    let l : i < length (drop at s) = rw length-drop (omega arith) in
-    rw (add-one, take-suc (drop at s) i 0 l, get_or-drop, every_append f (take i (drop at s)) (get_or s (at + i) 0 ∷ []), k, e)
+run-one f s i h k e = rw (add-one, take-suc s i 0 h, every_append f (take i s) (get_or s i 0 ∷ []), k, e)
 
 -- ---- the bytes of a text
 module _ (s : List ℕ) where

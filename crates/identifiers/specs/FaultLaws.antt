@@ -8,10 +8,9 @@ use Rattle.std.proofs.Math.Dec.{ltb}
 use Rattle.text.specs.Bytes.{bytes}
 use Rattle.text.specs.Fault.{fault, has_place, numeral_fault, numeral_place, Mends}
 use Rattle.text.specs.FaultLaws.{number-place, number-mends, refuses}
-use Rattle.text.specs.Number.{numeral_of}
+use Rattle.text.specs.Number.{Numeral, numeral_of}
 use Rattle.text.specs.Part.{every, ascii, starts_with}
 use Rattle.text.specs.declared.Fault.{Fault}
-use Rattle.text.specs.declared.Numeral.{Numeral}
 use Rattle.identifiers.specs.Check.{first, unless, identifier_byte, chars_of, within, index_of, named_of, named_index_of, index_place, plain, indexed, check_of, fault_of}
 use Rattle.identifiers.specs.CheckLaws.{first-none, first_some, check-plain, check-form, index-zero}
 

@@ -1,6 +1,6 @@
 -- A text that is a name and an index has only identifier bytes.
 -- Assumes nothing.
-use Rattle.std.specs.Prelude.{ℕ, ◌+◌, ◌^◌, Bool, cond, not, ◌&&◌, ◌||◌, ltb, leb, length, drop}
+use Rattle.std.specs.Prelude.{ℕ, ◌+◌, ◌^◌, Bool, cond, not, ◌&&◌, ◌||◌, ltb, leb, length, drop, Ok, Err}
 use Rattle.std.proofs.Math.Path.{◌≡◌, refl}
 use Rattle.std.proofs.Math.Bool.{true, false}
 use mathlib.Core.List.{List, [], ◌∷◌, ◌++◌}
@@ -8,11 +8,10 @@ use Rattle.std.proofs.Common.{arith, length-append, eqb-true}
 use Rattle.std.proofs.Math.Dec.{eqb}
 use Rattle.text.specs.Bytes.{bytes}
 use Rattle.text.specs.Fault.{numeral_fault}
-use Rattle.text.specs.Number.{is_digit, with_digit, digits_from, digits_at, numeral_of}
+use Rattle.text.specs.Number.{Numeral, is_digit, with_digit, digits_from, digits_at, numeral_of}
 use Rattle.text.specs.Part.{every, starts_with}
 use Rattle.text.specs.PartLaws.{and_left, and_right, every_append}
-use Rattle.text.specs.declared.Numeral.{Numeral}
-use Rattle.text.specs.declared.Numeral.TheVariants.{Value, NoDigits, NotADigit, TooLarge}
+use Rattle.text.specs.declared.NumberFault.TheVariants.{NoDigits, NotADigit, TooLarge}
 use Rattle.identifiers.specs.Check.{unless, among, identifier_byte, is_value, within, index_of, named_of, indexed, check_of}
 use Rattle.identifiers.specs.CheckLaws.{first-zero, first-last, unless-zero, bytes_chars}
 
@@ -23,7 +22,7 @@ module _ (f : ℕ → Bool) (digit : (b : ℕ) → is_digit b ≡ true → f b �
   digits-all v i [] h = refl
   digits-all v i (b ∷ s) h = go (is_digit b) refl (ltb (with_digit v b) (2 ^ 64)) h (digits-all (with_digit v b) (i + 1) s)
     where
-      go : (d : Bool) → is_digit b ≡ d → (l : Bool) → is_value (cond d (cond l (digits_from (with_digit v b) (i + 1) s) (TooLarge i)) (NotADigit i)) ≡ true
+      go : (d : Bool) → is_digit b ≡ d → (l : Bool) → is_value (cond d (cond l (digits_from (with_digit v b) (i + 1) s) (Err (TooLarge i))) (Err (NotADigit i))) ≡ true
           → (is_value (digits_from (with_digit v b) (i + 1) s) ≡ true → every f s ≡ true) → (f b && every f s) ≡ true
       go true e true k ih = rw (digit b e) (ih k)
       go true e false k ih = let z : ◌≡◌ {A = ℕ} 0 1 = cc in absurd (omega arith)
@@ -71,10 +70,10 @@ unfolding identifier_byte among every
 dash-byte = refl
 
 value-is : (x : Numeral) → numeral_fault x ≡ 0 → is_value x ≡ true
-value-is (Value n) h = refl
-value-is (NoDigits i) h = absurd (omega arith)
-value-is (NotADigit i) h = absurd (omega arith)
-value-is (TooLarge i) h = absurd (omega arith)
+value-is (Ok n) h = refl
+value-is (Err (NoDigits i)) h = absurd (omega arith)
+value-is (Err (NotADigit i)) h = absurd (omega arith)
+value-is (Err (TooLarge i)) h = absurd (omega arith)
 
 index-value : (t : List ℕ) → index_of t ≡ 0 → is_value (numeral_of t) ≡ true
 unfolding index_of

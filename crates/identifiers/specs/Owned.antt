@@ -6,11 +6,14 @@ use Rattle.text.specs.Number.{decimal}
 use Rattle.text.specs.Part.{ascii}
 use Rattle.text.specs.Refusal.{not_ascii}
 use Rattle.text.specs.Put.{Wanted, text, accepted, answer, left}
+use Rattle.text.specs.declared.Fault.{Fault}
+use Rattle.std.specs.declared.result.Result.{Result}
+use Rattle.std.specs.declared.result.Result.TheVariants.{Ok, Err}
 use Rattle.identifiers.specs.Check.{first, unless, check_of, Rule, client_type}
-use Rattle.identifiers.specs.declared.client_id.MadeClientId.{MadeClientId}
-use Rattle.identifiers.specs.declared.connection_id.MadeConnectionId.{MadeConnectionId}
-use Rattle.identifiers.specs.declared.channel_id.MadeChannelId.{MadeChannelId}
-use Rattle.identifiers.specs.declared.port_id.MadePortId.{MadePortId}
+use Rattle.identifiers.specs.declared.client_id.ClientId.{ClientId}
+use Rattle.identifiers.specs.declared.connection_id.ConnectionId.{ConnectionId}
+use Rattle.identifiers.specs.declared.channel_id.ChannelId.{ChannelId}
+use Rattle.identifiers.specs.declared.port_id.PortId.{PortId}
 
 -- an identifier as it is written
 unfoldable pub as_written : Rule → List ℕ → Wanted
@@ -49,15 +52,22 @@ new_channel n = text (bytes "channel-" ++ decimal n)
 abbrev pub zeros : ℕ → List ℕ
 zeros n = replicate n 0
 
-unfoldable pub made_client : Wanted → MadeClientId
-made_client w = let a = answer w 64 in record { refusal = a.refusal; id = record { bytes = left w (zeros 64); len = a.length } }
+-- what is made, where the number of an answer is 0, and else the refusal
+abbrev pub made : {X E : Type 0} → ℕ → X → E → Result X E
+made n x e = cond (eqb n 0) (Ok x) (Err e)
+
+unfoldable pub made_client : Wanted → Result ClientId ℕ
+made_client w = let a = answer w 64 in made a.refusal (record { bytes = left w (zeros 64); len = a.length }) a.refusal
 
 -- where the check of an index can refuse, with the place of its fault
-unfoldable pub made_connection : Wanted → ℕ → MadeConnectionId
-made_connection w p = let a = answer w 64 in record { refusal = a.refusal; place = p; id = record { bytes = left w (zeros 64); len = a.length } }
+unfoldable pub made_connection : Wanted → ℕ → Result ConnectionId Fault
+made_connection w p = let a = answer w 64 in made a.refusal (record { bytes = left w (zeros 64); len = a.length }) (record { refusal = a.refusal; place = p })
 
-unfoldable pub made_channel : Wanted → ℕ → MadeChannelId
-made_channel w p = let a = answer w 64 in record { refusal = a.refusal; place = p; id = record { bytes = left w (zeros 64); len = a.length } }
+unfoldable pub owned_channel : Wanted → ChannelId
+owned_channel w = record { bytes = left w (zeros 64); len = (answer w 64).length }
 
-unfoldable pub made_port : Wanted → MadePortId
-made_port w = let a = answer w 128 in record { refusal = a.refusal; id = record { bytes = left w (zeros 128); len = a.length } }
+unfoldable pub made_channel : Wanted → ℕ → Result ChannelId Fault
+made_channel w p = let a = answer w 64 in made a.refusal (owned_channel w) (record { refusal = a.refusal; place = p })
+
+unfoldable pub made_port : Wanted → Result PortId ℕ
+made_port w = let a = answer w 128 in made a.refusal (record { bytes = left w (zeros 128); len = a.length }) a.refusal

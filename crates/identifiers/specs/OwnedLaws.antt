@@ -1,15 +1,20 @@
--- Laws of `Owned`: one turn of each loop, and what a new or an owned identifier is.
+-- Laws of `Owned`: where the white bytes at the ends of a text stop, and what a new or an owned identifier is.
 -- Assumes nothing.
 use Rattle.std.specs.Prelude.{◌≡◌, Bool, ℕ, zero, suc, ◌+◌, ◌-◌, ◌/◌, ◌%◌, ◌^◌, ◌≤◌, ◌<◌, take, drop, get_or}
 use Rattle.std.proofs.Math.Path.{refl, ap}
-use Rattle.std.proofs.Common.{◌∙◌, add-one, arith, length-append, drop_of_length-le, drop-cons, take-suc, le-leb, eq-eqb, ne_eqb, eqb-true}
+use Rattle.std.proofs.Common.{sym, ◌∙◌, add-one, zero-add, arith, length-append, drop_of_length-le, drop-cons, take-suc, le-leb, eq-eqb, ne_eqb, eqb-true}
 use Rattle.std.proofs.Math.Bool.{true, false, cond, or-true}
 use Rattle.std.proofs.Math.Nat.{sub-zero, zero-sub, suc-sub-suc}
 use Rattle.std.proofs.Math.Decide.{dec_lt}
+use Rattle.std.proofs.Math.Seq.{take-length}
 use mathlib.Core.List.{List, [], ◌∷◌, ◌++◌}
 use Rattle.std.proofs.Math.Dec.{eqb}
 use Rattle.std.proofs.Math.ListN.{length}
 use Rattle.std.proofs.lemmas.List.{length-replicate}
+use Rattle.std.specs.List.{AllWithin, HoldsAt}
+use Rattle.std.specs.Option.{MatchOption, unwrap_or}
+use Rattle.std.specs.declared.option.Option.{Option}
+use Rattle.std.specs.declared.option.Option.TheVariants.{None, Some}
 use Rattle.text.specs.Bytes.{bytes}
 use Rattle.text.specs.Fault.{numeral_fault}
 use Rattle.text.specs.Number.{width, numeral_of, decimal}
@@ -31,18 +36,25 @@ accepted-none n s h = rw (eq-eqb n 0 h)
 
 -- ---- the start of a text, from i on
 module _ (s : List ℕ) (i : ℕ) where
-  pub start_none : length s ≤ i → trim_start (drop i s) ≡ drop i s
+  start_none : length s ≤ i → trim_start (drop i s) ≡ drop i s
   unfolding trim_start
   start_none h = rw (drop_of_length-le s h)
 
-  module _ (l : i < length s) where
-    pub start-stop : blank (get_or s i 0) ≡ false → trim_start (drop i s) ≡ drop i s
-    unfolding trim_start
-    start-stop h = rw (drop-cons s i 0 l, h)
+  start-stop : i < length s → blank (get_or s i 0) ≡ false → trim_start (drop i s) ≡ drop i s
+  unfolding trim_start
+  start-stop l h = rw (drop-cons s i 0 l, h)
 
-    pub start-more : blank (get_or s i 0) ≡ true → trim_start (drop i s) ≡ trim_start (drop (i + 1) s)
-    unfolding trim_start
-    start-more h = rw (drop-cons s i 0 l, h, add-one)
+-- the bytes before place i are white
+start_white : (s : List ℕ) (i : ℕ) → i ≤ length s → ((k : ℕ) → k < i → blank (get_or s k 0) ≡ true) → trim_start s ≡ trim_start (drop i s)
+unfolding trim_start
+start_white s zero h w = refl
+start_white [] (suc i) h w = absurd (omega arith)
+start_white (b ∷ s) (suc i) h w = rw (w 0 (omega arith)) (start_white s i (omega arith) (λ k l. w (suc k) (omega arith)))
+
+-- from the first byte that is not white on, or from the end where each is
+pub start_found : (s : List ℕ) (r : Option ℕ) → MatchOption r (AllWithin (λ b. blank b ≡ true) s 0 (length s)) (λ i. (i < length s) × HoldsAt (λ b. blank b ≡ false) s i × AllWithin (λ b. blank b ≡ true) s 0 i) → drop (unwrap_or r (length s)) s ≡ trim_start s
+start_found s None h = sym (start_white s (length s) (omega arith) (λ k l. h k 0 (omega arith) l) ∙ start_none s (length s) (omega arith))
+start_found s (Some i) h = sym (start_white s i (omega arith) (λ k l. h.2 k 0 (omega arith) l) ∙ start-stop s i h.0 (h.1 0))
 
 -- ---- the end of a text
 keep_some : (b : ℕ) (s : List ℕ) (x : ℕ) → keep b (s ++ x ∷ []) ≡ b ∷ (s ++ x ∷ [])
@@ -63,15 +75,28 @@ module _ (x : ℕ) where
 
 -- up to e, where i is the byte before
 module _ (s : List ℕ) (e i : ℕ) (next : e ≡ i + 1) (l : i < length s) where
-  pub end-stop : blank (get_or s i 0) ≡ false → trim_end (take e s) ≡ take e s
+  end-stop : blank (get_or s i 0) ≡ false → trim_end (take e s) ≡ take e s
   end-stop h = rw (next, add-one, take-suc s i 0 l) (end_kept (get_or s i 0) h (take i s))
 
-  pub end_more : blank (get_or s i 0) ≡ true → trim_end (take e s) ≡ trim_end (take i s)
+  end_more : blank (get_or s i 0) ≡ true → trim_end (take e s) ≡ trim_end (take i s)
   end_more h = rw (next, add-one, take-suc s i 0 l) (end-gone (get_or s i 0) h (take i s))
 
-pub end_none : (s : List ℕ) (e : ℕ) → e ≡ 0 → trim_end (take e s) ≡ take e s
+-- the n bytes before place e are white
+end_white : (s : List ℕ) (n e i : ℕ) → e ≡ n + i → e ≤ length s → ((k : ℕ) → i ≤ k → k < e → blank (get_or s k 0) ≡ true) → trim_end (take e s) ≡ trim_end (take i s)
+end_white s zero e i h l w = ap (λ n. trim_end (take n s)) (h ∙ zero-add i)
+end_white s (suc n) e i h l w = end_more s e (n + i) (omega arith) (omega arith) (w (n + i) (omega arith) (omega arith)) ∙ end_white s n (n + i) i refl (omega arith) (λ k g p. w k g (omega arith))
+
+end_none : (s : List ℕ) (e : ℕ) → e ≡ 0 → trim_end (take e s) ≡ take e s
 unfolding trim_end
 end_none s e h = rw h
+
+-- up to the last byte that is not white, or nothing where each is
+pub end_found :
+    (s : List ℕ) (r : Option ℕ) (e : ℕ) → MatchOption r (AllWithin (λ b. blank b ≡ true) s 0 (length s)) (λ i. (i < length s) × HoldsAt (λ b. blank b ≡ false) s i × AllWithin (λ b. blank b ≡ true) s (i + 1) (length s)) → MatchOption r (e ≡ 0) (λ i. e ≡ i + 1) → take e s ≡ trim_end s
+end_found s None e h q =
+    sym (ap trim_end (sym (take-length s)) ∙ end_white s (length s) (length s) e (omega arith) (omega arith) (λ k l m. h k 0 (omega arith) m) ∙ end_none s e q)
+end_found s (Some i) e h q =
+    sym (ap trim_end (sym (take-length s)) ∙ end_white s (length s - e) (length s) e (omega (arith, h.0)) (omega arith) (λ k l m. h.2 k 0 (omega arith) m) ∙ end-stop s e i q h.0 (h.1 0))
 
 -- ---- `{name}-{n}`
 pub length-named : (name : List ℕ) (n : ℕ) → length (name ++ (bytes "-" ++ decimal n)) ≡ length name + (1 + width n)

@@ -15,43 +15,27 @@ pub struct ClientId {
     pub len: usize,
 }
 
-// A client identifier, or a refusal number beside an empty one.
-#[derive(Drop)]
-pub struct MadeClientId {
-    pub refusal: u8,
-    pub id: ClientId,
-}
-
 // Whether the byte is white: 9 to 13, and 32.
 pub fn is_white(b: u8) -> bool
     ensures { result ≡ blank b }
 {
-    match b {
-        9..=13 | 32 => true,
-        _ => false,
-    }
+    matches!(b, 9..=13 | 32)
 }
 
 // The text without the white bytes at its start, as a part of it.
 fn trim_start(s: &[u8]) -> &[u8]
     ensures { result.now ≡ trim_start s.now }
 {
-    let mut i = 0;
-    while i < s.len() && is_white(s[i]) {
-        i += 1;
-    }
-    &s[i..]
+    let start = s.iter().position(|b| !is_white(*b)).unwrap_or(s.len());
+    &s[start..]
 }
 
 // The text without the white bytes at its end, as a part of it.
 fn trim_end(s: &[u8]) -> &[u8]
     ensures { result.now ≡ trim_end s.now }
 {
-    let mut end = s.len();
-    while 0 < end && is_white(s[end - 1]) {
-        end -= 1;
-    }
-    &s[0..end]
+    let last = s.iter().rposition(|b| !is_white(*b));
+    &s[..last.map_or(0, |i| i + 1)]
 }
 
 // Writes `{client_type}-{counter}`, the client type trimmed.
@@ -74,33 +58,33 @@ pub fn write_client_id(client_type: &[u8], counter: u64, out: &mut [u8]) -> Writ
 }
 
 impl ClientId {
-    // The client identifier that the text is.
-    pub fn from_str(s: &[u8]) -> MadeClientId
+    // The client identifier that the text is, or a refusal number.
+    pub fn from_str(s: &[u8]) -> Result<ClientId, u8>
         ensures { result ≡ made_client (as_written client s.now) }
     {
         let mut bytes = [0u8; 64];
         let made = crate::write_accepted(validate_client_identifier(s), s, &mut bytes);
-        MadeClientId {
-            refusal: made.refusal,
-            id: ClientId {
-                bytes,
-                len: made.length as usize,
-            },
+        if made.refusal != 0 {
+            return Err(made.refusal);
         }
+        Ok(ClientId {
+            bytes,
+            len: made.length as usize,
+        })
     }
 
-    // The client identifier of that type and number.
-    pub fn new(client_type: &[u8], counter: u64) -> MadeClientId
+    // The client identifier of that type and number, or a refusal number.
+    pub fn new(client_type: &[u8], counter: u64) -> Result<ClientId, u8>
         ensures { result ≡ made_client (new_client client_type.now counter) }
     {
         let mut bytes = [0u8; 64];
         let made = write_client_id(client_type, counter, &mut bytes);
-        MadeClientId {
-            refusal: made.refusal,
-            id: ClientId {
-                bytes,
-                len: made.length as usize,
-            },
+        if made.refusal != 0 {
+            return Err(made.refusal);
         }
+        Ok(ClientId {
+            bytes,
+            len: made.length as usize,
+        })
     }
 }

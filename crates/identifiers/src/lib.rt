@@ -1,6 +1,7 @@
 // Identifiers: their checks, and owned ones. A file for each of the Rust's; what several of them use stands here.
 #![tactic(auto)]
 
+pub mod alphabet;
 pub mod channel_id;
 pub mod client_id;
 pub mod connection_id;
@@ -42,13 +43,8 @@ fn write_index(out: &mut [u8], at: usize, n: u64) -> usize
 fn has_room(name: usize, index: u64, room: usize) -> bool
     ensures { result ≡ ltb (name + width index) room }
 {
-    if room < name {
-        return false;
-    }
-    if 20 < room - name {
-        return true;
-    }
-    text::number_width(index) < room - name
+    let left = room.saturating_sub(name);
+    20 < left || text::number_width(index) < left
 }
 
 // Writes `{name}-{counter}`.

@@ -12,26 +12,19 @@ pub struct PortId {
     pub len: usize,
 }
 
-// A port, or a refusal number beside an empty one.
-#[derive(Drop)]
-pub struct MadePortId {
-    pub refusal: u8,
-    pub id: PortId,
-}
-
 impl PortId {
-    // The port that the text is.
-    pub fn from_str(s: &[u8]) -> MadePortId
+    // The port that the text is, or a refusal number.
+    pub fn from_str(s: &[u8]) -> Result<PortId, u8>
         ensures { result ≡ made_port (as_written port s.now) }
     {
         let mut bytes = [0u8; 128];
         let made = crate::write_accepted(validate_port_identifier(s), s, &mut bytes);
-        MadePortId {
-            refusal: made.refusal,
-            id: PortId {
-                bytes,
-                len: made.length as usize,
-            },
+        if made.refusal != 0 {
+            return Err(made.refusal);
         }
+        Ok(PortId {
+            bytes,
+            len: made.length as usize,
+        })
     }
 }

@@ -1,11 +1,12 @@
 // The checks of identifiers. Each answers a refusal number: 0, 2, 5, 6, 7, 17, 18 or 19. A check that can give one of the
 // last three answers its place too.
-ghost use Rattle.std.specs.Prelude.{◌≡◌, true, cond, max, ◌+◌, ◌-◌, ◌≤◌, length, take, drop};
+ghost use Rattle.std.specs.Prelude.{◌≡◌, true, cond, ◌+◌, ◌≤◌, length, drop};
 ghost use Rattle.text.specs.Fault.{fault, numeral_place};
 ghost use Rattle.text.specs.Number.{numeral_of};
 ghost use Rattle.text.specs.Part.{every};
 ghost use Rattle.identifiers.specs.Check.{identifier_byte, chars_of, within, index_of, named_of, length_of, prefix_length_of, named_index_fault, index_place, plain, indexed, check_of, fault_of, client, client_type, connection, port, channel};
 
+use crate::alphabet::{Ascii, check_length, check_named_index, check_plain};
 use text::Fault;
 use text::refusal::{BAD_CHAR, BAD_LENGTH, BAD_PREFIX, NOT_ASCII};
 
@@ -46,16 +47,13 @@ fn rare(b: u8) -> u8
     told(b < b'-', 1, slash)
 }
 
-// Whether no byte of the n from `at` on is rare. The loop has no early exit, so that it can take many bytes at a time.
-fn none_rare(s: &[u8], at: usize, n: usize) -> bool
-    requires { at + n ≤ length s.now }
-    ensures { result ≡ true → every identifier_byte (take n (drop at s.now)) ≡ true }
+// Whether no byte is rare. The loop has no early exit, so that it can take many bytes at a time.
+fn none_rare(s: &[u8]) -> bool
+    ensures { result ≡ true → every identifier_byte s.now ≡ true }
 {
     let mut most: u8 = 0;
-    let mut i: usize = 0;
-    while i < n {
-        most = text::part::larger(most, rare(s[at + i]));
-        i += 1;
+    for b in s {
+        most = most.max(rare(*b));
     }
     most == 0
 }
@@ -67,14 +65,12 @@ fn long_common(id: &[u8]) -> bool
     ensures { result ≡ true → every identifier_byte id.now ≡ true }
 {
     let last = id.len() - 16;
-    let mut i = 0;
-    while i < last {
-        if !none_rare(id, i, 16) {
+    for i in (0..last).step_by(16) {
+        if !none_rare(&id[i..i + 16]) {
             return false;
         }
-        i += 16;
     }
-    none_rare(id, last, 16)
+    none_rare(&id[last..])
 }
 
 // The same of any text: of eight bytes to fifteen the first eight and the last. One of fewer is not looked at.
@@ -87,37 +83,28 @@ fn all_common(id: &[u8]) -> bool
     if 16 <= id.len() {
         return long_common(id);
     }
-    if !none_rare(id, 0, 8) {
-        return false;
-    }
-    none_rare(id, id.len() - 8, 8)
+    none_rare(&id[..8]) && none_rare(&id[id.len() - 8..])
 }
 
-// Whether the text has only identifier bytes, one at a time. At the first other byte the whole text tells which refusal it is.
-fn each_identifier(id: &[u8]) -> u8
-    ensures { result ≡ chars_of id.now }
+// Whether the text has only identifier bytes, one at a time.
+fn each_identifier(id: &[u8]) -> bool
+    ensures { result ≡ every identifier_byte id.now }
 {
-    let mut i = 0;
-    while i < id.len() {
-        if !is_identifier_byte(id[i]) {
-            if text::part::all_ascii(id) {
-                return BAD_CHAR;
-            }
-            return NOT_ASCII;
-        }
-        i += 1;
-    }
-    0
+    id.iter().all(|b| is_identifier_byte(*b))
 }
 
-// Whether the text has only identifier bytes; most texts have common ones alone.
+// Whether the text has only identifier bytes; most texts have common ones alone. Where one has another, the whole text tells
+// which refusal it is.
 pub fn validate_identifier_chars(id: &[u8]) -> u8
     ensures { result ≡ chars_of id.now }
 {
-    if all_common(id) {
+    if all_common(id) || each_identifier(id) {
         return 0;
     }
-    each_identifier(id)
+    if text::part::all_ascii(id) {
+        return BAD_CHAR;
+    }
+    NOT_ASCII
 }
 
 // Whether a number of bytes lies between two limits.
@@ -171,62 +158,28 @@ pub fn check_named(id: &[u8], name: &[u8]) -> Fault
     check_index(id, at + 1)
 }
 
-// The larger of two limits.
-pub fn larger(a: u64, b: u64) -> u64
-    ensures { result ≡ max a b }
-{
-    if a < b { b } else { a }
-}
-
-// The difference, or 0 where it would be less.
-pub fn less(a: u64, b: u64) -> u64
-    ensures { result ≡ a - b }
-{
-    if a < b { 0 } else { a - b }
-}
-
 // Whether the text has at least `min` bytes, and at least one, and at most `max`.
 pub fn validate_identifier_length(id: &[u8], min: u64, max: u64) -> u8
     ensures { result ≡ length_of id.now min max }
 {
-    if !text::part::all_ascii(id) {
-        return NOT_ASCII;
-    }
-    length_within(id.len() as u64, larger(min, 1), max)
+    check_length::<Ascii>(id, min, max)
 }
 
 // Whether the text can stand in front of `-` and every index, in an identifier of at least and at most so many bytes.
 pub fn validate_prefix_length(prefix: &[u8], min: u64, max: u64) -> u8
     ensures { result ≡ prefix_length_of prefix.now min max }
 {
-    validate_identifier_length(prefix, less(min, 2), less(max, 21))
+    validate_identifier_length(prefix, min.saturating_sub(2), max.saturating_sub(21))
 }
 
 // Whether the text is `{name}-{index}`.
 pub fn validate_named_u64_index(id: &[u8], name: &[u8]) -> Fault
     ensures { result ≡ named_index_fault id.now name.now }
 {
-    if !text::part::all_ascii(id) {
-        return placeless(NOT_ASCII);
-    }
-    if !text::part::all_ascii(name) {
-        return placeless(NOT_ASCII);
-    }
-    check_named(id, name)
+    check_named_index::<Ascii>(id, name)
 }
 
-// Bytes and length, which every identifier is asked for.
-fn check_plain(id: &[u8], least: u64, most: u64) -> u8
-    ensures { result ≡ check_of (record { least = least; most = most; form = plain }) id.now }
-{
-    let chars = validate_identifier_chars(id);
-    if chars != 0 {
-        return chars;
-    }
-    length_within(id.len() as u64, least, most)
-}
-
-// The same, then the name and an index. A text that is the name and an index has only identifier bytes, so that no more than its
+// Characters and length, then the name and an index. A text that is the name and an index has only identifier bytes, so that no more than its
 // length is left to check.
 fn check_indexed(id: &[u8], least: u64, most: u64, name: &[u8]) -> Fault
     requires { every identifier_byte name.now ≡ true }
@@ -236,7 +189,7 @@ fn check_indexed(id: &[u8], least: u64, most: u64, name: &[u8]) -> Fault
     if named.refusal == 0 {
         return placeless(length_within(id.len() as u64, least, most));
     }
-    let plain = check_plain(id, least, most);
+    let plain = check_plain::<Ascii>(id, least, most);
     if plain != 0 {
         return placeless(plain);
     }
@@ -247,13 +200,13 @@ fn check_indexed(id: &[u8], least: u64, most: u64, name: &[u8]) -> Fault
 pub fn validate_client_type(id: &[u8]) -> u8
     ensures { result ≡ check_of client_type id.now }
 {
-    check_plain(id, 7, 43)
+    check_plain::<Ascii>(id, 7, 43)
 }
 
 pub fn validate_client_identifier(id: &[u8]) -> u8
     ensures { result ≡ check_of client id.now }
 {
-    check_plain(id, 9, 64)
+    check_plain::<Ascii>(id, 9, 64)
 }
 
 pub fn validate_connection_identifier(id: &[u8]) -> Fault
@@ -265,7 +218,7 @@ pub fn validate_connection_identifier(id: &[u8]) -> Fault
 pub fn validate_port_identifier(id: &[u8]) -> u8
     ensures { result ≡ check_of port id.now }
 {
-    check_plain(id, 2, 128)
+    check_plain::<Ascii>(id, 2, 128)
 }
 
 pub fn validate_channel_identifier(id: &[u8]) -> Fault

@@ -1,13 +1,11 @@
 -- A block of iteration keys, and the two scans over it.
 -- Assumes nothing.
-use Rattle.std.specs.Prelude.{◌≡◌, ◌⊎◌, ℕ, zero, suc, ◌/◌, ◌%◌, ◌^◌, ◌<◌, Bool, true, false, cond, ◌&&◌, List, [], ◌∷◌, ◌++◌, eqb, length, take, drop}
+use Rattle.std.specs.Prelude.{◌≡◌, ◌⊎◌, ℕ, zero, suc, ◌/◌, ◌%◌, ◌^◌, ◌<◌, Bool, true, false, cond, ◌&&◌, List, [], ◌∷◌, ◌++◌, eqb, length, take, drop, Result, Err}
 use Rattle.std.proofs.Math.Option.{Option, none, some}
 use Rattle.text.specs.Refusal.{bad_block}
 use Rattle.text.specs.Refusal as refusal
 use Rattle.path.specs.declared.Revision.{Revision}
 use Rattle.path.specs.Revision.{below}
-use Rattle.iteration.specs.declared.KeyAnswer.{KeyAnswer}
-use Rattle.iteration.specs.declared.KeyAnswer.TheVariants.{Refused}
 use Rattle.iteration.specs.Key.{iteration_key, key_revision, answered}
 
 -- q is above the last one, if there was one
@@ -57,8 +55,8 @@ last_below p [] = none
 last_below p (q ∷ qs) = or_else (last_below p qs) (cond (below q p) (some q) none)
 
 -- what a scan answers: 16 where there is no block, 12 where none of its keys qualifies
-abbrev pub scanned : (List Revision → Option Revision) → Option (List Revision) → KeyAnswer
-scanned f none = Refused bad_block
+abbrev pub scanned : (List Revision → Option Revision) → Option (List Revision) → Result Revision ℕ
+scanned f none = Err bad_block
 scanned f (some ps) = answered refusal.absent (f ps)
 
 -- ---- what is said of blocks beside the calls

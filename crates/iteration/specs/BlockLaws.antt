@@ -1,22 +1,20 @@
 -- One turn of the check of a block, and what its answer tells of the keys.
 -- Assumes nothing.
 use Rattle.std.proofs.Math.Path.{◌≡◌, refl}
-use Rattle.std.proofs.Common.{sym, ap, ◌∙◌, ⊎_elim, eq-or-lt_of_le, arith, drop-drop, eq-eqb, ne_eqb, eqb-true}
-use Rattle.std.specs.Prelude.{Bool, cond, not, List, map, ℕ, zero, suc, ◌+◌, ◌*◌, ◌-◌, ◌/◌, ◌%◌, ◌≤◌, ◌<◌, eqb, length, take, drop}
+use Rattle.std.proofs.Common.{ap, ◌∙◌, ⊎_elim, eq-or-lt_of_le, arith, drop-drop, eq-eqb, ne_eqb, eqb-true}
+use Rattle.std.specs.Prelude.{Bool, cond, List, map, ℕ, zero, suc, ◌+◌, ◌*◌, ◌-◌, ◌/◌, ◌%◌, ◌≤◌, ◌<◌, eqb, length, take, drop}
 use Rattle.std.proofs.Math.Bool.{true, false}
 use Rattle.std.proofs.Math.Option.{Option, none, some}
 use Rattle.std.proofs.Math.Decide.{dec_lt}
-use Rattle.std.proofs.lemmas.Bool.{not-true, not-false}
 use Rattle.text.specs.PartLaws.{and_left, and_right}
 use Rattle.text.specs.TableLaws.{span}
 use Rattle.path.specs.declared.Revision.{Revision}
 use Rattle.path.specs.Revision.{below}
 use Rattle.path.specs.RevisionLaws.{below_trans}
-use Rattle.iteration.specs.declared.KeyAnswer.{KeyAnswer}
-use Rattle.iteration.specs.Key.{key_revision, answered}
+use Rattle.iteration.specs.Key.{key_revision}
 use Rattle.iteration.specs.ReadLaws.{piece_is}
 use Rattle.iteration.specs.Block.{follows, rising, onto, keys_in, in_order, block_of, is_block}
-use Rattle.iteration.specs.Search.{revision_of, rises, key_no}
+use Rattle.iteration.specs.Search.{rises, key_no}
 
 -- ---- the check: the keys are there, and rise from the last one on
 abbrev pub rising_in : Option Revision → Option (List Revision) → Bool
@@ -64,26 +62,19 @@ module _ (last : Option Revision) (n : ℕ) (s : List ℕ) where
         go (some p) none q = refl
         go (some p) (some ps) q = rw q
 
--- the answer of the reader has the key that was read
-key_is : (x : Option Revision) (k : KeyAnswer) (n : ℕ) → k ≡ answered n x → revision_of k ≡ x
-key_is x k n e = ap revision_of e ∙ go x
-  where
-    go : (y : Option Revision) → revision_of (answered n y) ≡ y
-    go none = refl
-    go (some p) = refl
-
 -- the same turn in the words of the code, at key number i of n
-module _ (s : List ℕ) (n i : ℕ) (h : i < n) (last : Option Revision) (k : KeyAnswer) (e : k ≡ answered 15 (key_revision (take 38 (drop (38 * i) s)))) (r : Bool) (f : r ≡ rises last (revision_of k)) where
-  step : r ≡ rises last (key_revision (take 38 (drop (38 * i) s)))
-  step = f ∙ ap (rises last) (key_is (key_revision (take 38 (drop (38 * i) s))) k 15 e)
+module _ (s : List ℕ) (n i : ℕ) (h : i < n) (last : Option Revision) where
+  pub check-none : none ≡ key_revision (take 38 (drop (38 * i) s)) → rising_in last (keys_in (n - i) (drop (38 * i) s)) ≡ false
+  check-none e = rising-stop last (n - i) (drop (38 * i) s) (n - (i + 1)) (omega arith) (rw (← e))
 
-  pub check-stop : not r ≡ true → rising_in last (keys_in (n - i) (drop (38 * i) s)) ≡ false
-  check-stop t = rising-stop last (n - i) (drop (38 * i) s) (n - (i + 1)) (omega arith) (sym step ∙ not-true r t)
+  module _ (p : Revision) (e : some p ≡ key_revision (take 38 (drop (38 * i) s))) where
+    pub check-stop : follows last p ≡ false → rising_in last (keys_in (n - i) (drop (38 * i) s)) ≡ false
+    check-stop t = rising-stop last (n - i) (drop (38 * i) s) (n - (i + 1)) (omega arith) (rw (← e) t)
 
-  pub check-more : not r ≡ false → rising_in last (keys_in (n - i) (drop (38 * i) s)) ≡ rising_in (revision_of k) (keys_in (n - (i + 1)) (drop (38 * (i + 1)) s))
-  check-more t =
-      let next : 38 * i + 38 ≡ 38 * (i + 1) = omega arith in
-      rw (key_is (key_revision (take 38 (drop (38 * i) s))) k 15 e, ← next, ← drop-drop 38 (38 * i) s) (rising-more last (n - i) (drop (38 * i) s) (n - (i + 1)) (omega arith) (sym step ∙ not-false r t))
+    pub check-more : follows last p ≡ true → rising_in last (keys_in (n - i) (drop (38 * i) s)) ≡ rising_in (some p) (keys_in (n - (i + 1)) (drop (38 * (i + 1)) s))
+    check-more t =
+        let next : 38 * i + 38 ≡ 38 * (i + 1) = omega arith in
+        rw (e, ← next, ← drop-drop 38 (38 * i) s) (rising-more last (n - i) (drop (38 * i) s) (n - (i + 1)) (omega arith) (rw (← e) t))
 
 -- ---- the keys of a block by their numbers
 pub keys-listed : (s : List ℕ) (n i : ℕ) (ps : List Revision) → 38 * (i + n) ≤ length s → keys_in n (drop (38 * i) s) ≡ some ps → ps ≡ map (key_no s) (span i n)

@@ -1,9 +1,9 @@
 -- Reading an iteration key undoes writing it, and writing undoes reading.
 -- Assumes nothing.
-use Rattle.std.specs.Prelude.{◌≡◌, refl, Bool, true, false, cond, not, ◌&&◌, List, [], ◌∷◌, ◌++◌, ℕ, zero, suc, ◌+◌, ◌^◌, ◌≤◌, ◌<◌, eqb, length, take, drop}
-use Rattle.std.proofs.Common.{sym, ◌∙◌, append-nil, arith, length-append, length-take, length-drop, take-take, take_all, take-add, drop-drop, eq-eqb, ne_eqb, eqb-true}
-use Rattle.std.proofs.Math.Option.{none, some}
-use Rattle.std.proofs.lemmas.Bool.{not-true, not-false}
+use Rattle.std.specs.Prelude.{◌≡◌, refl, Bool, true, false, cond, not, ◌&&◌, List, [], ◌∷◌, ◌++◌, ℕ, zero, suc, ◌+◌, ◌^◌, ◌≤◌, ◌<◌, eqb, length, take, drop, ok_or}
+use Rattle.std.specs.Prelude as std
+use Rattle.std.proofs.Common.{sym, ap, ◌∙◌, append-nil, arith, length-append, length-take, length-drop, take-take, take_all, take-add, drop-drop, eq-eqb, ne_eqb, eqb-true}
+use Rattle.std.proofs.Math.Option.{Option, none, some}
 use Rattle.text.specs.Bytes.{bytes}
 use Rattle.text.specs.Number.{big_endian, big_at, Bytes}
 use Rattle.text.specs.NumberLaws.{length_big, big-at, big-there, big-within}
@@ -11,8 +11,7 @@ use Rattle.text.specs.Part.{starts_with}
 use Rattle.text.specs.PartLaws.{and_left, and_right}
 use Rattle.path.specs.declared.Revision.{Revision}
 use Rattle.path.specs.Revision.{revision}
-use Rattle.iteration.specs.declared.KeyAnswer.TheVariants.{Key, Refused}
-use Rattle.iteration.specs.Key.{iteration_key, revision_at, key_revision, answered}
+use Rattle.iteration.specs.Key.{iteration_key, revision_at, key_revision, revision_of, answered}
 use Rattle.iteration.specs.KeyLaws.{key-length}
 
 abbrev word : List ℕ
@@ -55,11 +54,16 @@ piece_is at s p h e = go (starts_with word (drop at s)) (sym (piece-key at s h) 
 
 -- the ways out of reading it
 module _ (at : ℕ) (s : List ℕ) (h : at + 38 ≤ length s) (r : Bool) (e : r ≡ starts_with word (drop at s)) where
-  pub key-none : not r ≡ true → Refused 15 ≡ answered 15 (key_revision (take 38 (drop at s)))
-  key-none t = rw (piece-key at s h, ← e, not-true r t)
+  pub key-none : r ≡ false → none ≡ key_revision (take 38 (drop at s))
+  key-none t = rw (piece-key at s h, ← e, t)
 
-  pub key_here : (p : Revision) → not r ≡ false → p ≡ revision_at at s → Key p ≡ answered 15 (key_revision (take 38 (drop at s)))
-  key_here p f q = rw (piece-key at s h, ← e, not-false r f, q)
+  pub key_here : (p : Revision) → r ≡ true → p ≡ revision_at at s → some p ≡ key_revision (take 38 (drop at s))
+  key_here p f q = rw (piece-key at s h, ← e, f, q)
+
+-- an answer of the code, with its refusal
+pub answer-read : (n : ℕ) (r : std.Option Revision) (x : Option Revision) → revision_of r ≡ x → ok_or r n ≡ answered n x
+answer-read n std.None x e = ap (answered n) e
+answer-read n (std.Some p) x e = ap (answered n) e
 
 -- a text of 38 bytes is the piece at its start, and another is no key
 pub key-whole : (k : List ℕ) → length k ≡ 38 → key_revision (take 38 (drop 0 k)) ≡ key_revision k

@@ -4,15 +4,8 @@ use Rattle.std.specs.Prelude.{◌≡◌, Bool, true, false, cond, not, List, ℕ
 use Rattle.std.proofs.Math.Option.{Option, none, some}
 use Rattle.path.specs.declared.Revision.{Revision}
 use Rattle.path.specs.Revision.{below}
-use Rattle.iteration.specs.declared.KeyAnswer.{KeyAnswer}
-use Rattle.iteration.specs.declared.KeyAnswer.TheVariants.{Key, Refused}
 use Rattle.iteration.specs.Key.{revision_at}
 use Rattle.iteration.specs.Block.{follows}
-
--- the revision of an answer that has one
-abbrev pub revision_of : KeyAnswer → Option Revision
-revision_of (Key p) = some p
-revision_of (Refused n) = none
 
 -- there is a key, and it is above the last one
 abbrev pub rises : Option Revision → Option Revision → Bool

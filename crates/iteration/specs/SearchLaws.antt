@@ -1,6 +1,6 @@
 -- The search by halving, and what the place that it finds says of the scans.
 -- Assumes nothing.
-use Rattle.std.specs.Prelude.{◌≡◌, Bool, false, not, List, map, length}
+use Rattle.std.specs.Prelude.{◌≡◌, Bool, false, not, List, map, length, Ok, Err}
 use Rattle.std.proofs.Math.Path.{refl}
 use Rattle.std.proofs.Common.{sym, ap, ◌∙◌, eq-or-lt_of_le, arith}
 use Rattle.std.proofs.Math.Bool.{true}
@@ -13,7 +13,6 @@ use Rattle.text.specs.TableLaws.{span}
 use Rattle.path.specs.declared.Revision.{Revision}
 use Rattle.path.specs.Revision.{below}
 use Rattle.path.specs.RevisionLaws.{below_trans}
-use Rattle.iteration.specs.declared.KeyAnswer.TheVariants.{Key, Refused}
 use Rattle.iteration.specs.Block.{block_of, is_block, first_above, last_below, scanned}
 use Rattle.iteration.specs.BlockLaws.{held}
 use Rattle.iteration.specs.Search.{key_no, passed, Placed}
@@ -94,33 +93,33 @@ module _ (p : Revision) (g : ℕ → Revision) where
       (eq-or-lt_of_le l)
 
 -- ---- the ways out of the scans
-pub no_block : (f : List Revision → Option Revision) (s : List ℕ) → is_block (block_of s) ≡ false → Refused 16 ≡ scanned f (block_of s)
+pub no_block : (f : List Revision → Option Revision) (s : List ℕ) → is_block (block_of s) ≡ false → Err 16 ≡ scanned f (block_of s)
 no_block f s h = go (block_of s) h
   where
-    go : (x : Option (List Revision)) → is_block x ≡ false → Refused 16 ≡ scanned f x
+    go : (x : Option (List Revision)) → is_block x ≡ false → Err 16 ≡ scanned f x
     go none e = refl
     go (some ps) e = let z : ◌≡◌ {A = ℕ} 0 1 = cc in absurd (omega arith)
 
 module _ (pair : Revision) (s : List ℕ) (b : is_block (block_of s) ≡ true) (q : ℕ) where
   module _ (pl : Placed (passed true pair) s q) where
-    pub above-none : q ≡ length s / 38 → Refused 12 ≡ scanned (first_above pair) (block_of s)
+    pub above-none : q ≡ length s / 38 → Err 12 ≡ scanned (first_above pair) (block_of s)
     above-none e =
         let none_above : first_above pair (map (key_no s) (span 0 (length s / 38))) ≡ none = first-none pair (key_no s) (length s / 38) 0 (λ j l m. not-true _ (pl.before j (omega arith))) in
         rw ((held s b).keys, none_above)
 
-    pub above-found : (q ≡ length s / 38 → ⊥) → Key (key_no s q) ≡ scanned (first_above pair) (block_of s)
+    pub above-found : (q ≡ length s / 38 → ⊥) → Ok (key_no s q) ≡ scanned (first_above pair) (block_of s)
     above-found e =
         let inside : q < length s / 38 = omega (arith, pl.within) in
         let found : first_above pair (map (key_no s) (span 0 (length s / 38))) ≡ some (key_no s q) = first-at pair (key_no s) (length s / 38) 0 q (omega arith) (omega arith) (λ j l m. not-true _ (pl.before j m)) (not-false _ (pl.rest q (omega arith) inside)) in
         rw ((held s b).keys, found)
 
   module _ (pl : Placed (passed false pair) s q) where
-    pub below_none : q ≡ 0 → Refused 12 ≡ scanned (last_below pair) (block_of s)
+    pub below_none : q ≡ 0 → Err 12 ≡ scanned (last_below pair) (block_of s)
     below_none e =
         let none_below : last_below pair (map (key_no s) (span 0 (length s / 38))) ≡ none = last_none pair (key_no s) (length s / 38) 0 (λ j l m. pl.rest j (omega arith) (omega arith)) in
         rw ((held s b).keys, none_below)
 
-    pub below-found : (q ≡ 0 → ⊥) → Key (key_no s (q - 1)) ≡ scanned (last_below pair) (block_of s)
+    pub below-found : (q ≡ 0 → ⊥) → Ok (key_no s (q - 1)) ≡ scanned (last_below pair) (block_of s)
     below-found e =
         let found : last_below pair (map (key_no s) (span 0 (length s / 38))) ≡ some (key_no s (q - 1)) = last-at pair (key_no s) (length s / 38) 0 (q - 1) (omega arith) (omega (arith, pl.within)) (λ j l m. pl.rest j (omega arith) (omega arith)) (pl.before (q - 1) (omega arith)) in
         rw ((held s b).keys, found)

@@ -1,23 +1,18 @@
 // Blocks of iteration keys: the check, and the two scans.
 ghost use Rattle.std.specs.Prelude.{◌≡◌, true};
-ghost use Rattle.iteration.specs.Block.{block_of, is_block, first_above, last_below, scanned};
-ghost use Rattle.iteration.specs.Search.{revision_of, rises, passed, Placed};
+ghost use Rattle.iteration.specs.Block.{block_of, follows, is_block, first_above, last_below, scanned};
+ghost use Rattle.iteration.specs.Key.{revision_of};
+ghost use Rattle.iteration.specs.Search.{passed, Placed};
 
-use crate::{KeyAnswer, key_at, revision_at};
+use crate::{key_at, revision_at};
 use path::{Revision, is_below};
 use text::refusal::{ABSENT, BAD_BLOCK};
 
-// Whether `key` is a key, and above the last one, if there was one.
-pub(crate) fn is_next(last: KeyAnswer, key: KeyAnswer) -> bool
-    ensures { result ≡ rises (revision_of last) (revision_of key) }
+// Whether `key` is above the last one, if there was one.
+pub(crate) fn is_next(last: Option<Revision>, key: Revision) -> bool
+    ensures { result ≡ follows (revision_of last) key }
 {
-    let KeyAnswer::Key(q) = key else {
-        return false;
-    };
-    let KeyAnswer::Key(p) = last else {
-        return true;
-    };
-    is_below(p, q)
+    last.is_none_or(|p| is_below(p, key))
 }
 
 // Whether the bytes are a block: keys one after the other, each above the one before it. The first has none before it.
@@ -27,16 +22,15 @@ pub(crate) fn check_block(block: &[u8]) -> bool
     if block.len() % 38 != 0 {
         return false;
     }
-    let n = block.len() / 38;
-    let mut last = KeyAnswer::Refused(ABSENT);
-    let mut i = 0;
-    while i < n {
-        let key = key_at(block, 38 * i);
+    let mut last = None;
+    for i in 0..block.len() / 38 {
+        let Some(key) = key_at(block, 38 * i) else {
+            return false;
+        };
         if !is_next(last, key) {
             return false;
         }
-        last = key;
-        i += 1;
+        last = Some(key);
     }
     true
 }
@@ -70,29 +64,29 @@ pub(crate) fn place(block: &[u8], pair: Revision, equal: bool) -> usize
 }
 
 // The first key of a block above the pair: 16, 12.
-pub fn first_above(block: &[u8], pair: Revision) -> KeyAnswer
+pub fn first_above(block: &[u8], pair: Revision) -> Result<Revision, u8>
     ensures { result ≡ scanned (first_above pair) (block_of block.now) }
 {
     if !check_block(block) {
-        return KeyAnswer::Refused(BAD_BLOCK);
+        return Err(BAD_BLOCK);
     }
     let p = place(block, pair, true);
     if p == block.len() / 38 {
-        return KeyAnswer::Refused(ABSENT);
+        return Err(ABSENT);
     }
-    KeyAnswer::Key(revision_at(block, 38 * p))
+    Ok(revision_at(block, 38 * p))
 }
 
 // The last key of a block below the pair: 16, 12.
-pub fn last_below(block: &[u8], pair: Revision) -> KeyAnswer
+pub fn last_below(block: &[u8], pair: Revision) -> Result<Revision, u8>
     ensures { result ≡ scanned (last_below pair) (block_of block.now) }
 {
     if !check_block(block) {
-        return KeyAnswer::Refused(BAD_BLOCK);
+        return Err(BAD_BLOCK);
     }
     let p = place(block, pair, false);
     if p == 0 {
-        return KeyAnswer::Refused(ABSENT);
+        return Err(ABSENT);
     }
-    KeyAnswer::Key(revision_at(block, 38 * (p - 1)))
+    Ok(revision_at(block, 38 * (p - 1)))
 }

@@ -6,19 +6,12 @@ pub mod block;
 ghost use Rattle.std.specs.Prelude.{◌≡◌, ◌+◌, ◌≤◌, length, take, drop};
 ghost use Rattle.text.specs.Put.{text, answer, left};
 ghost use Rattle.text.specs.Refusal.{bad_iter_key};
-ghost use Rattle.iteration.specs.Key.{iteration_key, revision_at, key_revision, answered, pair_of};
+ghost use Rattle.iteration.specs.Key.{iteration_key, revision_at, key_revision, revision_of, answered, pair_of};
 
 use path::{Pair, Revision, RevisionHeight, RevisionNumber};
 use text::part::same_at;
 use text::refusal::{BAD_ITER_KEY, NO_ROOM};
 use text::{Written, read_big_endian};
-
-// What a call on iteration keys answers: one of them, or a refusal by its number.
-#[derive(Clone, Copy)]
-pub enum KeyAnswer {
-    Key(Revision),
-    Refused(u8),
-}
 
 // Writes the iteration key of a consensus state, 38 bytes.
 pub fn iteration_key(number: RevisionNumber, height: RevisionHeight, out: &mut [u8]) -> Written
@@ -51,38 +44,38 @@ pub(crate) fn revision_at(s: &[u8], at: usize) -> Revision
     }
 }
 
-// Reads the 38 bytes at `at`: 15.
-pub(crate) fn key_at(s: &[u8], at: usize) -> KeyAnswer
+// Reads the 38 bytes at `at`.
+pub(crate) fn key_at(s: &[u8], at: usize) -> Option<Revision>
     requires { at + 38 ≤ length s.now }
-    ensures { result ≡ answered bad_iter_key (key_revision (take 38 (drop at s.now))) }
+    ensures { revision_of result ≡ key_revision (take 38 (drop at s.now)) }
 {
     if !same_at(s, at, b"iterateConsensusStates") {
-        return KeyAnswer::Refused(BAD_ITER_KEY);
+        return None;
     }
-    KeyAnswer::Key(revision_at(s, at))
+    Some(revision_at(s, at))
 }
 
 // Reads an iteration key: 15 where the length or the word is another.
-pub fn read_iteration_key(key: &[u8]) -> KeyAnswer
+pub fn read_iteration_key(key: &[u8]) -> Result<Revision, u8>
     ensures { result ≡ answered bad_iter_key (key_revision key.now) }
 {
     if key.len() != 38 {
-        return KeyAnswer::Refused(BAD_ITER_KEY);
+        return Err(BAD_ITER_KEY);
     }
-    key_at(key, 0)
+    key_at(key, 0).ok_or(BAD_ITER_KEY)
 }
 
 // An answer as it crosses to C.
-pub fn pair_of(answer: KeyAnswer) -> Pair
+pub fn pair_of(answer: Result<Revision, u8>) -> Pair
     ensures { result ≡ pair_of answer }
 {
     match answer {
-        KeyAnswer::Key(p) => Pair {
+        Ok(p) => Pair {
             refusal: 0,
             number: p.number.0,
             height: p.height.0,
         },
-        KeyAnswer::Refused(refusal) => Pair {
+        Err(refusal) => Pair {
             refusal,
             number: 0,
             height: 0,

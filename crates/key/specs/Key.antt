@@ -1,10 +1,9 @@
 -- A view and a reading, rendered with the parts of a text that stand at their places.
 -- Assumes nothing.
-use Rattle.std.specs.Prelude.{ℕ, List}
+use Rattle.std.specs.Prelude.{ℕ, List, Ok, Err}
 use Rattle.text.specs.Put.{Wanted, refused}
 use Rattle.path.specs.declared.PathView.{PathView}
-use Rattle.path.specs.declared.Reading.{Reading}
-use Rattle.path.specs.declared.Reading.TheVariants.{Read, Refused}
+use Rattle.path.specs.Reading.{Reading}
 use Rattle.path.specs.Kinds.{carried}
 use Rattle.path.specs.Text.{shown_of}
 use Rattle.path.specs.Read.{render, parts_of, refusal_of}
@@ -17,5 +16,5 @@ shown_at t v = short (render (parts_of v.kind) (carried (shown_of t v.first) (sh
 
 -- the text, or the reading's refusal. Of the reading of that text it is the key, and of the reading of its picture the wide one
 unfoldable pub shown_by : List ℕ → Reading → Wanted
-shown_by t (Read p e) = shown_at t (view_of p e)
-shown_by t (Refused w) = refused (refusal_of w)
+shown_by t (Ok r) = shown_at t (view_of r.path r.exact)
+shown_by t (Err w) = refused (refusal_of w)

@@ -1,6 +1,6 @@
 -- A reading rendered from its view, and the key of the text that was read or of another of its length.
 -- Assumes nothing.
-use Rattle.std.specs.Prelude.{ℕ, ◌≤◌, ◌≡◌, Bool, List}
+use Rattle.std.specs.Prelude.{ℕ, ◌≤◌, ◌≡◌, Bool, List, Ok, Err}
 use Rattle.std.proofs.Math.Path.{refl}
 use Rattle.std.proofs.Common.{sym, ap, ◌∙◌, arith, length-take, length-drop}
 use Rattle.std.proofs.Math.ListN.{length}
@@ -11,9 +11,7 @@ use Rattle.path.specs.declared.Path.{Path}
 use Rattle.path.specs.declared.Path.TheVariants.{NextClientSequence, NextConnectionSequence, NextChannelSequence, ClientState, ClientConsensusState, ClientUpdateTime, ClientUpdateHeight, ClientConnection, Connection, Ports, ChannelEnd, SeqSend, SeqRecv, SeqAck, Commitment, Ack, Receipt, UpgradeClientState, UpgradeConsensusState}
 use Rattle.path.specs.declared.PathView.{PathView}
 use Rattle.path.specs.declared.Refusal.{Refusal}
-use Rattle.path.specs.declared.Reading.{Reading}
-use Rattle.path.specs.declared.Reading.TheVariants.{Read, Refused}
-use Rattle.path.specs.declared.ViewAnswer.TheVariants.{Seen, Refused as Unread}
+use Rattle.path.specs.Reading.{Reading, Read}
 use Rattle.path.specs.Kinds.{carried}
 use Rattle.path.specs.Text.{part_of, shown_of}
 use Rattle.path.specs.Read.{render, parts_of, texts_of, render_path, read_path, refusal_of, number_of, key_by, key_of}
@@ -50,7 +48,7 @@ kind_range (UpgradeConsensusState x) = (omega arith, omega arith)
 
 -- ---- a reading: a refusal, or what its view shows
 module _ (t : List ℕ) (r : Reading) where
-  pub shown-refused : (w : Refusal) → r ≡ Refused w → shown_by t r ≡ refused (number_of r)
+  pub shown-refused : (w : Refusal) → r ≡ Err w → shown_by t r ≡ refused (number_of r)
   unfolding shown_by
   shown-refused w e = rw e
 
@@ -92,8 +90,8 @@ module _ (s t : List ℕ) (same : length s ≡ length t) where
 
   pub shown-key : (r : Reading) → read_path s ≡ r → shown_by t r ≡ key_by t r
   unfolding shown_by
-  shown-key (Read p e) h = shown-text p e h
-  shown-key (Refused w) h = refl
+  shown-key (Ok r) h = shown-text r.path r.exact h
+  shown-key (Err w) h = refl
 
 -- ---- of the text itself: its key
 pub key-shown : (t : List ℕ) (r : Reading) → r ≡ read_path t → shown_by t r ≡ key_of t
@@ -102,14 +100,14 @@ key-shown t r e = shown-key t t refl r (sym e) ∙ ap (key_by t) e
 
 -- by the flat form of its reading
 module _ (t : List ℕ) where
-  module _ (v : PathView) (by : Seen v ≡ viewed_by (read_path t)) where
+  module _ (v : PathView) (by : Ok v ≡ viewed_by (read_path t)) where
     pub seen_range : (1 ≤ v.kind) × (v.kind ≤ 19)
     seen_range = let q = is_seen (read_path t) v by in view_range v q.path q.mark q.shows
 
     pub seen_key : shown_at t v ≡ key_of t
     seen_key = let q = is_seen (read_path t) v by in shown-seen t (read_path t) q.path q.mark q.read v q.shows ∙ key-shown t (read_path t) refl
 
-  pub unread-key : (w : Refusal) → Unread w ≡ viewed_by (read_path t) → key_of t ≡ refused (refusal_of w)
+  pub unread-key : (w : Refusal) → Err w ≡ viewed_by (read_path t) → key_of t ≡ refused (refusal_of w)
   unfolding key_of
   unread-key w by = rw (is-unread (read_path t) w by)
 

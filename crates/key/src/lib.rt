@@ -9,7 +9,7 @@ ghost use Rattle.path.specs.Text.{shown_of};
 ghost use Rattle.path.specs.View.{viewed_by};
 ghost use Rattle.key.specs.Key.{shown_at, shown_by};
 
-use path::{PathView, Reading, ViewAnswer};
+use path::{PathView, Reading, Refusal};
 use reading::part;
 use render::fit::fit_kind;
 use text::Written;
@@ -54,24 +54,24 @@ pub fn write_shown(text: &[u8], reading: Reading, out: &mut [u8]) -> Written
     ensures value { result ≡ answer (shown_by text.now reading) (length out.old) }
     ensures out_after { out.new ≡ left (shown_by text.now reading) out.old }
 {
-    let Reading::Read { path, exact } = reading else {
+    let Ok(read) = reading else {
         return Written {
             refusal: path::refusal_of(reading),
             length: 0,
         };
     };
-    write_seen(text, path::view(path, exact), out)
+    write_seen(text, path::view(read.path, read.exact), out)
 }
 
 // Writes the key of a text that was read: 1, 2, 3, then 4.
-pub fn write_read(text: &[u8], read: ViewAnswer, out: &mut [u8]) -> Written
+pub fn write_read(text: &[u8], read: Result<PathView, Refusal>, out: &mut [u8]) -> Written
     requires { read ≡ viewed_by (read_path text.now) }
     ensures value { result ≡ answer (key_of text.now) (length out.old) }
     ensures out_after { out.new ≡ left (key_of text.now) out.old }
 {
     match read {
-        ViewAnswer::Seen(v) => write_seen(text, v, out),
-        ViewAnswer::Refused(why) => {
+        Ok(v) => write_seen(text, v, out),
+        Err(why) => {
             let fault = path::fault_of(why);
             Written {
                 refusal: fault.refusal,

@@ -1,13 +1,12 @@
--- Laws of `Class`: a lookup by halving, and one in parts of a table.
+-- Laws of `Class`: a lookup among the ends of the ranges, and one in parts of a table.
 -- Assumes nothing.
-use Prim.Native.Nat.{ℕ, zero, suc, ◌+◌, ◌*◌, ◌/◌, ◌≤◌, ◌<◌}
-use Rattle.std.specs.Prelude.{◌≡◌, Bool, true, false, ◌&&◌, ◌||◌, List, [], ◌∷◌, ◌++◌, ltb, leb, length, take, drop}
+use Prim.Native.Nat.{ℕ, zero, suc, ◌%◌, ◌≤◌, ◌<◌}
+use Rattle.std.specs.Prelude.{◌≡◌, Bool, true, false, ◌&&◌, ◌||◌, List, [], ◌∷◌, ◌++◌, ltb, leb, eqb, length}
 use Rattle.std.proofs.Math.Path.{refl}
-use Rattle.std.proofs.Common.{sym, ◌∙◌, add-zero, length-drop, get_or-drop}
+use Rattle.std.proofs.Common.{sym, ◌∙◌}
 use Rattle.std.proofs.Math.Bool.{or-true, or-false, or_assoc, and-false}
 use native.Mathlib.Omega.{arith}
 use Rattle.std.proofs.Math.ListN.{get_or}
-use Rattle.std.proofs.Math.Seq.{drop-cons}
 use borrow.Author.Tests.{ltb-true, lt-ltb, leb-true, lt-leb, le-leb}
 use Rattle.text.specs.PartLaws.{and_left, and_right}
 use Rattle.letters.specs.Class.{between, inside, scalars, rises}
@@ -41,19 +40,6 @@ inside-below v low (a ∷ (z ∷ more)) h l =
     let r = rise low a z more h in
     rw (lt-leb a v (omega arith)) (inside-below v (suc z) more r.others (omega arith))
 
--- what is left of them from the range m on also rises
-rise-drop : (low : ℕ) (t : List ℕ) (m j : ℕ) → j ≡ 2 * m → rises low t ≡ true → (k : ℕ) × (low ≤ k) × (rises k (drop j t) ≡ true)
-rise-drop low t zero zero e h = (low, omega arith, h)
-rise-drop low t zero (suc j) e h = absurd (omega arith)
-rise-drop low t (suc m) zero e h = absurd (omega arith)
-rise-drop low t (suc m) (suc zero) e h = absurd (omega arith)
-rise-drop low [] (suc m) (suc (suc j)) e h = (low, omega arith, h)
-rise-drop low (a ∷ []) (suc m) (suc (suc j)) e h = absurd (rise_odd low a h)
-rise-drop low (a ∷ (z ∷ more)) (suc m) (suc (suc j)) e h =
-    let r = rise low a z more h in
-    let x = rise-drop (suc z) more m j (omega arith) r.others in
-    (x.0, omega (arith, x.1), x.2)
-
 first_above_lem : (v low : ℕ) (t : List ℕ) → rises low t ≡ true → v < get_or t 0 0 → inside v t ≡ false
 unfolding inside
 first_above_lem v low [] h l = refl
@@ -62,18 +48,6 @@ first_above_lem v low (a ∷ (z ∷ more)) h l =
     let r = rise low a z more h in
     rw (lt-leb a v l) (inside-below v (suc z) more r.others (omega arith))
 
--- a test on the ranges before the range m, and on the others
-split_ranges : (v : ℕ) (t : List ℕ) (m j : ℕ) → j ≡ 2 * m → inside v t ≡ (inside v (take j t) || inside v (drop j t))
-unfolding inside
-split_ranges v t zero zero e = refl
-split_ranges v t zero (suc j) e = absurd (omega arith)
-split_ranges v t (suc m) zero e = absurd (omega arith)
-split_ranges v t (suc m) (suc zero) e = absurd (omega arith)
-split_ranges v [] (suc m) (suc (suc j)) e = refl
-split_ranges v (a ∷ []) (suc m) (suc (suc j)) e = refl
-split_ranges v (a ∷ (z ∷ more)) (suc m) (suc (suc j)) e =
-    rw (split_ranges v more m j (omega arith)) (sym (or_assoc (leb a v && leb v z) (inside v (take j more)) (inside v (drop j more))))
-
 entry-above : (low : ℕ) (t : List ℕ) (j : ℕ) → rises low t ≡ true → j < length t → low < get_or t j 0
 entry-above low [] j h l = absurd (omega arith)
 entry-above low (a ∷ []) j h l = absurd (rise_odd low a h)
@@ -81,21 +55,43 @@ entry-above low (a ∷ (z ∷ more)) zero h l = (rise low a z more h).first
 entry-above low (a ∷ (z ∷ more)) (suc zero) h l = let r = rise low a z more h in omega arith
 entry-above low (a ∷ (z ∷ more)) (suc (suc j)) h l = let r = rise low a z more h in omega (arith, entry-above (suc z) more j r.others (omega arith))
 
-and_none : (p : Bool) → ((p && false) || false) ≡ false
-and_none true = refl
-and_none false = refl
+-- ---- a lookup among the ends of the ranges: they do not fall
+pub rises-sorted : (low : ℕ) (t : List ℕ) → rises low t ≡ true → (i j : ℕ) → i ≤ j → j < length t → get_or t i 0 ≤ get_or t j 0
+rises-sorted low [] h i j l k = absurd (omega arith)
+rises-sorted low (a ∷ []) h i j l k = absurd (rise_odd low a h)
+rises-sorted low (a ∷ (z ∷ more)) h zero zero l k = omega arith
+rises-sorted low (a ∷ (z ∷ more)) h zero (suc zero) l k = (rise low a z more h).range
+rises-sorted low (a ∷ (z ∷ more)) h zero (suc (suc j)) l k = let r = rise low a z more h in omega (arith, entry-above (suc z) more j r.others (omega arith))
+rises-sorted low (a ∷ (z ∷ more)) h (suc i) zero l k = absurd (omega arith)
+rises-sorted low (a ∷ (z ∷ more)) h (suc zero) (suc zero) l k = omega arith
+rises-sorted low (a ∷ (z ∷ more)) h (suc (suc i)) (suc zero) l k = absurd (omega arith)
+rises-sorted low (a ∷ (z ∷ more)) h (suc zero) (suc (suc j)) l k = let r = rise low a z more h in omega (arith, entry-above (suc z) more j r.others (omega arith))
+rises-sorted low (a ∷ (z ∷ more)) h (suc (suc i)) (suc (suc j)) l k = rises-sorted (suc z) more (rise low a z more h).others i j (omega arith) (omega arith)
 
-last_below_lem : (v low : ℕ) (t : List ℕ) (m j : ℕ) → j ≡ 2 * m + 1 → rises low t ≡ true → j < length t → get_or t j 0 < v → inside v (take (suc j) t) ≡ false
+-- each end lies in its range
+pub inside_end : (low : ℕ) (t : List ℕ) → rises low t ≡ true → (i v : ℕ) → i < length t → get_or t i 0 ≡ v → inside v t ≡ true
 unfolding inside
-last_below_lem v low [] m j e h l k = absurd (omega arith)
-last_below_lem v low (a ∷ []) m j e h l k = absurd (rise_odd low a h)
-last_below_lem v low (a ∷ (z ∷ more)) m zero e h l k = absurd (omega arith)
-last_below_lem v low (a ∷ (z ∷ more)) m (suc zero) e h l k = rw (lt-leb v z k) (and_none (leb a v))
-last_below_lem v low (a ∷ (z ∷ more)) zero (suc (suc j)) e h l k = absurd (omega arith)
-last_below_lem v low (a ∷ (z ∷ more)) (suc m) (suc (suc j)) e h l k =
-    let r = rise low a z more h in
-    let f = entry-above (suc z) more j r.others (omega arith) in
-    rw (lt-leb v z (omega arith), last_below_lem v (suc z) more m j (omega arith) r.others (omega arith) k) (and_none (leb a v))
+inside_end low [] h i v l e = absurd (omega arith)
+inside_end low (a ∷ []) h i v l e = absurd (rise_odd low a h)
+inside_end low (a ∷ (z ∷ more)) h zero v l e = let r = rise low a z more h in rw (le-leb a v (omega arith), le-leb v z (omega arith))
+inside_end low (a ∷ (z ∷ more)) h (suc zero) v l e = let r = rise low a z more h in rw (le-leb a v (omega arith), le-leb v z (omega arith))
+inside_end low (a ∷ (z ∷ more)) h (suc (suc i)) v l e = rw (inside_end (suc z) more (rise low a z more h).others i v (omega arith) e) (or-true (between a z v))
+
+-- a number that is none of them lies in a range where its place among them is odd
+pub inside_place : (low : ℕ) (t : List ℕ) → rises low t ≡ true → (i v : ℕ) → i ≤ length t → ((k : ℕ) → k < i → get_or t k 0 < v) → ((k : ℕ) → i ≤ k → k < length t → v < get_or t k 0) → eqb (i % 2) 1 ≡ inside v t
+unfolding inside
+inside_place low [] h zero v l b f = refl
+inside_place low [] h (suc i) v l b f = absurd (omega arith)
+inside_place low (a ∷ []) h i v l b f = absurd (rise_odd low a h)
+inside_place low (a ∷ (z ∷ more)) h zero v l b f = sym (first_above_lem v low (a ∷ (z ∷ more)) h (f 0 (omega arith) (omega arith)))
+inside_place low (a ∷ (z ∷ more)) h (suc zero) v l b f =
+    let x = b 0 (omega arith) in
+    let y = f 1 (omega arith) (omega arith) in
+    rw (le-leb a v (omega arith), le-leb v z (omega arith))
+inside_place low (a ∷ (z ∷ more)) h (suc (suc i)) v l b f =
+    let y = b 1 (omega arith) in
+    let e : suc (suc i) % 2 ≡ i % 2 = omega arith in
+    rw (e, lt-leb v z y, and-false (leb a v)) (inside_place (suc z) more (rise low a z more h).others i v (omega arith) (λ k m. b (suc (suc k)) (omega arith)) (λ k m n. f (suc (suc k)) (omega arith) (omega arith)))
 
 -- ---- a range of a table
 -- one of the ranges has all numbers from b to y
@@ -187,36 +183,3 @@ module _ (low limit : ℕ) (a b : List ℕ) (e : even a ≡ true) (h : rises low
       let x = rises-parts low a b e h in
       let k = ltb-true (last_or 0 a) limit (and_left (ltb (last_or 0 a) limit) _ s) in
       inside-append v low a b x.0 ∙ rw (past-last v low 0 a x.0 (omega arith))
-
--- ---- lookups by halving
-pub inside-none : (v : ℕ) → inside v [] ≡ false
-unfolding inside
-inside-none v = refl
-
-inside-short : (v : ℕ) (s : List ℕ) → length s ≤ 1 → inside v s ≡ false
-unfolding inside
-inside-short v [] l = refl
-inside-short v (a ∷ []) l = refl
-inside-short v (a ∷ (z ∷ s)) l = absurd (omega arith)
-
--- ---- the turns of a lookup by halving: v is in no range before lo, and in none from hi on
-module _ (v low : ℕ) (t : List ℕ) (h : rises low t ≡ true) where
-  pub halve-start : inside v (drop (2 * (length t / 2)) t) ≡ false
-  halve-start = inside-short v (drop (2 * (length t / 2)) t) (rw length-drop (omega arith))
-
-  pub halve-high : (m : ℕ) → v < get_or t (2 * m) 0 → inside v (drop (2 * m) t) ≡ false
-  halve-high m k = let x = rise-drop low t m (2 * m) refl h in first_above_lem v x.0 (drop (2 * m) t) x.2 (rw (get_or-drop, add-zero) k)
-
-  pub halve-low : (m : ℕ) → 2 * m + 1 < length t → get_or t (2 * m + 1) 0 < v → inside v (take (2 * (m + 1)) t) ≡ false
-  halve-low m l k = let e : 2 * (m + 1) ≡ suc (2 * m + 1) = omega arith in rw e (last_below_lem v low t m (2 * m + 1) refl h l k)
-
-  pub halve-found : (m : ℕ) → 2 * m + 1 < length t → get_or t (2 * m) 0 ≤ v → v ≤ get_or t (2 * m + 1) 0 → inside v t ≡ true
-  unfolding inside
-  halve-found m l k n =
-      let e : 2 * m + 1 ≡ suc (2 * m) = omega arith in
-      let z : v ≤ get_or t (suc (2 * m)) 0 = rw e at n in
-      split_ranges v t m (2 * m) refl
-      ∙ rw (drop-cons t (2 * m) 0 (omega arith), drop-cons t (suc (2 * m)) 0 (omega arith), le-leb (get_or t (2 * m) 0) v k, le-leb v (get_or t (suc (2 * m)) 0) z) (or-true (inside v (take (2 * m) t)))
-
-  pub halve-none : (m : ℕ) → inside v (take (2 * m) t) ≡ false → inside v (drop (2 * m) t) ≡ false → inside v t ≡ false
-  halve-none m a b = split_ranges v t m (2 * m) refl ∙ rw (a, b)

@@ -1,11 +1,10 @@
 -- The rule of the tables: antt computes it once over all of their ranges, and each lookup in a part of them has it from there.
 -- Assumes nothing.
-use Rattle.std.specs.Prelude.{ℕ, ◌≤◌, ◌<◌, ◌≡◌, Bool, true, List, ◌++◌, leb}
+use Rattle.std.specs.Prelude.{ℕ, ◌≤◌, ◌<◌, ◌≡◌, true, List, ◌++◌}
 use Rattle.std.proofs.Math.Path.{refl}
-use Rattle.std.proofs.Common.{sym, ◌∙◌, arith, leb-true}
-use Rattle.text.specs.PartLaws.{and_left, and_right}
+use Rattle.std.proofs.Common.{◌∙◌, arith}
 use Rattle.letters.specs.Table.{part1, part2, part3, part4, letters, blanks}
-use Rattle.letters.specs.Class.{between, inside, rises, is_letter, LetterIf}
+use Rattle.letters.specs.Class.{inside, rises, is_letter}
 use Rattle.letters.specs.ClassLaws.{even, rises-parts, seam, look-first, look-second, covers, inside_covered}
 
 -- ---- the rule
@@ -96,11 +95,9 @@ module _ (v : ℕ) where
   in4 l = past2 (omega arith) ∙ look-second 127 65536 part3 part4 even3 all3 seam3 v l
 
 -- ---- long ranges of the letters
-pub letter_covered : (b y v : ℕ) (r : Bool) → covers b y letters ≡ true → r ≡ between b y v → LetterIf r v
+pub letter_covered : (b y v : ℕ) → covers b y letters ≡ true → b ≤ v → v ≤ y → is_letter v ≡ true
 unfolding is_letter
-letter_covered b y v r h e t =
-    let k = sym e ∙ t in
-    inside_covered b y v letters h (leb-true b v (and_left (leb b v) _ k)) (leb-true v y (and_right (leb b v) _ k))
+letter_covered b y v h l k = inside_covered b y v letters h l k
 
 pub latin-first : covers 216 246 letters ≡ true
 unfolding letters part1 part2 part3 part4

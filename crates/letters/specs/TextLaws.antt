@@ -1,15 +1,14 @@
 -- Laws of `Text`: the ways out of the check of characters, and one turn of each loop that trims.
 -- Assumes nothing.
-use Rattle.std.specs.Prelude.{ℕ, zero, suc, ◌+◌, ◌-◌, ◌≤◌, ◌<◌, ◌≡◌, Bool, cond, ◌&&◌, List, [], ◌∷◌, ◌++◌, eqb, length, take, drop, replicate}
+use Rattle.std.specs.Prelude.{ℕ, zero, suc, ◌+◌, ◌-◌, ◌≤◌, ◌<◌, ◌≡◌, Bool, cond, ◌&&◌, List, [], ◌∷◌, ◌++◌, length, take, drop, replicate}
 use Rattle.std.proofs.Math.Path.{refl}
-use Rattle.std.proofs.Common.{sym, ap, ◌∙◌, zero-add, arith, length-append, length-drop, drop_of_length-le, drop-drop, eq-eqb, ne_eqb}
+use Rattle.std.proofs.Common.{sym, ap, ◌∙◌, zero-add, arith, length-append, length-drop, drop_of_length-le, drop-drop}
 use Rattle.std.proofs.Math.Bool.{true, false}
 use Rattle.std.proofs.Math.Nat.{sub-zero}
 use Rattle.std.proofs.lemmas.List.{length-replicate}
 use Rattle.text.specs.Part.{every, ascii}
-use Rattle.text.specs.PartLaws.{and_left, and_right, every_append}
+use Rattle.text.specs.PartLaws.{and_right, every_append}
 use Rattle.identifiers.specs.Check.{identifier_byte, chars_of}
-use Rattle.identifiers.specs.CheckLaws.{bytes_chars, chars-bytes}
 use Rattle.identifiers.specs.Owned.{blank, trim_start, keep, trim_end, trim}
 use Rattle.letters.specs.declared.Character.{Character}
 use Rattle.letters.specs.Character.{character_of, size_of, whole, characters, utf8}
@@ -41,15 +40,6 @@ module _ (t : List ℕ) where
   pub chars_fine : utf8 t ≡ true → every identifier_byte (narrow t) ≡ true → wide_chars t ≡ 0
   unfolding wide_chars
   chars_fine h k = rw (h, k)
-
--- one byte
-pub chars-one : (b : ℕ) → eqb (chars_of (b ∷ [])) 0 ≡ identifier_byte b
-unfolding every
-chars-one b = go (identifier_byte b) refl
-  where
-    go : (p : Bool) → identifier_byte b ≡ p → eqb (chars_of (b ∷ [])) 0 ≡ p
-    go true e = eq-eqb (chars_of (b ∷ [])) 0 (bytes_chars (b ∷ []) (rw e))
-    go false e = ne_eqb (chars_of (b ∷ [])) 0 (λ h. let k : false ≡ true = sym e ∙ and_left (identifier_byte b) true (chars-bytes (b ∷ []) h) in let z : ◌≡◌ {A = ℕ} 0 1 = cc in omega arith)
 
 -- ---- one turn of a loop over characters, at the place i, where c begins, of n bytes
 module _ {s : List ℕ} {i : ℕ} {c : Character} {n : ℕ} (x : Turn s i c n) where

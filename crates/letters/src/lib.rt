@@ -17,27 +17,11 @@ pub enum Character {
     Broken,
 }
 
-// A byte as a wider number.
-fn wide(b: u8) -> u32
-    ensures { result ≡ b }
-{
-    b as u32
-}
-
 // The character of that value and size, unless it is an overlong form, a surrogate or above 1114111.
 fn scalar(value: u32, size: usize, least: u32) -> Character
     ensures { result ≡ cond (proper least value) (Character.Scalar value size) Character.Broken }
 {
-    if value < least {
-        return Character::Broken;
-    }
-    if 1114111 < value {
-        return Character::Broken;
-    }
-    if value < 55296 {
-        return Character::Scalar { value, size };
-    }
-    if value < 57344 {
+    if value < least || char::from_u32(value).is_none() {
         return Character::Broken;
     }
     Character::Scalar { value, size }
@@ -49,12 +33,11 @@ fn goes_on(s: &[u8], at: usize, n: usize, least: u32, first: u32) -> Character
     ensures { result ≡ goes_on n (n + 1) least first (drop at s.now) }
 {
     let mut value = first;
-    let mut i: usize = 0;
-    while i < n {
+    for i in 0..n {
         if s.len() <= at + i {
             return Character::Broken;
         }
-        let b = wide(s[at + i]);
+        let b = u32::from(s[at + i]);
         if b < 128 {
             return Character::Broken;
         }
@@ -62,7 +45,6 @@ fn goes_on(s: &[u8], at: usize, n: usize, least: u32, first: u32) -> Character
             return Character::Broken;
         }
         value = value * 64 + (b - 128);
-        i += 1;
     }
     scalar(value, n + 1, least)
 }
@@ -74,23 +56,14 @@ pub fn character_at(s: &[u8], at: usize) -> Character
     if s.len() <= at {
         return Character::Broken;
     }
-    let b = wide(s[at]);
-    if b < 128 {
-        return Character::Scalar { value: b, size: 1 };
+    let b = u32::from(s[at]);
+    match b {
+        0..=127 => Character::Scalar { value: b, size: 1 },
+        192..=223 => goes_on(s, at + 1, 1, 128, b - 192),
+        224..=239 => goes_on(s, at + 1, 2, 2048, b - 224),
+        240..=247 => goes_on(s, at + 1, 3, 65536, b - 240),
+        _ => Character::Broken,
     }
-    if b < 192 {
-        return Character::Broken;
-    }
-    if b < 224 {
-        return goes_on(s, at + 1, 1, 128, b - 192);
-    }
-    if b < 240 {
-        return goes_on(s, at + 1, 2, 2048, b - 224);
-    }
-    if b < 248 {
-        return goes_on(s, at + 1, 3, 65536, b - 240);
-    }
-    Character::Broken
 }
 
 // How many bytes of a text the character takes: where none begins, the one byte is passed over.
@@ -106,10 +79,7 @@ pub(crate) fn size_of(c: Character) -> usize
 pub(crate) fn is_whole(c: Character) -> bool
     ensures { result ≡ whole c }
 {
-    match c {
-        Character::Scalar { value: _, size: _ } => true,
-        Character::Broken => false,
-    }
+    matches!(c, Character::Scalar { .. })
 }
 
 // Whether the text is UTF-8.

@@ -39,12 +39,9 @@ fn fill(out: &mut [u8], at: usize, n: usize, b: u8) -> usize
     ensures value { result ≡ at + n }
     ensures out_after { out.new ≡ put out.old at (replicate n b) }
 {
-    let mut i: usize = 0;
-    while i < n {
-        text::put::write_byte(out, at + i, b);
-        i += 1;
-    }
-    at + n
+    let end = at + n;
+    out[at..end].fill(b);
+    end
 }
 
 // Writes the picture of a text from byte 0 on, and returns its length, which is that of the text.

@@ -1,6 +1,6 @@
 -- Reading a packet key undoes writing it, and writing undoes reading, of the three kinds at once; and no two different parts give one key.
 -- Assumes nothing.
-use Rattle.std.specs.Prelude.{◌≡◌, Bool, true, false, cond, ℕ, suc, ◌+◌, ◌-◌, ◌^◌, ◌≤◌, ◌<◌, eqb, ltb, length, take, drop, get_or}
+use Rattle.std.specs.Prelude.{◌≡◌, Bool, true, false, cond, ℕ, suc, ◌+◌, ◌^◌, ◌≤◌, ◌<◌, eqb, ltb, length, take, drop, get_or, Option, Some, None, Ok, Err}
 use Rattle.std.proofs.Math.Path.{refl}
 use Rattle.std.proofs.Common.{sym, ap, ◌∙◌, add-one, arith, length-drop, take-append-drop, take_all, drop-cons}
 use mathlib.Core.List.{List, [], ◌∷◌, ◌++◌, append_assoc, append-nil}
@@ -10,9 +10,6 @@ use borrow.Author.Tests.{le-ltb, ltb-false, eq-eqb, eqb-true}
 use Rattle.text.specs.Number.{big_endian, big_at, Bytes}
 use Rattle.text.specs.NumberLaws.{length_big, big-at, big-there, big-within}
 use Rattle.identifiers.specs.Check.{check_of, client}
-use Rattle.packet.specs.declared.KindAnswer.{KindAnswer}
-use Rattle.packet.specs.declared.KindAnswer.TheVariants.{Kind, Unknown}
-use Rattle.packet.specs.declared.PacketAnswer.TheVariants.{Key, Refused}
 use Rattle.packet.specs.declared.PacketKey.{PacketKey}
 use Rattle.packet.specs.declared.PacketKind.{PacketKind}
 use Rattle.packet.specs.declared.PacketKind.TheVariants.{Commitment, Receipt, Acknowledgement}
@@ -22,30 +19,30 @@ pub clash : {A : Type 0} → ◌≡◌ {A = ℕ} 0 1 → A
 clash z = absurd (let y : ⊥ = omega (arith, z) in y)
 
 -- ---- a kind and its marker
-pub kind-marker : (k : PacketKind) → kind_marked (marker_of k) ≡ Kind k
+pub kind-marker : (k : PacketKind) → kind_marked (marker_of k) ≡ Some k
 unfolding kind_marked
 kind-marker Commitment = refl
 kind-marker Receipt = refl
 kind-marker Acknowledgement = refl
 
-pub marker-kind : (m : ℕ) (k : PacketKind) → kind_marked m ≡ Kind k → marker_of k ≡ m
+pub marker-kind : (m : ℕ) (k : PacketKind) → kind_marked m ≡ Some k → marker_of k ≡ m
 unfolding kind_marked
 marker-kind m k e = go (eqb m 1) refl (eqb m 2) refl (eqb m 3) refl e
   where
     is : (j : PacketKind) → k ≡ j → m ≡ marker_of j → marker_of k ≡ m
     is j x y = ap marker_of x ∙ sym y
 
-    go : (a : Bool) → eqb m 1 ≡ a → (b : Bool) → eqb m 2 ≡ b → (c : Bool) → eqb m 3 ≡ c → cond a (Kind Commitment) (cond b (Kind Receipt) (cond c (Kind Acknowledgement) Unknown)) ≡ Kind k → marker_of k ≡ m
+    go : (a : Bool) → eqb m 1 ≡ a → (b : Bool) → eqb m 2 ≡ b → (c : Bool) → eqb m 3 ≡ c → cond a (Some Commitment) (cond b (Some Receipt) (cond c (Some Acknowledgement) None)) ≡ Some k → marker_of k ≡ m
     go true x b y c z q = let e : k ≡ Commitment = cc in is Commitment e (eqb-true m 1 x)
     go false x true y c z q = let e : k ≡ Receipt = cc in is Receipt e (eqb-true m 2 y)
     go false x false y true z q = let e : k ≡ Acknowledgement = cc in is Acknowledgement e (eqb-true m 3 z)
     go false x false y false z q = clash cc
 
-pub no_kind : (m : ℕ) (k : PacketKind) → kind_marked m ≡ Unknown → marker_of k ≡ m → ⊥
-no_kind m k e x = let q : kind_marked m ≡ Kind k = rw x at (kind-marker k) in clash cc
+pub no_kind : (m : ℕ) (k : PacketKind) → kind_marked m ≡ None → marker_of k ≡ m → ⊥
+no_kind m k e x = let q : kind_marked m ≡ Some k = rw x at (kind-marker k) in clash cc
 
 pub one-marker : (j k : PacketKind) → marker_of j ≡ marker_of k → j ≡ k
-one-marker j k e = let q : kind_marked (marker_of k) ≡ Kind j = rw e at (kind-marker j) in let p = kind-marker k in cc
+one-marker j k e = let q : kind_marked (marker_of k) ≡ Some j = rw e at (kind-marker j) in let p = kind-marker k in cc
 
 -- ---- the parts of a key that was written: the marker is found from the end alone
 module _ (k : PacketKind) (c : List ℕ) (n : ℕ) where
@@ -70,10 +67,10 @@ module _ (k : PacketKind) (c : List ℕ) (n : ℕ) where
       big-at (c ++ (marker_of k ∷ [])) [] (length c + 1) 8 n (c ++ (marker_of k ∷ big_endian 8 n)) (simp (append_assoc, append-nil)) (rw length-append) (omega arith)
 
   -- ---- what was written is read
-  pub read-written : n < 2 ^ 64 → check_of client c ≡ 0 → packet_in (packet_key k c n) ≡ Key (packet k (length c) n)
+  pub read-written : n < 2 ^ 64 → check_of client c ≡ 0 → packet_in (packet_key k c n) ≡ Ok (packet k (length c) n)
   unfolding packet_in
   read-written h ok =
-      let marked : read_as (Kind k) (packet_key k c n) ≡ Key (packet k (length c) n) = rw (cut-there, client-there, eq-eqb (check_of client c) 0 ok, sequence-there h) in
+      let marked : read_as (Some k) (packet_key k c n) ≡ Ok (packet k (length c) n) = rw (cut-there, client-there, eq-eqb (check_of client c) 0 ok, sequence-there h) in
       rw (le-ltb (length (packet_key k c n)) 9 (omega (arith, key-length)), cut-there, marker-there, kind-marker k) marked
 
 -- no two different parts give one key
@@ -89,38 +86,38 @@ key_one j k c d m n a b e =
 -- what a key that reads has, and what is read
 pub record Reads (key : List ℕ) (p : PacketKey) : Type 0 where
   pub size : 9 ≤ length key
-  pub marked : kind_marked (marker_in key) ≡ Kind p.kind
+  pub marked : kind_marked (marker_in key) ≡ Some p.kind
   pub accepted : check_of client (client_in key) ≡ 0
   pub length-is : p.length ≡ cut_place key
   pub sequence-is : p.sequence.0 ≡ big_at (cut_place key + 1) 8 key
 
-pub key_reads : (key : List ℕ) (p : PacketKey) → packet_in key ≡ Key p → Reads key p
+pub key_reads : (key : List ℕ) (p : PacketKey) → packet_in key ≡ Ok p → Reads key p
 unfolding packet_in
 key_reads key p e = go (ltb (length key) 9) refl (kind_marked (marker_in key)) refl e
   where
     said : (k : PacketKind) → PacketKey
     said k = packet k (cut_place key) (big_at (cut_place key + 1) 8 key)
 
-    is : (k : PacketKind) → p ≡ said k → 9 ≤ length key → kind_marked (marker_in key) ≡ Kind k → check_of client (client_in key) ≡ 0 → Reads key p
+    is : (k : PacketKind) → p ≡ said k → 9 ≤ length key → kind_marked (marker_in key) ≡ Some k → check_of client (client_in key) ≡ 0 → Reads key p
     is k x size marked ok =
         record {
           size = size;
-          marked = marked ∙ ap (λ (q : PacketKey). Kind q.kind) (sym x);
+          marked = marked ∙ ap (λ (q : PacketKey). Some q.kind) (sym x);
           accepted = ok;
           length-is = ap (λ (q : PacketKey). q.length) x;
           sequence-is = ap (λ (q : PacketKey). q.sequence.0) x;
         }
 
-    checked : (k : PacketKind) → 9 ≤ length key → kind_marked (marker_in key) ≡ Kind k → (b : Bool) → eqb (check_of client (client_in key)) 0 ≡ b → cond b (Key (said k)) (Refused (check_of client (client_in key))) ≡ Key p → Reads key p
+    checked : (k : PacketKind) → 9 ≤ length key → kind_marked (marker_in key) ≡ Some k → (b : Bool) → eqb (check_of client (client_in key)) 0 ≡ b → cond b (Ok (said k)) (Err (check_of client (client_in key))) ≡ Ok p → Reads key p
     checked k x y false z q = clash cc
     checked k x y true z q = let e : p ≡ said k = cc in is k e x y (eqb-true (check_of client (client_in key)) 0 z)
 
-    go : (a : Bool) → ltb (length key) 9 ≡ a → (m : KindAnswer) → kind_marked (marker_in key) ≡ m → cond a (Refused 24) (read_as m key) ≡ Key p → Reads key p
+    go : (a : Bool) → ltb (length key) 9 ≡ a → (m : Option PacketKind) → kind_marked (marker_in key) ≡ m → cond a (Err 24) (read_as m key) ≡ Ok p → Reads key p
     go true x m y q = clash cc
-    go false x Unknown y q = clash cc
-    go false x (Kind k) y q = checked k (ltb-false (length key) 9 x) y (eqb (check_of client (client_in key)) 0) refl q
+    go false x None y q = clash cc
+    go false x (Some k) y q = checked k (ltb-false (length key) 9 x) y (eqb (check_of client (client_in key)) 0) refl q
 
-pub written_read : (key : List ℕ) (p : PacketKey) → Bytes key → packet_in key ≡ Key p → packet_key p.kind (take p.length key) p.sequence.0 ≡ key
+pub written_read : (key : List ℕ) (p : PacketKey) → Bytes key → packet_in key ≡ Ok p → packet_key p.kind (take p.length key) p.sequence.0 ≡ key
 unfolding packet_key
 written_read key p b e =
     let r = key_reads key p e in
@@ -131,5 +128,5 @@ written_read key p b e =
     rw (r.length-is, eight, ← nine) (take-append-drop n key)
 
 -- the sequence that is read fits a u64
-pub key-counted : (key : List ℕ) (p : PacketKey) → Bytes key → packet_in key ≡ Key p → p.sequence.0 < 2 ^ 64
+pub key-counted : (key : List ℕ) (p : PacketKey) → Bytes key → packet_in key ≡ Ok p → p.sequence.0 < 2 ^ 64
 key-counted key p b e = let r = key_reads key p e in let s = r.size in rw r.sequence-is (big-within (cut_place key + 1) 8 key b (omega arith))

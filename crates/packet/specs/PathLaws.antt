@@ -1,7 +1,7 @@
 -- No packet key is a path. It is cut at a `/` behind its marker at the earliest, so its first component has the marker, which no word of the
 -- table has; and behind that stand eight bytes at most, which is less than the last word of the two kinds that begin with any text.
 -- Assumes nothing.
-use Rattle.std.specs.Prelude.{◌≡◌, Bool, not, ◌||◌, leb, length, get_or}
+use Rattle.std.specs.Prelude.{◌≡◌, Bool, not, ◌||◌, leb, length, get_or, Err, Option, Some, None}
 use Rattle.std.proofs.Math.Path.{refl}
 use Rattle.std.proofs.Common.{sym, ap, ◌∙◌, arith}
 use Rattle.std.proofs.Math.Bool.{true, false, cond}
@@ -15,13 +15,12 @@ use Rattle.text.specs.Part.{every, ascii, same}
 use Rattle.text.specs.PartLaws.{and_left, and_right, every_append, same-is}
 use Rattle.identifiers.specs.Check.{check_of, client}
 use Rattle.identifiers.specs.CheckLaws.{accepted-no_slash, accepted-length}
-use Rattle.path.specs.declared.PathAnswer.{PathAnswer}
-use Rattle.path.specs.declared.PathAnswer.TheVariants.{Found, Nothing}
+use Rattle.path.specs.declared.Path.{Path}
 use Rattle.path.specs.declared.Refusal.{Refusal}
 use Rattle.path.specs.declared.Refusal.TheVariants.{TooLong, NotAscii, NotAPath, NoDigits, NotADigit, TooLarge}
-use Rattle.path.specs.declared.Reading.TheVariants.{Refused}
 use Rattle.path.specs.Text.{components, cut_at}
 use Rattle.path.specs.TextLaws.{every-all}
+use Rattle.path.specs.Reading.{Reading}
 use Rattle.path.specs.Kinds.{Part, word, name, count, pair, Kind, kinds}
 use Rattle.path.specs.Read.{fits, suits, fits_kind, suits_kind, read_first, why_not, read_path, refusal_of}
 use Rattle.path.specs.Reads.{Has}
@@ -167,12 +166,12 @@ module _ (k : PacketKind) (c : List ℕ) (n : ℕ) (ok : check_of client c ≡ 0
     no_suit : suits_kind e key ≡ true → ⊥
     no_suit h = none-suits suits suits-word e.parts c tail.0 (marker_of k) tail.1 (marker-low k) tail-short (kind-strange has) (ap (all_of suits e.parts) (sym key-cut) ∙ sym (kind-suits e key) ∙ h)
 
-  pub no-kind-fits : read_first kinds key ≡ Nothing
+  pub no-kind-fits : read_first kinds key ≡ None
   no-kind-fits = go (read_first kinds key) refl
     where
-      go : (a : PathAnswer) → read_first kinds key ≡ a → a ≡ Nothing
-      go Nothing h = refl
-      go (Found p) h = let r = is-reads key p h in absurd (no-fit r.listed r.fitting)
+      go : (a : Option Path) → read_first kinds key ≡ a → a ≡ None
+      go None h = refl
+      go (Some p) h = let r = is-reads key p h in absurd (no-fit r.listed r.fitting)
 
   pub no_number : why_not key ≡ NotAPath
   no_number = go (why_not key) refl
@@ -192,10 +191,10 @@ module _ (k : PacketKind) (c : List ℕ) (n : ℕ) (ok : check_of client c ≡ 0
   short-key = omega (arith, key-length k c n, (accepted-length client c ok).1)
 
   -- a packet key that is read as a path is refused: with 2 where a byte of its sequence is 128 or more, and else with 3
-  pub no_path : read_path key ≡ Refused (cond (ascii key) NotAPath NotAscii)
+  pub no_path : read_path key ≡ Err (cond (ascii key) NotAPath NotAscii)
   unfolding read_path
   no_path = rw (le-ltb 4096 (length key) short-key, no-kind-fits, no_number) (go (ascii key))
     where
-      go : (b : Bool) → cond b (Refused NotAPath) (Refused NotAscii) ≡ Refused (cond b NotAPath NotAscii)
+      go : (b : Bool) → ◌≡◌ {A = Reading} (cond b (Err NotAPath) (Err NotAscii)) (Err (cond b NotAPath NotAscii))
       go true = refl
       go false = refl

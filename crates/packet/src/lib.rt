@@ -1,11 +1,10 @@
 // Packet keys of IBC version 2: a client identifier, a marker byte, and a sequence in 8 bytes, high byte first.
 #![tactic(auto)]
 
-ghost use Rattle.std.specs.Prelude.{◌≡◌, ◌∷◌, ◌+◌, ◌≤◌, length};
+ghost use Rattle.std.specs.Prelude.{◌≡◌, ◌∷◌, ◌+◌, ◌≤◌, length, Some};
 ghost use Rattle.text.specs.Number.{big_endian};
 ghost use Rattle.text.specs.Put.{answer, left, Wrote};
 ghost use Rattle.path.specs.View.{Shows};
-ghost use Rattle.packet.specs.declared.KindAnswer.TheVariants.{Kind};
 ghost use Rattle.packet.specs.Key.{marker_of, kind_marked, packet_key, packet_in, write_as, packet_wanted, client_place, packet_of};
 
 use identifiers::validate::validate_client_identifier;
@@ -28,13 +27,6 @@ pub enum PacketKind {
     Acknowledgement,
 }
 
-// The kind of a marker byte, where there is one.
-#[derive(Clone, Copy)]
-pub enum KindAnswer {
-    Kind(PacketKind),
-    Unknown,
-}
-
 // What a packet key says. Its client is the first `length` bytes of the key.
 #[derive(Clone, Copy)]
 pub struct PacketKey {
@@ -43,14 +35,7 @@ pub struct PacketKey {
     pub sequence: Sequence,
 }
 
-// What the reader answers: what the key says, or a refusal by its number.
-#[derive(Clone, Copy)]
-pub enum PacketAnswer {
-    Key(PacketKey),
-    Refused(u8),
-}
-
-// The same as it crosses to C: 0 and what the key says, the kind by its marker, or a refusal and zeros.
+// What the reader answers, as it crosses to C: 0 and what the key says, the kind by its marker, or a refusal and zeros.
 #[repr(C)]
 #[derive(Clone, Copy)]
 pub struct Packet {
@@ -71,38 +56,34 @@ pub fn marker_of(kind: PacketKind) -> u8
     }
 }
 
-// The kind of a marker byte.
-pub fn kind_marked(marker: u8) -> KindAnswer
+// The kind of a marker byte, where there is one.
+pub fn kind_marked(marker: u8) -> Option<PacketKind>
     ensures { result ≡ kind_marked marker }
 {
-    if marker == COMMITMENT {
-        return KindAnswer::Kind(PacketKind::Commitment);
+    match marker {
+        COMMITMENT => Some(PacketKind::Commitment),
+        RECEIPT => Some(PacketKind::Receipt),
+        ACKNOWLEDGEMENT => Some(PacketKind::Acknowledgement),
+        _ => None,
     }
-    if marker == RECEIPT {
-        return KindAnswer::Kind(PacketKind::Receipt);
-    }
-    if marker == ACKNOWLEDGEMENT {
-        return KindAnswer::Kind(PacketKind::Acknowledgement);
-    }
-    KindAnswer::Unknown
 }
 
 // Reads a packet key. The last nine bytes are cut off first, and the client is what stands before them: 24, the client's 2, 5, 6.
-pub fn read_packet_key(key: &[u8]) -> PacketAnswer
+pub fn read_packet_key(key: &[u8]) -> Result<PacketKey, u8>
     ensures { result ≡ packet_in key.now }
 {
     if key.len() < 9 {
-        return PacketAnswer::Refused(BAD_V2_KEY);
+        return Err(BAD_V2_KEY);
     }
     let length = key.len() - 9;
-    let KindAnswer::Kind(kind) = kind_marked(key[length]) else {
-        return PacketAnswer::Refused(BAD_V2_KEY);
+    let Some(kind) = kind_marked(key[length]) else {
+        return Err(BAD_V2_KEY);
     };
     let refusal = validate_client_identifier(&key[0..length]);
     if refusal != 0 {
-        return PacketAnswer::Refused(refusal);
+        return Err(refusal);
     }
-    PacketAnswer::Key(PacketKey {
+    Ok(PacketKey {
         kind,
         length,
         sequence: Sequence(read_big_endian(key, length + 1, 8)),
@@ -110,10 +91,10 @@ pub fn read_packet_key(key: &[u8]) -> PacketAnswer
 }
 
 // The client of a key that was read, as a part of the key, no copy: the empty part at its start on a refusal.
-pub fn client_identifier(key: &[u8], answer: PacketAnswer) -> &[u8]
+pub fn client_identifier(key: &[u8], answer: Result<PacketKey, u8>) -> &[u8]
     ensures { Shows result key.entry (client_place answer) }
 {
-    let PacketAnswer::Key(packet) = answer else {
+    let Ok(packet) = answer else {
         return reading::part(key, Place { start: 0, len: 0 });
     };
     let len = packet.length;
@@ -121,11 +102,11 @@ pub fn client_identifier(key: &[u8], answer: PacketAnswer) -> &[u8]
 }
 
 // An answer as it crosses to C.
-pub fn packet_of(answer: PacketAnswer) -> Packet
+pub fn packet_of(answer: Result<PacketKey, u8>) -> Packet
     ensures { result ≡ packet_of answer }
 {
     match answer {
-        PacketAnswer::Key(p) => {
+        Ok(p) => {
             let kind = p.kind;
             Packet {
                 refusal: 0,
@@ -134,7 +115,7 @@ pub fn packet_of(answer: PacketAnswer) -> Packet
                 sequence: p.sequence.0,
             }
         }
-        PacketAnswer::Refused(refusal) => Packet {
+        Err(refusal) => Packet {
             refusal,
             kind: 0,
             length: 0,
@@ -163,8 +144,8 @@ fn put_key(out: &mut [u8], kind: PacketKind, client: &[u8], sequence: Sequence) 
 
 // Writes the packet key of a kind: the client's 2, 5, 6, then 4.
 fn write_kind(kind: PacketKind, client: &[u8], sequence: Sequence, out: &mut [u8]) -> Written
-    ensures value { result ≡ answer (write_as (Kind kind) client.now sequence.0) (length out.old) }
-    ensures out_after { out.new ≡ left (write_as (Kind kind) client.now sequence.0) out.old }
+    ensures value { result ≡ answer (write_as (Some kind) client.now sequence.0) (length out.old) }
+    ensures out_after { out.new ≡ left (write_as (Some kind) client.now sequence.0) out.old }
 {
     let refusal = validate_client_identifier(client);
     if refusal != 0 {
@@ -188,7 +169,7 @@ pub fn write_packet_key(kind: u8, client: &[u8], sequence: Sequence, out: &mut [
     ensures value { result ≡ answer (packet_wanted kind client.now sequence.0) (length out.old) }
     ensures out_after { out.new ≡ left (packet_wanted kind client.now sequence.0) out.old }
 {
-    let KindAnswer::Kind(k) = kind_marked(kind) else {
+    let Some(k) = kind_marked(kind) else {
         return Written {
             refusal: BAD_V2_KEY,
             length: 0,

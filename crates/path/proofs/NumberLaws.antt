@@ -1,18 +1,16 @@
 -- Laws of `Number`, behind those of `specs/NumberLaws`: a text that fits a kind has no bad number, and the place of a first fault marks what
 -- to mend. They stand here, since they rest on the definitions that an edit of must-fail/ turns.
 -- Assumes nothing.
-use Rattle.std.specs.Prelude.{ℕ, ◌+◌, ◌≤◌, ◌≡◌, refl, true, List, [], ◌∷◌, ◌++◌, eqb, length, drop}
+use Rattle.std.specs.Prelude.{ℕ, ◌+◌, ◌≤◌, ◌≡◌, refl, true, List, [], ◌∷◌, ◌++◌, eqb, length, drop, Option, Some, None, Ok, Err}
 use Rattle.std.proofs.Common.{sym, ap, subst, ◌∙◌, append_assoc, arith, length-append, length-drop, take-append-drop, take_at, drop_at, drop-drop}
 use Rattle.std.proofs.Math.Nat.{add-sub_cancel_left}
 use Rattle.text.specs.Fault.{has_place, numeral_fault, numeral_place}
 use Rattle.text.specs.FaultLaws.{number-mends}
-use Rattle.text.specs.Number.{numeral_of}
+use Rattle.text.specs.Number.{Numeral, numeral_of}
 use Rattle.text.specs.PartLaws.{and_left, and_right}
-use Rattle.text.specs.declared.Numeral.{Numeral}
-use Rattle.text.specs.declared.Numeral.TheVariants.{Value, NoDigits, NotADigit, TooLarge}
+use Rattle.text.specs.declared.NumberFault.TheVariants.{NoDigits, NotADigit, TooLarge}
 use Rattle.identifiers.specs.Check.{is_value}
-use Rattle.path.specs.declared.PathAnswer.{PathAnswer}
-use Rattle.path.specs.declared.PathAnswer.TheVariants.{Found, Nothing}
+use Rattle.path.specs.declared.Path.{Path}
 use Rattle.path.specs.declared.Refusal.{Refusal}
 use Rattle.path.specs.declared.Refusal.TheVariants.{NoDigits as WithoutDigits, NotADigit as WithoutDigit, TooLarge as AboveAll}
 use Rattle.path.specs.Text.{cut_at, join_by, component, place_at}
@@ -25,10 +23,8 @@ use Rattle.path.specs.NumberLaws.{Faulty}
 
 -- ---- a text that fits a kind has no bad number
 value_none : (i : ℕ) (x : Numeral) → is_value x ≡ true → numeral_faults i x ≡ []
-value_none i (Value v) h = refl
-value_none i (NoDigits j) h = let z : ◌≡◌ {A = ℕ} 0 1 = cc in absurd (omega arith)
-value_none i (NotADigit j) h = let z : ◌≡◌ {A = ℕ} 0 1 = cc in absurd (omega arith)
-value_none i (TooLarge j) h = let z : ◌≡◌ {A = ℕ} 0 1 = cc in absurd (omega arith)
+value_none i (Ok v) h = refl
+value_none i (Err fault) h = let z : ◌≡◌ {A = ℕ} 0 1 = cc in absurd (omega arith)
 
 pair-none : (i : ℕ) (cs : List (List ℕ)) → are_pair cs ≡ true → pair_faults i cs ≡ []
 pair-none i [] h = refl
@@ -64,12 +60,12 @@ fits-suits e t h = let f = and_right (eqb (component_count t) (length e.parts)) 
 
 -- ---- and a text with a first fault fits no kind
 module _ (t : List ℕ) (w : Refusal) where
-  pub faulty-unread : Faulty t w → read_first kinds t ≡ Nothing
+  pub faulty-unread : Faulty t w → read_first kinds t ≡ None
   faulty-unread x = go (read_first kinds t) refl
     where
-      go : (a : PathAnswer) → read_first kinds t ≡ a → a ≡ Nothing
-      go Nothing h = refl
-      go (Found p) h =
+      go : (a : Option Path) → read_first kinds t ≡ a → a ≡ None
+      go None h = refl
+      go (Some p) h =
           let r = is-reads t p h in
           let k = fits-suits r.kind t r.fitting in
           let e = suits-same t x.listed r.listed kinds-apart x.suiting k.0 in
@@ -113,10 +109,10 @@ numeral-marks : (t : List ℕ) (i : ℕ) (c : List ℕ) (w : Refusal) (others : 
 numeral-marks t i c w others s h = go (numeral_of c) refl h
   where
     go : (x : Numeral) → numeral_of c ≡ x → numeral_faults i x ≡ w ∷ others → Marks t w
-    go (Value v) e k = let z : ◌≡◌ {A = ℕ} 0 1 = cc in absurd (omega arith)
-    go (NoDigits j) e k = let z : WithoutDigits (i + j) ≡ w = cc in subst (Marks t) z (marks t i c (WithoutDigits (i + j)) s (rw e) (rw e) (rw e (λ f. omega arith)) refl)
-    go (NotADigit j) e k = let z : WithoutDigit (i + j) ≡ w = cc in subst (Marks t) z (marks t i c (WithoutDigit (i + j)) s (rw e) (rw e) (rw e (λ f. omega arith)) refl)
-    go (TooLarge j) e k = let z : AboveAll (i + j) ≡ w = cc in subst (Marks t) z (marks t i c (AboveAll (i + j)) s (rw e) (rw e) (rw e (λ f. omega arith)) refl)
+    go (Ok v) e k = let z : ◌≡◌ {A = ℕ} 0 1 = cc in absurd (omega arith)
+    go (Err (NoDigits j)) e k = let z : WithoutDigits (i + j) ≡ w = cc in subst (Marks t) z (marks t i c (WithoutDigits (i + j)) s (rw e) (rw e) (rw e (λ f. omega arith)) refl)
+    go (Err (NotADigit j)) e k = let z : WithoutDigit (i + j) ≡ w = cc in subst (Marks t) z (marks t i c (WithoutDigit (i + j)) s (rw e) (rw e) (rw e (λ f. omega arith)) refl)
+    go (Err (TooLarge j)) e k = let z : AboveAll (i + j) ≡ w = cc in subst (Marks t) z (marks t i c (AboveAll (i + j)) s (rw e) (rw e) (rw e (λ f. omega arith)) refl)
 
 -- the first of two lists of faults
 either-marks : (t : List ℕ) (fs gs : List Refusal) (w : Refusal) (others : List Refusal) → fs ++ gs ≡ w ∷ others

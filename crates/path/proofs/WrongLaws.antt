@@ -1,17 +1,15 @@
 -- What the reader computes of a bad number (`Faulty`) is what `NumberWrong` says of the text: one component is no number, and every other is
 -- what its part asks for. It rests on one test over the table: no kind has two numbers' parts.
 -- Assumes nothing.
-use Rattle.std.specs.Prelude.{ℕ, zero, suc, ◌+◌, ◌<◌, ◌≡◌, refl, Bool, true, false, cond, ◌&&◌, List, [], ◌∷◌, ◌++◌, map, eqb, length, get_or}
+use Rattle.std.specs.Prelude.{ℕ, zero, suc, ◌+◌, ◌<◌, ◌≡◌, refl, Bool, true, false, cond, ◌&&◌, List, [], ◌∷◌, ◌++◌, map, eqb, length, get_or, None, Ok, Err}
 use Rattle.std.proofs.Common.{sym, ap, ◌∙◌, append-nil, arith}
 use Rattle.std.proofs.Math.Path.{subst}
 use borrow.Author.Tests.{eqb-true, eq-eqb}
 use Rattle.text.specs.declared.Fault.{Fault}
-use Rattle.text.specs.declared.Numeral.{Numeral}
-use Rattle.text.specs.declared.Numeral.TheVariants.{Value, NoDigits, NotADigit, TooLarge}
+use Rattle.text.specs.declared.NumberFault.TheVariants.{NoDigits, NotADigit, TooLarge}
 use Rattle.text.specs.Fault.{has_place, numeral_fault, IsNumber}
-use Rattle.text.specs.Number.{numeral_of}
+use Rattle.text.specs.Number.{Numeral, numeral_of}
 use Rattle.text.specs.PartLaws.{and_left, and_right}
-use Rattle.path.specs.declared.PathAnswer.TheVariants.{Nothing}
 use Rattle.path.specs.declared.Refusal.{Refusal}
 use Rattle.path.specs.declared.Refusal.TheVariants.{TooLong, NotAscii, NotAPath, NoDigits as WithoutDigits, NotADigit as WithoutDigit, TooLarge as AboveAll}
 use Rattle.path.specs.Text.{cut_at, component, place_at}
@@ -70,19 +68,19 @@ numeral-wrong : (s : List ℕ) (i : ℕ) (w : Refusal) (others : List Refusal) �
 numeral-wrong s i w others h = go (numeral_of s) refl h
   where
     go : (x : Numeral) → numeral_of s ≡ x → numeral_faults i x ≡ w ∷ others → Wrong s i w
-    go (Value v) e k = let z : ◌≡◌ {A = ℕ} 0 1 = cc in absurd (omega arith)
-    go (NoDigits j) e k = let z : WithoutDigits (i + j) ≡ w = cc in record { no_number = value-clash s (NoDigits j) e (λ f. omega arith); number = rw (← z, e); place = rw (← z, e) }
-    go (NotADigit j) e k = let z : WithoutDigit (i + j) ≡ w = cc in record { no_number = value-clash s (NotADigit j) e (λ f. omega arith); number = rw (← z, e); place = rw (← z, e) }
-    go (TooLarge j) e k = let z : AboveAll (i + j) ≡ w = cc in record { no_number = value-clash s (TooLarge j) e (λ f. omega arith); number = rw (← z, e); place = rw (← z, e) }
+    go (Ok v) e k = let z : ◌≡◌ {A = ℕ} 0 1 = cc in absurd (omega arith)
+    go (Err (NoDigits j)) e k = let z : WithoutDigits (i + j) ≡ w = cc in record { no_number = value-clash s (Err (NoDigits j)) e (λ f. omega arith); number = rw (← z, e); place = rw (← z, e) }
+    go (Err (NotADigit j)) e k = let z : WithoutDigit (i + j) ≡ w = cc in record { no_number = value-clash s (Err (NotADigit j)) e (λ f. omega arith); number = rw (← z, e); place = rw (← z, e) }
+    go (Err (TooLarge j)) e k = let z : AboveAll (i + j) ≡ w = cc in record { no_number = value-clash s (Err (TooLarge j)) e (λ f. omega arith); number = rw (← z, e); place = rw (← z, e) }
 
 wrong_numeral : (s : List ℕ) (i : ℕ) (w : Refusal) → Wrong s i w → numeral_faults i (numeral_of s) ≡ w ∷ []
 wrong_numeral s i w x = go (numeral_of s) refl
   where
     go : (y : Numeral) → numeral_of s ≡ y → numeral_faults i y ≡ w ∷ []
-    go (Value v) e = absurd (x.no_number (v, e))
-    go (NoDigits j) e = ap (λ (v : Refusal). v ∷ []) (same-fault (WithoutDigits (i + j)) w refl (rw (x.number, e)) (sym (x.number ∙ rw e)) (sym (x.place ∙ rw e)))
-    go (NotADigit j) e = ap (λ (v : Refusal). v ∷ []) (same-fault (WithoutDigit (i + j)) w refl (rw (x.number, e)) (sym (x.number ∙ rw e)) (sym (x.place ∙ rw e)))
-    go (TooLarge j) e = ap (λ (v : Refusal). v ∷ []) (same-fault (AboveAll (i + j)) w refl (rw (x.number, e)) (sym (x.number ∙ rw e)) (sym (x.place ∙ rw e)))
+    go (Ok v) e = absurd (x.no_number (v, e))
+    go (Err (NoDigits j)) e = ap (λ (v : Refusal). v ∷ []) (same-fault (WithoutDigits (i + j)) w refl (rw (x.number, e)) (sym (x.number ∙ rw e)) (sym (x.place ∙ rw e)))
+    go (Err (NotADigit j)) e = ap (λ (v : Refusal). v ∷ []) (same-fault (WithoutDigit (i + j)) w refl (rw (x.number, e)) (sym (x.number ∙ rw e)) (sym (x.place ∙ rw e)))
+    go (Err (TooLarge j)) e = ap (λ (v : Refusal). v ∷ []) (same-fault (AboveAll (i + j)) w refl (rw (x.number, e)) (sym (x.number ∙ rw e)) (sym (x.place ∙ rw e)))
 
 -- ---- one component
 -- R's fault comes before that of h
@@ -92,10 +90,10 @@ pair-wrong c i (r ∷ []) w others e h = let z : ◌≡◌ {A = ℕ} 0 1 = cc in
 pair-wrong c i (r ∷ (k ∷ [])) w others e h = go (numeral_of r) refl h
   where
     go : (x : Numeral) → numeral_of r ≡ x → numeral_faults i x ++ numeral_faults (i + length r + 1) (numeral_of k) ≡ w ∷ others → BadNumber pair c i w
-    go (Value v) d q = behind_dash e (v, d) (numeral-wrong k (i + length r + 1) w others q)
-    go (NoDigits j) d q = let z : WithoutDigits (i + j) ≡ w = cc in before_dash e (numeral-wrong r i w [] (rw (d, z)))
-    go (NotADigit j) d q = let z : WithoutDigit (i + j) ≡ w = cc in before_dash e (numeral-wrong r i w [] (rw (d, z)))
-    go (TooLarge j) d q = let z : AboveAll (i + j) ≡ w = cc in before_dash e (numeral-wrong r i w [] (rw (d, z)))
+    go (Ok v) d q = behind_dash e (v, d) (numeral-wrong k (i + length r + 1) w others q)
+    go (Err (NoDigits j)) d q = let z : WithoutDigits (i + j) ≡ w = cc in before_dash e (numeral-wrong r i w [] (rw (d, z)))
+    go (Err (NotADigit j)) d q = let z : WithoutDigit (i + j) ≡ w = cc in before_dash e (numeral-wrong r i w [] (rw (d, z)))
+    go (Err (TooLarge j)) d q = let z : AboveAll (i + j) ≡ w = cc in before_dash e (numeral-wrong r i w [] (rw (d, z)))
 pair-wrong c i (r ∷ (k ∷ (x ∷ xs))) w others e h = let z : ◌≡◌ {A = ℕ} 0 1 = cc in absurd (omega arith)
 
 -- a bad number is the first fault of its component
@@ -223,7 +221,7 @@ module _ (t : List ℕ) (w : Refusal) where
   pub why-wrong : (w ≡ NotAPath → ⊥) → why_not t ≡ w → NumberWrong fits t w
   why-wrong n h = faulty-wrong (why_faulty t w n h)
 
-  pub wrong-unread : NumberWrong fits t w → read_first kinds t ≡ Nothing
+  pub wrong-unread : NumberWrong fits t w → read_first kinds t ≡ None
   wrong-unread x = faulty-unread t w (wrong_faulty x)
 
   pub wrong-marks : NumberWrong fits t w → Marks t w

@@ -1,17 +1,15 @@
 -- What fits a kind is ASCII, so that a text that is read need not be tested for it.
 -- Assumes nothing.
-use Rattle.std.specs.Prelude.{ℕ, ◌+◌, ◌^◌, ◌≡◌, refl, Bool, true, false, cond, ◌&&◌, List, [], ◌∷◌, eqb, ltb, leb}
+use Rattle.std.specs.Prelude.{ℕ, ◌+◌, ◌^◌, ◌≡◌, refl, Bool, true, false, cond, ◌&&◌, List, [], ◌∷◌, eqb, ltb, leb, Option, Some, None, Err}
 use Rattle.std.proofs.Common.{sym, ◌∙◌, arith, eqb-true, lt-ltb, leb-true}
 use Rattle.text.specs.Number.{is_digit, with_digit, digits_from, digits_at, numeral_of}
 use Rattle.text.specs.Part.{every, ascii}
 use Rattle.text.specs.PartLaws.{and_left, and_right, same-is}
-use Rattle.text.specs.declared.Numeral.TheVariants.{NotADigit, TooLarge}
+use Rattle.text.specs.declared.NumberFault.TheVariants.{NotADigit, TooLarge}
 use Rattle.identifiers.specs.Check.{unless, is_value}
 use Rattle.identifiers.specs.Check as check
 use Rattle.identifiers.specs.CheckLaws.{first-zero, unless-zero, accepted-ascii}
 use Rattle.path.specs.declared.Path.{Path}
-use Rattle.path.specs.declared.PathAnswer.{PathAnswer}
-use Rattle.path.specs.declared.PathAnswer.TheVariants.{Found, Nothing}
 use Rattle.path.specs.Text.{components, cut_at}
 use Rattle.path.specs.TextLaws.{every_in, every-join, join-cut}
 use Rattle.path.specs.Kinds.{Part, word, name, count, pair, Kind, kinds, kind18, kind19}
@@ -30,7 +28,7 @@ unfolding digits_from every
 digits_low v i [] h = refl
 digits_low v i (b ∷ s) h = go (is_digit b) refl (ltb (with_digit v b) (2 ^ 64)) h (digits_low (with_digit v b) (i + 1) s)
   where
-    go : (d : Bool) → is_digit b ≡ d → (l : Bool) → is_value (cond d (cond l (digits_from (with_digit v b) (i + 1) s) (TooLarge i)) (NotADigit i)) ≡ true
+    go : (d : Bool) → is_digit b ≡ d → (l : Bool) → is_value (cond d (cond l (digits_from (with_digit v b) (i + 1) s) (Err (TooLarge i))) (Err (NotADigit i))) ≡ true
         → (is_value (digits_from (with_digit v b) (i + 1) s) ≡ true → every low s ≡ true) → (low b && every low s) ≡ true
     go true e true k ih = rw (lt-ltb b 128 (omega (arith, leb-true b 57 (and_right (leb 48 b) _ e)))) (ih k)
     go true e false k ih = let z : ◌≡◌ {A = ℕ} 0 1 = cc in absurd (omega arith)
@@ -99,23 +97,23 @@ abbrev pub kinds_low : List Kind → Bool
 kinds_low [] = true
 kinds_low (e ∷ es) = parts_low e.parts && kinds_low es
 
-pub first-low : (es : List Kind) (t : List ℕ) (p : Path) → kinds_low es ≡ true → read_first es t ≡ Found p → ascii t ≡ true
+pub first-low : (es : List Kind) (t : List ℕ) (p : Path) → kinds_low es ≡ true → read_first es t ≡ Some p → ascii t ≡ true
 unfolding read_first read_kind
 first-low [] t p l h = let z : ◌≡◌ {A = ℕ} 0 1 = cc in absurd (omega arith)
 first-low (e ∷ es) t p l h = go (fits_kind e t) refl h (λ k. first-low es t p (and_right (parts_low e.parts) (kinds_low es) l) k)
   where
-    go : (v : Bool) → fits_kind e t ≡ v → or_else (cond v (Found (e.make (carried_from 0 e.parts t))) Nothing) (read_first es t) ≡ Found p
-        → (read_first es t ≡ Found p → ascii t ≡ true) → ascii t ≡ true
+    go : (v : Bool) → fits_kind e t ≡ v → or_else (cond v (Some (e.make (carried_from 0 e.parts t))) None) (read_first es t) ≡ Some p
+        → (read_first es t ≡ Some p → ascii t ≡ true) → ascii t ≡ true
     go true g k ih = kind-low e t (and_left (parts_low e.parts) (kinds_low es) l) g
     go false g k ih = ih k
 
 -- a text that is not ASCII is read as none of them
-pub none-high : (es : List Kind) (t : List ℕ) → kinds_low es ≡ true → ascii t ≡ false → Nothing ≡ read_first es t
+pub none-high : (es : List Kind) (t : List ℕ) → kinds_low es ≡ true → ascii t ≡ false → None ≡ read_first es t
 none-high es t l h = go (read_first es t) refl
   where
-    go : (a : PathAnswer) → read_first es t ≡ a → Nothing ≡ a
-    go (Found p) e = let y = first-low es t p l e in let z : ◌≡◌ {A = ℕ} 0 1 = cc in absurd (omega arith)
-    go Nothing e = refl
+    go : (a : Option Path) → read_first es t ≡ a → None ≡ a
+    go (Some p) e = let y = first-low es t p l e in let z : ◌≡◌ {A = ℕ} 0 1 = cc in absurd (omega arith)
+    go None e = refl
 
 pub kinds-low : kinds_low kinds ≡ true
 unfolding every kinds

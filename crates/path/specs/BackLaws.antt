@@ -1,28 +1,24 @@
 -- A rendering is read back: the same kind, with identifiers of the same bytes and the same numbers, and exact.
 -- Assumes nothing.
-use Rattle.std.specs.Prelude.{ℕ, ◌+◌, ◌≤◌, ◌<◌, ◌^◌, List, [], ◌∷◌, ◌++◌, map, Bool, not, ◌&&◌, length, get_or, drop}
+use Rattle.std.specs.Prelude.{ℕ, ◌+◌, ◌≤◌, ◌<◌, ◌^◌, List, [], ◌∷◌, ◌++◌, map, Bool, not, ◌&&◌, length, get_or, drop, Ok, Err, Option, Some, None}
 use Rattle.std.proofs.Math.Path.{◌≡◌, refl, sym, ap}
 use Rattle.std.proofs.Common.{◌∙◌, arith, add-one, drop_of_length-le, drop-cons}
 use Rattle.std.proofs.Math.Bool.{true, false, cond}
 use Rattle.std.proofs.Math.Dec.{eqb, ltb, leb}
 use borrow.Author.Tests.{eqb-true, eq-eqb, ne_eqb, lt-ltb, le-ltb, ltb-true, ltb-false, le-leb, leb-true}
-use Rattle.text.specs.Number.{numeral_of, decimal}
+use Rattle.text.specs.Number.{Numeral, numeral_of, decimal}
 use Rattle.text.specs.NumberLaws.{Digit, decimal-each, read-decimal, numeral-fits}
 use Rattle.text.specs.Part.{every, ascii, same}
 use Rattle.text.specs.PartLaws.{and_left, and_right, same-is, same_refl}
 use Rattle.text.specs.Put.{Wanted, refused, text, accepted}
-use Rattle.text.specs.declared.Numeral.{Numeral}
-use Rattle.text.specs.declared.Numeral.TheVariants.{Value, NoDigits, NotADigit, TooLarge}
 use Rattle.identifiers.specs.Check.{first, unless, identifier_byte, among, Rule, check_of}
 use Rattle.identifiers.specs.Check as check
 use Rattle.identifiers.specs.CheckLaws.{first-zero, first-none, unless-zero, accepted-ascii, accepted-bytes}
 use Rattle.path.specs.declared.Place.{Place}
 use Rattle.path.specs.declared.Path.{Path}
-use Rattle.path.specs.declared.PathAnswer.{PathAnswer}
-use Rattle.path.specs.declared.PathAnswer.TheVariants.{Found, Nothing}
 use Rattle.path.specs.declared.Refusal.TheVariants.{TooLong, NotAscii}
-use Rattle.path.specs.declared.Reading.{Reading}
-use Rattle.path.specs.declared.Reading.TheVariants.{Read, Refused}
+use Rattle.path.specs.ReadingLaws.{read-same}
+use Rattle.path.specs.Reading.{Reading, Read}
 use Rattle.path.specs.Text.{components, component, cut_at, join_by, join, place_at, part_of}
 use Rattle.path.specs.TextLaws.{part-component, without, all_without, cut-join, every_append, every-all, every-both, every_in, every-join}
 use Rattle.path.specs.Kinds.{Part, word, name, count, pair, Carried, Kind, kinds, name_in, set_name}
@@ -202,7 +198,7 @@ module _ {e : Kind} (m : Has kinds e) (v : Carried (List ℕ)) (a : v.a < 2 ^ 64
   unfolding render ascii
   kind-ascii = every-join (λ b. ltb b 128) 47 (shown e.parts v) refl (plain-ascii (shown e.parts v) kind-plain)
 
-  kind-read : read_first kinds whole ≡ Found back
+  kind-read : read_first kinds whole ≡ Some back
   kind-read = read_has whole m kinds-apart (kind_fits e whole ∙ rw kind-cut (shown-fits e.parts v a b ok))
 
   kind-texts : texts_of whole (carried_of back) ≡ only e.parts v
@@ -253,20 +249,19 @@ module _ (x : List ℕ) (p : Path) (ok : Valid (kind_of p) (texts_of x (carried_
 
 -- ---- what is read
 module _ (t : List ℕ) (p : Path) (e : Bool) (h : read_path t ≡ Read p e) where
-  opened : (length t ≤ 4096) × (ascii t ≡ true) × (read_first kinds t ≡ Found p) × (e ≡ same t (render_path t p))
+  opened : (length t ≤ 4096) × (ascii t ≡ true) × (read_first kinds t ≡ Some p) × (e ≡ same t (render_path t p))
   unfolding read_path
   opened = go (ltb 4096 (length t)) refl (ascii t) refl (read_first kinds t) refl h
     where
-      go : (u : Bool) → ltb 4096 (length t) ≡ u → (w : Bool) → ascii t ≡ w → (x : PathAnswer) → read_first kinds t ≡ x
-          → cond u (Refused TooLong) (cond w (reading_of t x) (Refused NotAscii)) ≡ Read p e
-          → (length t ≤ 4096) × (ascii t ≡ true) × (read_first kinds t ≡ Found p) × (e ≡ same t (render_path t p))
+      go : (u : Bool) → ltb 4096 (length t) ≡ u → (w : Bool) → ascii t ≡ w → (x : Option Path) → read_first kinds t ≡ x
+          → cond u (Err TooLong) (cond w (reading_of t x) (Err NotAscii)) ≡ Read p e
+          → (length t ≤ 4096) × (ascii t ≡ true) × (read_first kinds t ≡ Some p) × (e ≡ same t (render_path t p))
       go true a w b x c k = let z : ◌≡◌ {A = ℕ} 0 1 = cc in absurd (omega arith)
       go false a false b x c k = let z : ◌≡◌ {A = ℕ} 0 1 = cc in absurd (omega arith)
-      go false a true b Nothing c k = let z : ◌≡◌ {A = ℕ} 0 1 = cc in absurd (omega arith)
-      go false a true b (Found q) c k =
-          let z : q ≡ p = cc in
-          let s : same t (render_path t q) ≡ e = cc in
-          (ltb-false 4096 (length t) a, b, c ∙ ap Found z, sym (rw z at s))
+      go false a true b None c k = let z : ◌≡◌ {A = ℕ} 0 1 = cc in absurd (omega arith)
+      go false a true b (Some q) c k =
+          let z = read-same q p (same t (render_path t q)) e k in
+          (ltb-false 4096 (length t) a, b, c ∙ ap Some z.0, sym (rw z.0 at z.1))
 
   pub read_short : length t ≤ 4096
   read_short = opened.0
@@ -303,10 +298,8 @@ pub number_u64 : (c : List ℕ) → number_in c < 2 ^ 64
 number_u64 c = go (numeral_of c) refl
   where
     go : (x : Numeral) → numeral_of c ≡ x → value_of x < 2 ^ 64
-    go (Value n) e = numeral-fits c n e
-    go (NoDigits i) e = omega arith
-    go (NotADigit i) e = omega arith
-    go (TooLarge i) e = omega arith
+    go (Ok n) e = numeral-fits c n e
+    go (Err fault) e = omega arith
 
 name-keeps : (n : Name) (p : Place) (v : Carried Place) → ((set_name n p v).a ≡ v.a) × ((set_name n p v).b ≡ v.b)
 name-keeps client p v = (refl, refl)
@@ -357,9 +350,7 @@ reads_as-renders {t} r = rw (← r.kind, ← r.carried) (exact-renders t r.path 
 
 pub reads_as-one : {t : List ℕ} {j k : ℕ} {v w : Carried (List ℕ)} → ReadsAs t j v → ReadsAs t k w → (j ≡ k) × (v ≡ w)
 reads_as-one {t} r s =
-    let a = r.read in
-    let b = s.read in
-    let e : r.path ≡ s.path = cc in
+    let e = (read-same r.path s.path true true (sym r.read ∙ s.read)).0 in
     (sym r.kind ∙ ap kind_of e ∙ s.kind, sym r.carried ∙ ap (λ (x : Path). texts_of t (carried_of x)) e ∙ s.carried)
 
 -- valid paths with one rendering are one path
@@ -378,8 +369,8 @@ unfolding key_of
 key-read t w h = go (read_path t) refl h
   where
     go : (x : Reading) → read_path t ≡ x → key_by t x ≡ text w → (p : Path) × (e : Bool) × (read_path t ≡ Read p e) × (w ≡ render_path t p)
-    go (Read p e) r k = let z : w ≡ render_path t p = cc in (p, e, r, z)
-    go (Refused n) r k = let z : ◌≡◌ {A = ℕ} 0 1 = cc in absurd (omega arith)
+    go (Ok found) r k = let z : w ≡ render_path t found.path = cc in (found.path, found.exact, r, z)
+    go (Err n) r k = let z : ◌≡◌ {A = ℕ} 0 1 = cc in absurd (omega arith)
 
 -- it reads exact, and is its own key
 pub key-exact : (t w : List ℕ) → key_of t ≡ text w → (q : Path) × (read_path w ≡ Read q true) × (key_of w ≡ text w)

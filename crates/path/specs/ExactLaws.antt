@@ -1,16 +1,14 @@
 -- A rendering is no longer than the text that it was read from, and it is that text where it is as long: the reader decides the exact mark by lengths.
 -- Assumes nothing.
-use Rattle.std.specs.Prelude.{ℕ, suc, ◌+◌, ◌≤◌, ◌<◌, ◌≡◌, refl, List, [], ◌∷◌, ◌++◌, map, Bool, true, false, ◌&&◌, eqb, length, get_or, drop}
+use Rattle.std.specs.Prelude.{ℕ, suc, ◌+◌, ◌≤◌, ◌<◌, ◌≡◌, refl, List, [], ◌∷◌, ◌++◌, map, Bool, true, false, ◌&&◌, eqb, length, get_or, drop, Ok, Err}
 use Rattle.std.proofs.Common.{sym, ap, ◌∙◌, le_refl, add-one, length-append, length-drop, drop_of_length-le, drop-cons}
 use Rattle.std.proofs.Math.Bool.{and-true}
 use native.Mathlib.Omega.{arith}
 use borrow.Author.Tests.{eqb-true, eqb-false, eq-eqb, ne_eqb}
-use Rattle.text.specs.Number.{numeral_of, decimal}
+use Rattle.text.specs.Number.{Numeral, numeral_of, decimal}
 use Rattle.text.specs.NumberLaws.{NoLonger, decimal-no-longer}
 use Rattle.text.specs.Part.{same}
 use Rattle.text.specs.PartLaws.{and_left, and_right, same-is, same_refl, same_not}
-use Rattle.text.specs.declared.Numeral.{Numeral}
-use Rattle.text.specs.declared.Numeral.TheVariants.{Value, NoDigits, NotADigit, TooLarge}
 use Rattle.identifiers.specs.Check.{is_value}
 use Rattle.path.specs.declared.Place.{Place}
 use Rattle.path.specs.declared.Path.{Path}
@@ -33,11 +31,9 @@ no-longer-append x a b c d l m =
     (simp length-append (omega arith), λ e. let s : length a + suc (length b) ≡ length c + suc (length d) = simp length-append at e in rw (l.1 (omega arith), m.1 (omega arith)))
 
 -- ---- one component
-pub value-is : (x : Numeral) → is_value x ≡ true → x ≡ Value (value_of x)
-value-is (Value n) h = refl
-value-is (NoDigits i) h = let z : ◌≡◌ {A = ℕ} 0 1 = cc in absurd (omega arith)
-value-is (NotADigit i) h = let z : ◌≡◌ {A = ℕ} 0 1 = cc in absurd (omega arith)
-value-is (TooLarge i) h = let z : ◌≡◌ {A = ℕ} 0 1 = cc in absurd (omega arith)
+pub value-is : (x : Numeral) → is_value x ≡ true → x ≡ Ok (value_of x)
+value-is (Ok n) h = refl
+value-is (Err fault) h = let z : ◌≡◌ {A = ℕ} 0 1 = cc in absurd (omega arith)
 
 number-no-longer : (c : List ℕ) → is_number c ≡ true → NoLonger (decimal (number_in c)) c
 number-no-longer c h = decimal-no-longer c (number_in c) (value-is (numeral_of c) h)

@@ -11,7 +11,7 @@ use Rattle.identifiers.specs.Check.{among, identifier_byte, chars_of, within, in
 use Rattle.identifiers.specs.Check as check
 use Rattle.identifiers.specs.CheckLaws.{first-zero, accepted-length}
 use Rattle.path.specs.declared.Path.{Path}
-use Rattle.path.specs.declared.Reading.TheVariants.{Read}
+use Rattle.path.specs.Reading.{Read}
 use Rattle.path.specs.Text.{join_by}
 use Rattle.path.specs.Kinds.{Part, word, name, count, pair, Carried, carried, kinds, name_in}
 use Rattle.path.specs.declared.name.Name.{Name}

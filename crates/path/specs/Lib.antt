@@ -13,6 +13,8 @@ pub mod Pair
 pub mod Parents
 pub mod PlaceLaws
 pub mod Read
+pub mod Reading
+pub mod ReadingLaws
 pub mod Reads
 pub mod ReadLaws
 pub mod Revision

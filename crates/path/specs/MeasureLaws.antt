@@ -83,6 +83,12 @@ first-both r zero x y e h = absurd (omega arith)
 first-both r (suc zero) x y e h = absurd (omega arith)
 first-both r (suc (suc n)) x y e h = omega arith
 
--- ---- a table of the code that has a number for each kind: the bytes of its words, its identifiers, its numbers
-pub at-kind : (g : List Part → ℕ) (k : ℕ) → 1 ≤ k → k ≤ 19 → get_or (map (λ j. g (parts_of j)) (span 1 19)) (k - 1) 0 ≡ g (parts_of k)
-at-kind g k low high = agree_at (λ k. get_or (map (λ j. g (parts_of j)) (span 1 19)) (k - 1) 0) (λ k. g (parts_of k)) 1 19 refl k low (omega arith)
+-- ---- the table of the code, which has a row for each kind: the bytes of its words, its identifiers, its numbers
+abbrev pub sizes : List Part → ℕ × ℕ × ℕ
+sizes ps = (fixed ps, name_count ps, number_count ps)
+
+abbrev pub row_at : ℕ → ℕ × ℕ × ℕ
+row_at i = get_or (map (λ j. sizes (parts_of j)) (span 1 19)) i (0, 0, 0)
+
+pub at-kind : (k : ℕ) → 1 ≤ k → k ≤ 19 → row_at (k - 1) ≡ sizes (parts_of k)
+at-kind k low high = agree_at (λ k. row_at (k - 1)) (λ k. sizes (parts_of k)) 1 19 refl k low (omega arith)

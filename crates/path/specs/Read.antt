@@ -1,23 +1,19 @@
 -- Reading and rendering, both from the table of kinds.
 -- Assumes nothing.
-use Rattle.std.specs.Prelude.{ℕ, ◌+◌, ◌-◌, Bool, true, false, cond, not, ◌&&◌, List, [], ◌∷◌, ◌++◌, map, eqb, ltb, leb, length, get_or}
-use Rattle.text.specs.Number.{numeral_of, decimal, big_endian}
+use Rattle.std.specs.Prelude.{ℕ, ◌+◌, ◌-◌, Bool, true, false, cond, not, ◌&&◌, List, [], ◌∷◌, ◌++◌, map, eqb, ltb, leb, length, get_or, Ok, Err, Option, Some, None}
+use Rattle.text.specs.Number.{numeral_of, decimal, big_endian, Numeral}
 use Rattle.text.specs.Part.{every, ascii, same}
 use Rattle.text.specs.Refusal.{too_long, not_ascii, not_a_path, bad_segment, bad_kind, no_digits, not_a_digit, too_large}
 use Rattle.text.specs.Put.{Wanted, refused, text, accepted, answer}
 use Rattle.text.specs.declared.Fault.{Fault}
-use Rattle.text.specs.declared.Numeral.{Numeral}
-use Rattle.text.specs.declared.Numeral.TheVariants.{Value, NoDigits, NotADigit, TooLarge}
+use Rattle.text.specs.declared.NumberFault.TheVariants.{NoDigits, NotADigit, TooLarge}
 use Rattle.identifiers.specs.Check.{first, unless, is_value, check_of}
 use Rattle.identifiers.specs.Check as check
 use Rattle.path.specs.declared.Place.{Place}
 use Rattle.path.specs.declared.Path.{Path}
-use Rattle.path.specs.declared.PathAnswer.{PathAnswer}
-use Rattle.path.specs.declared.PathAnswer.TheVariants.{Found, Nothing}
 use Rattle.path.specs.declared.Refusal.{Refusal}
 use Rattle.path.specs.declared.Refusal.TheVariants.{TooLong, NotAscii, NotAPath, NoDigits as WithoutDigits, NotADigit as WithoutDigit, TooLarge as AboveAll}
-use Rattle.path.specs.declared.Reading.{Reading}
-use Rattle.path.specs.declared.Reading.TheVariants.{Read, Refused}
+use Rattle.path.specs.Reading.{Reading, Read}
 use Rattle.path.specs.Text.{components, component, cut_at, join, place_at, nowhere, part_of}
 use Rattle.path.specs.Kinds.{Part, word, name, count, pair, Carried, carried, name_in, set_name, Kind, kinds}
 use Rattle.path.specs.declared.name.Name.{Name}
@@ -35,10 +31,8 @@ name_fault upgrade c = first (unless not_ascii (ascii c)) (unless bad_segment (e
 
 -- the value of a number text, 0 where it is none
 abbrev pub value_of : Numeral → ℕ
-value_of (Value n) = n
-value_of (NoDigits i) = 0
-value_of (NotADigit i) = 0
-value_of (TooLarge i) = 0
+value_of (Ok n) = n
+value_of (Err fault) = 0
 
 abbrev pub is_number : List ℕ → Bool
 is_number c = is_value (numeral_of c)
@@ -87,16 +81,16 @@ component_count t = length (components t)
 unfoldable pub fits_kind : Kind → List ℕ → Bool
 fits_kind e t = eqb (component_count t) (length e.parts) && fit_from 0 e.parts t
 
-unfoldable pub read_kind : Kind → List ℕ → PathAnswer
-read_kind e t = cond (fits_kind e t) (Found (e.make (carried_from 0 e.parts t))) Nothing
+unfoldable pub read_kind : Kind → List ℕ → Option Path
+read_kind e t = cond (fits_kind e t) (Some (e.make (carried_from 0 e.parts t))) None
 
-abbrev pub or_else : PathAnswer → PathAnswer → PathAnswer
-or_else (Found p) x = Found p
-or_else Nothing x = x
+abbrev pub or_else : Option Path → Option Path → Option Path
+or_else (Some p) x = Some p
+or_else None x = x
 
 -- the first kind that fits. (No text fits two: ReadLaws)
-unfoldable pub read_first : List Kind → List ℕ → PathAnswer
-read_first [] t = Nothing
+unfoldable pub read_first : List Kind → List ℕ → Option Path
+read_first [] t = None
 read_first (e ∷ es) t = or_else (read_kind e t) (read_first es t)
 
 -- ---- what was wrong with the number
@@ -113,10 +107,10 @@ suits_kind e t = eqb (component_count t) (length e.parts) && all_from suits 0 e.
 
 -- the fault of a number text whose first byte stands at i, if it has one
 abbrev pub numeral_faults : ℕ → Numeral → List Refusal
-numeral_faults i (Value n) = []
-numeral_faults i (NoDigits j) = WithoutDigits (i + j) ∷ []
-numeral_faults i (NotADigit j) = WithoutDigit (i + j) ∷ []
-numeral_faults i (TooLarge j) = AboveAll (i + j) ∷ []
+numeral_faults i (Ok n) = []
+numeral_faults i (Err (NoDigits j)) = WithoutDigits (i + j) ∷ []
+numeral_faults i (Err (NotADigit j)) = WithoutDigit (i + j) ∷ []
+numeral_faults i (Err (TooLarge j)) = AboveAll (i + j) ∷ []
 
 -- those of R-h, where there is exactly one dash
 abbrev pub pair_faults : ℕ → List (List ℕ) → List Refusal
@@ -213,21 +207,21 @@ abbrev pub as_fault : Refusal → Fault
 as_fault w = record { refusal = refusal_of w; place = place_of w }
 
 abbrev pub number_of : Reading → ℕ
-number_of (Read p e) = 0
-number_of (Refused w) = refusal_of w
+number_of (Ok r) = 0
+number_of (Err w) = refusal_of w
 
 -- a reading is exact where its rendering is the text
-abbrev pub reading_of : List ℕ → PathAnswer → Reading
-reading_of t (Found p) = Read p (same t (render_path t p))
-reading_of t Nothing = Refused (why_not t)
+abbrev pub reading_of : List ℕ → Option Path → Reading
+reading_of t (Some p) = Read p (same t (render_path t p))
+reading_of t None = Err (why_not t)
 
 unfoldable pub read_path : List ℕ → Reading
-read_path t = cond (ltb 4096 (length t)) (Refused TooLong) (cond (ascii t) (reading_of t (read_first kinds t)) (Refused NotAscii))
+read_path t = cond (ltb 4096 (length t)) (Err TooLong) (cond (ascii t) (reading_of t (read_first kinds t)) (Err NotAscii))
 
 -- the rendering of a text, its key
 abbrev pub key_by : List ℕ → Reading → Wanted
-key_by t (Read p e) = text (render_path t p)
-key_by t (Refused r) = refused (refusal_of r)
+key_by t (Ok r) = text (render_path t r.path)
+key_by t (Err r) = refused (refusal_of r)
 
 unfoldable pub key_of : List ℕ → Wanted
 key_of t = key_by t (read_path t)
@@ -237,16 +231,16 @@ abbrev pub place_bytes : Place → List ℕ
 place_bytes p = big_endian 2 p.start ++ big_endian 2 p.len
 
 abbrev pub bytes_by : Reading → Wanted
-bytes_by (Read p e) = text (kind_of p ∷ cond e 1 0 ∷ (place_bytes (carried_of p).first ++ (place_bytes (carried_of p).second ++ (big_endian 8 (carried_of p).a ++ big_endian 8 (carried_of p).b))))
-bytes_by (Refused r) = refused (refusal_of r)
+bytes_by (Ok r) = text (kind_of r.path ∷ cond r.exact 1 0 ∷ (place_bytes (carried_of r.path).first ++ (place_bytes (carried_of r.path).second ++ (big_endian 8 (carried_of r.path).a ++ big_endian 8 (carried_of r.path).b))))
+bytes_by (Err r) = refused (refusal_of r)
 
 unfoldable pub reading_bytes : List ℕ → Wanted
 reading_bytes t = bytes_by (read_path t)
 
 -- what the reader for the node answers, where its buffer has that much room
 abbrev pub read_place : Reading → ℕ
-read_place (Read p e) = 0
-read_place (Refused w) = place_of w
+read_place (Ok r) = 0
+read_place (Err w) = place_of w
 
 unfoldable pub read_fault : List ℕ → ℕ → Fault
 read_fault t room = record { refusal = (answer (reading_bytes t) room).refusal; place = read_place (read_path t) }

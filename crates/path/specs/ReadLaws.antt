@@ -1,9 +1,8 @@
 -- No text fits two kinds, so the order of the table does not matter and what is read is one. And what a kind makes shows its number, its parts and what it was made of.
 -- Assumes nothing.
-use Rattle.std.specs.Prelude.{ℕ, zero, suc, ◌+◌, ◌-◌, ◌≤◌, ◌<◌, ◌≡◌, refl, Bool, true, false, not, cond, ◌&&◌, ◌||◌, eqb, leb, length, get_or, drop}
+use Rattle.std.specs.Prelude.{ℕ, zero, suc, ◌+◌, ◌-◌, ◌≤◌, ◌<◌, ◌≡◌, refl, Bool, true, false, not, cond, ◌&&◌, ◌||◌, eqb, leb, length, get_or, drop, Option, Some, None}
 use Rattle.std.proofs.Common.{sym, ap, ◌∙◌, arith, add-one, drop_of_length-le, drop-cons, eqb-true, leb-true}
 use mathlib.Core.List.{List, [], ◌∷◌, map}
-use Rattle.std.proofs.Math.Option.{Option, none, some}
 use Rattle.std.proofs.Math.Bool.{and-false}
 use Rattle.std.proofs.Math.Decide.{dec_lt}
 use Rattle.std.proofs.lemmas.Bool.{not-true, eqb-false}
@@ -12,7 +11,6 @@ use Rattle.text.specs.PartLaws.{and_left, and_right, same-is, same_refl}
 use Rattle.path.specs.declared.Place.{Place}
 use Rattle.path.specs.declared.Path.{Path}
 use Rattle.path.specs.declared.Path.TheVariants.{NextClientSequence, NextConnectionSequence, NextChannelSequence, ClientState, ClientConsensusState, ClientUpdateTime, ClientUpdateHeight, ClientConnection, Connection, Ports, ChannelEnd, SeqSend, SeqRecv, SeqAck, Commitment, Ack, Receipt, UpgradeClientState, UpgradeConsensusState}
-use Rattle.path.specs.declared.PathAnswer.TheVariants.{Found, Nothing}
 use Rattle.path.specs.Text.{components}
 use Rattle.path.specs.Kinds.{Part, word, name, count, pair, Carried, Kind, kinds, kind1}
 use Rattle.path.specs.Read.{fits, suits, carried_from, all_from, component_count, fits_kind, suits_kind, read_kind, or_else, read_first, parts_of}
@@ -51,16 +49,16 @@ kind-suits e t = all-kind suits e t
 
 -- ---- two lists of parts that no text fits: another number of parts, or two different words at one place
 abbrev word_of : Part → Option (List ℕ)
-word_of (word w) = some w
-word_of (name n) = none
-word_of count = none
-word_of pair = none
+word_of (word w) = Some w
+word_of (name n) = None
+word_of count = None
+word_of pair = None
 
 abbrev differ_by : Option (List ℕ) → Option (List ℕ) → Bool
-differ_by (some v) (some w) = not (same v w)
-differ_by (some v) none = false
-differ_by none (some w) = false
-differ_by none none = false
+differ_by (Some v) (Some w) = not (same v w)
+differ_by (Some v) None = false
+differ_by None (Some w) = false
+differ_by None None = false
 
 abbrev clash : List Part → List Part → Bool
 clash [] [] = false
@@ -70,7 +68,7 @@ clash (p ∷ ps) (q ∷ qs) = differ_by (word_of p) (word_of q) || clash ps qs
 
 -- a test that asks of a word to be that word
 module _ (f : Part → List ℕ → Bool) (words : (w c : List ℕ) → f (word w) c ≡ same c w) where
-  word-is : (p : Part) (w c : List ℕ) → word_of p ≡ some w → f p c ≡ true → c ≡ w
+  word-is : (p : Part) (w c : List ℕ) → word_of p ≡ Some w → f p c ≡ true → c ≡ w
   word-is (word v) w c e g = let z : v ≡ w = cc in same-is c v (sym (words v c) ∙ g) ∙ z
   word-is (name n) w c e g = let z : ◌≡◌ {A = ℕ} 0 1 = cc in absurd (omega arith)
   word-is count w c e g = let z : ◌≡◌ {A = ℕ} 0 1 = cc in absurd (omega arith)
@@ -80,14 +78,14 @@ module _ (f : Part → List ℕ → Bool) (words : (w c : List ℕ) → f (word 
   differ-both p q c d g h = go (word_of p) refl (word_of q) refl d
     where
       go : (x : Option (List ℕ)) → word_of p ≡ x → (y : Option (List ℕ)) → word_of q ≡ y → differ_by x y ≡ true → ⊥
-      go (some v) e (some w) i k =
+      go (Some v) e (Some w) i k =
           let one : v ≡ w = sym (word-is p v c e g) ∙ word-is q w c i h in
           let n : same v w ≡ false = not-true (same v w) k in
           let y : same v w ≡ true = rw one (same_refl w) in
           let z : ◌≡◌ {A = ℕ} 0 1 = cc in omega arith
-      go (some v) e none i k = let z : ◌≡◌ {A = ℕ} 0 1 = cc in omega arith
-      go none e (some w) i k = let z : ◌≡◌ {A = ℕ} 0 1 = cc in omega arith
-      go none e none i k = let z : ◌≡◌ {A = ℕ} 0 1 = cc in omega arith
+      go (Some v) e None i k = let z : ◌≡◌ {A = ℕ} 0 1 = cc in omega arith
+      go None e (Some w) i k = let z : ◌≡◌ {A = ℕ} 0 1 = cc in omega arith
+      go None e None i k = let z : ◌≡◌ {A = ℕ} 0 1 = cc in omega arith
 
   clash-both : (ps qs : List Part) (cs : List (List ℕ)) → clash ps qs ≡ true → all_of f ps cs ≡ true → all_of f qs cs ≡ true → ⊥
   clash-both [] [] cs d g h = let z : ◌≡◌ {A = ℕ} 0 1 = cc in omega arith
@@ -130,14 +128,14 @@ clash-has x (here {e} {es}) h = and_left (clash x.parts e.parts) (clash_all x es
 clash-has x (later {e} {x = y} {es} m) h = clash-has x m (and_right (clash x.parts y.parts) (clash_all x es) h)
 
 -- a kind that fits is what is read
-pub read_has : {es : List Kind} {e : Kind} (t : List ℕ) → Has es e → apart_all es ≡ true → fits_kind e t ≡ true → read_first es t ≡ Found (e.make (carried_from 0 e.parts t))
+pub read_has : {es : List Kind} {e : Kind} (t : List ℕ) → Has es e → apart_all es ≡ true → fits_kind e t ≡ true → read_first es t ≡ Some (e.make (carried_from 0 e.parts t))
 unfolding read_first read_kind
 read_has t here a f = rw f
 read_has t (later {e} {x} {es} m) a f =
     go (fits_kind x t) refl (read_has t m (and_right (clash_all x es) (apart_all es) a) f)
   where
-    go : (v : Bool) → fits_kind x t ≡ v → read_first es t ≡ Found (e.make (carried_from 0 e.parts t))
-        → or_else (cond v (Found (x.make (carried_from 0 x.parts t))) Nothing) (read_first es t) ≡ Found (e.make (carried_from 0 e.parts t))
+    go : (v : Bool) → fits_kind x t ≡ v → read_first es t ≡ Some (e.make (carried_from 0 e.parts t))
+        → or_else (cond v (Some (x.make (carried_from 0 x.parts t))) None) (read_first es t) ≡ Some (e.make (carried_from 0 e.parts t))
     go true g ih =
         let d = clash-has x m (and_left (clash_all x es) (apart_all es) a) in
         absurd (clash-both fits fits_word x.parts e.parts (components t) d (sym (kind_fits x t) ∙ g) (sym (kind_fits e t) ∙ f))
@@ -155,8 +153,8 @@ suits-same t (later m) (here {e}) a f g = absurd (suits-clash e t m a g f)
 suits-same t (later {x = y} {es = es} m) (later n) a f g = suits-same t m n (and_right (clash_all y es) (apart_all es) a) f g
 
 -- ---- the relation and the function
-pub reads-is : {t : List ℕ} {p : Path} → Reads t p → read_first kinds t ≡ Found p
-reads-is {t} {p} r = read_has t r.listed kinds-apart r.fitting ∙ ap Found (sym r.made)
+pub reads-is : {t : List ℕ} {p : Path} → Reads t p → read_first kinds t ≡ Some p
+reads-is {t} {p} r = read_has t r.listed kinds-apart r.fitting ∙ ap Some (sym r.made)
 
 -- it is one
 pub reads_one : {t : List ℕ} {p q : Path} → Reads t p → Reads t q → p ≡ q
@@ -166,17 +164,17 @@ reads_one r s = let a = reads-is r in let b = reads-is s in cc
 abbrev First : List Kind → List ℕ → Path → Type 0
 First es t p = (e : Kind) × Has es e × (fits_kind e t ≡ true) × (p ≡ e.make (carried_from 0 e.parts t))
 
-from_first : (es : List Kind) (t : List ℕ) (p : Path) → read_first es t ≡ Found p → First es t p
+from_first : (es : List Kind) (t : List ℕ) (p : Path) → read_first es t ≡ Some p → First es t p
 unfolding read_first read_kind
 from_first [] t p h = let z : ◌≡◌ {A = ℕ} 0 1 = cc in absurd (omega arith)
 from_first (x ∷ es) t p h = go (fits_kind x t) refl h (λ k. from_first es t p k)
   where
-    go : (v : Bool) → fits_kind x t ≡ v → or_else (cond v (Found (x.make (carried_from 0 x.parts t))) Nothing) (read_first es t) ≡ Found p
-        → (read_first es t ≡ Found p → First es t p) → First (x ∷ es) t p
+    go : (v : Bool) → fits_kind x t ≡ v → or_else (cond v (Some (x.make (carried_from 0 x.parts t))) None) (read_first es t) ≡ Some p
+        → (read_first es t ≡ Some p → First es t p) → First (x ∷ es) t p
     go true g k ih = let z : p ≡ x.make (carried_from 0 x.parts t) = cc in (x, here, g, z)
     go false g k ih = let r = ih k in (r.0, later r.1, r.2, r.3)
 
-pub is-reads : (t : List ℕ) (p : Path) → read_first kinds t ≡ Found p → Reads t p
+pub is-reads : (t : List ℕ) (p : Path) → read_first kinds t ≡ Some p → Reads t p
 is-reads t p h = let r = from_first kinds t p h in record { kind = r.0; listed = r.1; fitting = r.2; made = r.3 }
 
 -- ---- what a kind makes. Each law is one computed fact about the table, handed to the kind in question

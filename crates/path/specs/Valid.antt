@@ -2,7 +2,7 @@
 -- Assumes nothing.
 use Rattle.std.specs.Prelude.{ℕ, ◌≤◌, ◌<◌, ◌^◌, ◌≡◌, true, List, [], ◌∷◌, length}
 use Rattle.path.specs.declared.Path.{Path}
-use Rattle.path.specs.declared.Reading.TheVariants.{Read}
+use Rattle.path.specs.Reading.{Read}
 use Rattle.path.specs.Kinds.{Part, word, name, count, pair, Carried, carried, name_in, set_name}
 use Rattle.path.specs.Read.{render, parts_of, texts_of, names_fault, read_path}
 use Rattle.path.specs.View.{kind_of, carried_of}

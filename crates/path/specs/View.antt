@@ -1,6 +1,6 @@
 -- This paper's number and values for each case of the typed path and of the reader's answer.
 -- Assumes nothing.
-use Rattle.std.specs.Prelude.{ℕ, Bool, cond, not, ◌&&◌, ◌||◌, List, eqb, leb}
+use Rattle.std.specs.Prelude.{ℕ, Bool, cond, not, ◌&&◌, ◌||◌, List, eqb, leb, Result, Ok, Err}
 use Rattle.std.specs.Borrow.{Bor}
 use Rattle.text.specs.Refusal.{bad_kind}
 use Rattle.text.specs.Stands.{Stands}
@@ -8,11 +8,9 @@ use Rattle.path.specs.declared.Place.{Place}
 use Rattle.path.specs.declared.provable.Flag.{Flag}
 use Rattle.path.specs.declared.Path.{Path}
 use Rattle.path.specs.declared.PathView.{PathView}
+use Rattle.path.specs.declared.Refusal.{Refusal}
 use Rattle.path.specs.declared.Path.TheVariants.{NextClientSequence, NextConnectionSequence, NextChannelSequence, ClientState, ClientConsensusState, ClientUpdateTime, ClientUpdateHeight, ClientConnection, Connection, Ports, ChannelEnd, SeqSend, SeqRecv, SeqAck, Commitment, Ack, Receipt, UpgradeClientState, UpgradeConsensusState}
-use Rattle.path.specs.declared.Reading.{Reading}
-use Rattle.path.specs.declared.Reading.TheVariants.{Read, Refused}
-use Rattle.path.specs.declared.ViewAnswer.{ViewAnswer}
-use Rattle.path.specs.declared.ViewAnswer.TheVariants.{Seen, Refused as Unread}
+use Rattle.path.specs.Reading.{Reading}
 use Rattle.path.specs.Kinds.{Carried, carried}
 use Rattle.path.specs.Text.{nowhere, shown_of, shown_start}
 
@@ -68,9 +66,9 @@ unfoldable pub view_of : Path → Bool → PathView
 view_of p e = seen (kind_of p) e (carried_of p)
 
 -- a reading, flat
-unfoldable pub viewed_by : Reading → ViewAnswer
-viewed_by (Read p e) = Seen (view_of p e)
-viewed_by (Refused w) = Unread w
+unfoldable pub viewed_by : Reading → Result PathView Refusal
+viewed_by (Ok r) = Ok (view_of r.path r.exact)
+viewed_by (Err w) = Err w
 
 -- all kinds but 8 and 10
 abbrev pub provable : ℕ → Bool
@@ -82,12 +80,12 @@ provable_flag k = cond (leb 1 k && leb k 19) (record { refusal = 0; value = cond
 
 -- the places of the identifiers of a reading: none on a refusal
 abbrev pub first_place : Reading → Place
-first_place (Read p e) = (carried_of p).first
-first_place (Refused w) = nowhere
+first_place (Ok r) = (carried_of r.path).first
+first_place (Err w) = nowhere
 
 abbrev pub second_place : Reading → Place
-second_place (Read p e) = (carried_of p).second
-second_place (Refused w) = nowhere
+second_place (Ok r) = (carried_of r.path).second
+second_place (Err w) = nowhere
 
 -- r is the part of x at the place p, no copy: the empty part at the start of x where p does not lie in x
 abbrev pub Shows : Bor (List ℕ) → Bor (List ℕ) → Place → Type 0

@@ -1,6 +1,6 @@
 -- Laws of `View`.
 -- Assumes nothing.
-use Rattle.std.specs.Prelude.{ℕ, ◌≡◌, refl, Bool, List}
+use Rattle.std.specs.Prelude.{ℕ, ◌≡◌, refl, Bool, List, Ok, Err}
 use Rattle.std.proofs.Math.Path.{ap}
 use Rattle.std.proofs.Common.{subst, arith}
 use Rattle.std.specs.Borrow.{Bor}
@@ -8,9 +8,7 @@ use Rattle.path.specs.declared.Place.{Place}
 use Rattle.path.specs.declared.Path.{Path}
 use Rattle.path.specs.declared.PathView.{PathView}
 use Rattle.path.specs.declared.Refusal.{Refusal}
-use Rattle.path.specs.declared.Reading.{Reading}
-use Rattle.path.specs.declared.Reading.TheVariants.{Read, Refused}
-use Rattle.path.specs.declared.ViewAnswer.TheVariants.{Seen, Refused as Unread}
+use Rattle.path.specs.Reading.{Reading, Read}
 use Rattle.path.specs.View.{Shows, view_of, viewed_by, kind_of, carried_of}
 
 -- a place by another name
@@ -51,13 +49,13 @@ pub record IsSeen (r : Reading) (v : PathView) : Type 0 where
   pub read : r ≡ Read path mark
   pub shows : v ≡ view_of path mark
 
-pub is_seen : (r : Reading) (v : PathView) → Seen v ≡ viewed_by r → IsSeen r v
+pub is_seen : (r : Reading) (v : PathView) → Ok v ≡ viewed_by r → IsSeen r v
 unfolding viewed_by
-is_seen (Read p e) v h = record { path = p; mark = e; read = refl; shows = cc }
-is_seen (Refused w) v h = let z : ◌≡◌ {A = ℕ} 0 1 = cc in absurd (omega arith)
+is_seen (Ok r) v h = record { path = r.path; mark = r.exact; read = refl; shows = cc }
+is_seen (Err w) v h = let z : ◌≡◌ {A = ℕ} 0 1 = cc in absurd (omega arith)
 
 -- or it was refused
-pub is-unread : (r : Reading) (w : Refusal) → Unread w ≡ viewed_by r → r ≡ Refused w
+pub is-unread : (r : Reading) (w : Refusal) → Err w ≡ viewed_by r → r ≡ Err w
 unfolding viewed_by
-is-unread (Read p e) w h = let z : ◌≡◌ {A = ℕ} 0 1 = cc in absurd (omega arith)
-is-unread (Refused u) w h = cc
+is-unread (Ok r) w h = let z : ◌≡◌ {A = ℕ} 0 1 = cc in absurd (omega arith)
+is-unread (Err u) w h = cc

@@ -23,17 +23,17 @@ pub struct Place {
 }
 
 // Three kinds of count, so that a sequence never stands where a height should.
-#[derive(Clone, Copy)]
+#[derive(Clone, Copy, PartialEq, Eq, PartialOrd, Ord)]
 pub struct RevisionNumber(pub u64);
 
-#[derive(Clone, Copy)]
+#[derive(Clone, Copy, PartialEq, Eq, PartialOrd, Ord)]
 pub struct RevisionHeight(pub u64);
 
 #[derive(Clone, Copy)]
 pub struct Sequence(pub u64);
 
-// A revision: its two counts, which stay apart.
-#[derive(Clone, Copy)]
+// A revision: its two counts, which stay apart. The numbers decide its order, and where they are equal the heights.
+#[derive(Clone, Copy, PartialEq, Eq, PartialOrd, Ord)]
 pub struct Revision {
     pub number: RevisionNumber,
     pub height: RevisionHeight,
@@ -123,12 +123,6 @@ pub struct Cut {
     pub count: usize,
 }
 
-#[derive(Clone, Copy)]
-pub enum PathAnswer {
-    Found(Path),
-    Nothing,
-}
-
 // Why a text is no path. The last three are of a text whose number alone is wrong, each with the place of its fault.
 #[derive(Clone, Copy)]
 pub enum Refusal {
@@ -140,12 +134,15 @@ pub enum Refusal {
     TooLarge(usize),
 }
 
-// What a text reads as; exact where its rendering is the text itself.
+// A path that was read; exact where its rendering is the text itself.
 #[derive(Clone, Copy)]
-pub enum Reading {
-    Read { path: Path, exact: bool },
-    Refused(Refusal),
+pub struct ReadPath {
+    pub path: Path,
+    pub exact: bool,
 }
+
+// What a text reads as, or why it is no path.
+pub type Reading = Result<ReadPath, Refusal>;
 
 // A path in one flat form: its kind's number, the mark of its text, places and numbers. What the kind lacks is the empty part
 // at the start, or 0. Kind 0 is of no path.
@@ -157,13 +154,6 @@ pub struct PathView {
     pub second: Place,
     pub a: u64,
     pub b: u64,
-}
-
-// What a text reads as, with the path in its flat form.
-#[derive(Clone, Copy)]
-pub enum ViewAnswer {
-    Seen(PathView),
-    Refused(Refusal),
 }
 
 // What a path shows, of a text with this mark.
@@ -197,13 +187,7 @@ pub fn view(p: Path, exact: bool) -> PathView
 pub fn is_below(p: Revision, q: Revision) -> bool
     ensures { result ≡ below p q }
 {
-    if p.number.0 < q.number.0 {
-        return true;
-    }
-    if q.number.0 < p.number.0 {
-        return false;
-    }
-    p.height.0 < q.height.0
+    p < q
 }
 
 // A refusal with its number and place.
@@ -242,9 +226,11 @@ pub fn fault_of(why: Refusal) -> Fault
 pub fn refusal_of(reading: Reading) -> u8
     ensures { result ≡ number_of reading }
 {
-    let Reading::Refused(why) = reading else {
-        return 0;
-    };
-    let fault = fault_of(why);
-    fault.refusal
+    match reading {
+        Ok(_) => 0,
+        Err(why) => {
+            let fault = fault_of(why);
+            fault.refusal
+        }
+    }
 }

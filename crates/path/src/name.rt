@@ -20,14 +20,7 @@ pub enum Name {
 pub fn no_slash(s: &[u8]) -> bool
     ensures { result ≡ every (λ b. not (eqb b 47)) s.now }
 {
-    let mut i = 0;
-    while i < s.len() {
-        if s[i] == b'/' {
-            return false;
-        }
-        i += 1;
-    }
-    true
+    !s.contains(&b'/')
 }
 
 // The refusal of an upgrade path.

@@ -17,10 +17,7 @@ pub struct Flag {
 fn provable_kind(kind: u8) -> bool
     ensures { result ≡ provable kind }
 {
-    if kind == 8 {
-        return false;
-    }
-    kind != 10
+    !matches!(kind, 8 | 10)
 }
 
 // Whether the path is provable.
@@ -35,26 +32,14 @@ pub fn is_provable(p: Path) -> bool
 pub fn kind_is_provable(kind: u8) -> Flag
     ensures { result ≡ provable_flag kind }
 {
-    if kind < 1 {
-        return Flag {
-            refusal: BAD_KIND,
-            value: 0,
-        };
-    }
-    if 19 < kind {
-        return Flag {
-            refusal: BAD_KIND,
-            value: 0,
-        };
-    }
-    if provable_kind(kind) {
-        return Flag {
+    match kind {
+        1..=19 => Flag {
             refusal: 0,
-            value: 1,
-        };
-    }
-    Flag {
-        refusal: 0,
-        value: 0,
+            value: u8::from(provable_kind(kind)),
+        },
+        _ => Flag {
+            refusal: BAD_KIND,
+            value: 0,
+        },
     }
 }

@@ -1,6 +1,6 @@
 -- The number of components decides which kinds can have a bad number, and all of them have it at one component.
 -- Assumes nothing.
-use Rattle.std.specs.Prelude.{ℕ, suc, ◌+◌, ◌-◌, ◌^◌, ◌≤◌, ◌<◌, ◌≡◌, refl, Bool, true, false, not, ◌&&◌, ◌||◌, eqb, take, drop}
+use Rattle.std.specs.Prelude.{ℕ, suc, ◌+◌, ◌-◌, ◌^◌, ◌≤◌, ◌<◌, ◌≡◌, refl, Bool, true, false, not, ◌&&◌, ◌||◌, eqb, take, drop, Ok, Err}
 use Rattle.std.proofs.Common.{add-zero, sym, ◌∙◌, lit<, length-take, length-drop, eqb-true}
 use Rattle.std.proofs.Math.Nat.{sub-zero}
 use Rattle.std.proofs.Math.Path.{ap}
@@ -11,11 +11,10 @@ use Rattle.std.proofs.Math.ListN.{length}
 use Rattle.text.specs.Bytes.{bytes}
 use Rattle.text.specs.Fault.{numeral_place}
 use Rattle.text.specs.FaultLaws.{number-place}
-use Rattle.text.specs.Number.{numeral_of}
+use Rattle.text.specs.Number.{Numeral, numeral_of}
 use Rattle.text.specs.Part.{same}
 use Rattle.text.specs.PartLaws.{and_left, and_right}
-use Rattle.text.specs.declared.Numeral.{Numeral}
-use Rattle.text.specs.declared.Numeral.TheVariants.{Value, NoDigits, NotADigit, TooLarge}
+use Rattle.text.specs.declared.NumberFault.TheVariants.{NoDigits, NotADigit, TooLarge}
 use Rattle.identifiers.specs.Check.{among}
 use Rattle.path.specs.declared.Refusal.{Refusal}
 use Rattle.path.specs.declared.Refusal.TheVariants.{NotAPath}
@@ -203,21 +202,17 @@ module _ (t : List ℕ) where
   unfolding suits_kind suits fits
   upgrades-by h = rw h (pick_two (eqb (name_fault upgrade (component t 0)) 0) (same (component t 2) (bytes "upgradedClient")) (same (component t 2) (bytes "upgradedConsState")))
 
--- ---- the fault of a number text, read as n, in the case x that a match took
-module _ (s : List ℕ) (at : ℕ) (n x : Numeral) (e : n ≡ numeral_of s) (k : n ≡ x) where
-  pub fault-shown : shown_first (numeral_faults at x) ≡ shown_first (numeral_faults at (numeral_of s))
-  fault-shown = rw (← e, k)
-
-  pub fault-room : at + length s < 2 ^ 64 → at + numeral_place x < 2 ^ 64
-  fault-room h = let p : numeral_place x ≤ length s = rw (← k, e) (number-place s) in omega arith
+-- ---- the place of the fault of a number text, read as n
+pub fault-room : (s : List ℕ) (at : ℕ) (n : Numeral) → n ≡ numeral_of s → at + length s < 2 ^ 64 → at + numeral_place n < 2 ^ 64
+fault-room s at n e h = let p : numeral_place n ≤ length s = rw e (number-place s) in omega arith
 
 -- ---- R-h, whose first dash stands at d
 -- a number text has at most one fault
 faults-or : (at : ℕ) (x : Numeral) (gs : List Refusal) → shown_first (numeral_faults at x ++ gs) ≡ or_fault (shown_first (numeral_faults at x)) (shown_first gs)
-faults-or at (Value v) gs = refl
-faults-or at (NoDigits i) gs = refl
-faults-or at (NotADigit i) gs = refl
-faults-or at (TooLarge i) gs = refl
+faults-or at (Ok v) gs = refl
+faults-or at (Err (NoDigits i)) gs = refl
+faults-or at (Err (NotADigit i)) gs = refl
+faults-or at (Err (TooLarge i)) gs = refl
 
 three : (at : ℕ) (r h s : List ℕ) → pair_faults at (r ∷ (h ∷ cut_at 45 s)) ≡ []
 unfolding cut_at

@@ -13,8 +13,8 @@ ghost use Rattle.read_faults.specs.Fault.{shown_first, or_fault, some_suits};
 use path::name::{Name, name_fault};
 use path::{Cut, Refusal};
 use read_pieces::cutter::{component_at, cut_text, is_word, place_at};
-use read_pieces::{ChannelAnswer, PlaceAnswer, first_dash, read_client, read_ends};
-use text::Numeral;
+use read_pieces::{first_dash, read_client, read_ends};
+use text::NumberFault;
 
 // What is wrong with the number text s, whose first byte stands at `at`.
 fn fault_at(s: &[u8], at: usize) -> Refusal
@@ -22,10 +22,10 @@ fn fault_at(s: &[u8], at: usize) -> Refusal
     ensures { result ≡ shown_first (numeral_faults at (numeral_of s.now)) }
 {
     match text::read_number(s) {
-        Numeral::Value(_) => Refusal::NotAPath,
-        Numeral::NoDigits(i) => Refusal::NoDigits(at + i),
-        Numeral::NotADigit(i) => Refusal::NotADigit(at + i),
-        Numeral::TooLarge(i) => Refusal::TooLarge(at + i),
+        Ok(_) => Refusal::NotAPath,
+        Err(NumberFault::NoDigits(i)) => Refusal::NoDigits(at + i),
+        Err(NumberFault::NotADigit(i)) => Refusal::NotADigit(at + i),
+        Err(NumberFault::TooLarge(i)) => Refusal::TooLarge(at + i),
     }
 }
 
@@ -80,10 +80,7 @@ fn suits_consensus(text: &[u8], cut: Cut) -> bool
     requires { (cut ≡ cut_of text.now) × (3 < cut.count) × (cut.count < 8) }
     ensures { result ≡ all_from suits 0 consensus_parts text.now }
 {
-    let PlaceAnswer::At(_) = read_client(text, cut, 0) else {
-        return false;
-    };
-    is_word(text, cut, 2, b"consensusStates")
+    read_client(text, cut, 0).is_some() && is_word(text, cut, 2, b"consensusStates")
 }
 
 // `processedTime` or `processedHeight` behind that.
@@ -105,10 +102,7 @@ fn suits_packet(text: &[u8], cut: Cut) -> bool
     requires { (cut ≡ cut_of text.now) × (6 < cut.count) × (cut.count < 8) }
     ensures { result ≡ all_from suits 1 packet_parts text.now }
 {
-    let ChannelAnswer::Channel(_) = read_ends(text, cut) else {
-        return false;
-    };
-    is_word(text, cut, 5, b"sequences")
+    read_ends(text, cut).is_some() && is_word(text, cut, 5, b"sequences")
 }
 
 // `commitments`, `acks` or `receipts` before that.

@@ -7,11 +7,11 @@ ghost use Rattle.std.specs.Prelude.{◌≡◌};
 ghost use Rattle.path.specs.Kinds.{kinds};
 ghost use Rattle.path.specs.Read.{read_first};
 
-use path::PathAnswer;
+use path::Path;
 use read_pieces::cutter::cut_text;
 
 // Reads a text as one of the nineteen kinds.
-pub fn parse_path(text: &[u8]) -> PathAnswer
+pub fn parse_path(text: &[u8]) -> Option<Path>
     ensures { result ≡ read_first kinds text.now }
 {
     kinds::parse_components(text, cut_text(text))

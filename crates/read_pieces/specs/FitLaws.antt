@@ -1,36 +1,14 @@
 -- How a reader learns what a text fits: by a word, by an identifier, by a number, by two neighbours.
 -- Assumes nothing.
-use Rattle.std.specs.Prelude.{ℕ, ◌+◌, ◌≡◌, refl, Bool, true, false, cond, not, ◌&&◌, List, [], ◌∷◌}
+use Rattle.std.specs.Prelude.{ℕ, ◌+◌, ◌≡◌, refl, Bool, true, false, cond, not, ◌&&◌, List, [], ◌∷◌, Option, Some, None, is_some, Ok}
 use Rattle.std.proofs.Math.Path.{sym}
 use Rattle.std.proofs.Common.{◌∙◌, arith, eq-eqb, ne_eqb}
 use Rattle.std.proofs.lemmas.Bool.{not-true, not-false}
-use Rattle.text.specs.Number.{numeral_of}
+use Rattle.std.proofs.lemmas.Option.{none-some, cond_some}
+use Rattle.text.specs.Number.{Numeral, numeral_of}
 use Rattle.text.specs.Part.{same}
 use Rattle.text.specs.PartLaws.{and_left, and_right}
-use Rattle.text.specs.declared.Numeral.{Numeral}
-use Rattle.text.specs.declared.Numeral.TheVariants.{Value}
 use Rattle.identifiers.specs.Check.{is_value}
-use Rattle.path.specs.declared.Place.{Place}
-use Rattle.path.specs.declared.Sequence.{Sequence}
-use Rattle.path.specs.declared.RevisionNumber.{RevisionNumber}
-use Rattle.path.specs.declared.RevisionHeight.{RevisionHeight}
-use Rattle.path.specs.declared.ConsensusPlaces.{ConsensusPlaces}
-use Rattle.path.specs.declared.ChannelPlaces.{ChannelPlaces}
-use Rattle.path.specs.declared.PacketPlaces.{PacketPlaces}
-use Rattle.read_pieces.specs.declared.ConsensusAnswer.{ConsensusAnswer}
-use Rattle.read_pieces.specs.declared.ConsensusAnswer.TheVariants.{Consensus, Nothing as NoConsensus}
-use Rattle.read_pieces.specs.declared.ChannelAnswer.{ChannelAnswer}
-use Rattle.read_pieces.specs.declared.ChannelAnswer.TheVariants.{Channel, Nothing as NoChannel}
-use Rattle.read_pieces.specs.declared.PacketAnswer.{PacketAnswer}
-use Rattle.read_pieces.specs.declared.PacketAnswer.TheVariants.{Packet, Nothing as NoPacket}
-use Rattle.read_pieces.specs.declared.PlaceAnswer.{PlaceAnswer}
-use Rattle.read_pieces.specs.declared.PlaceAnswer.TheVariants.{At, Nothing as NoPlace}
-use Rattle.read_pieces.specs.declared.SequenceAnswer.{SequenceAnswer}
-use Rattle.read_pieces.specs.declared.SequenceAnswer.TheVariants.{Counted, Nothing as NoSequence}
-use Rattle.read_pieces.specs.declared.HeightAnswer.{HeightAnswer}
-use Rattle.read_pieces.specs.declared.HeightAnswer.TheVariants.{Height, Nothing as NoHeight}
-use Rattle.read_pieces.specs.declared.RevisionAnswer.{RevisionAnswer}
-use Rattle.read_pieces.specs.declared.RevisionAnswer.TheVariants.{Revision, Nothing as NoRevision}
 use Rattle.path.specs.Text.{component}
 use Rattle.path.specs.Kinds.{Part, word, name, count}
 use Rattle.path.specs.declared.name.Name.{Name}
@@ -62,18 +40,9 @@ module _ (c d : List ℕ) (x : Numeral) (e : x ≡ numeral_of d) (g : d ≡ c) w
   unfolding fits
   number-no h = rw (← g, ← e) h
 
-  pub number_yes : (n : ℕ) → x ≡ Value n → (fits count c ≡ true) × (n ≡ number_in c)
+  pub number_yes : (n : ℕ) → x ≡ Ok n → (fits count c ≡ true) × (n ≡ number_in c)
   unfolding fits
-  number_yes n h = let i : numeral_of c ≡ Value n = rw (← g, ← e) h in (rw i, rw i)
-
--- ---- an answer that a test picks
-picks-no : {R : Type 0} (v : Bool) (some none : R) → (none ≡ some → ⊥) → none ≡ cond v some none → v ≡ false
-picks-no true some none d h = absurd (d h)
-picks-no false some none d h = refl
-
-picks-some : {R : Type 0} (v : Bool) (some none r : R) → (r ≡ none → ⊥) → r ≡ cond v some none → (v ≡ true) × (r ≡ some)
-picks-some true some none r d h = (refl, h)
-picks-some false some none r d h = absurd (d h)
+  number_yes n h = let i : numeral_of c ≡ Ok n = rw (← g, ← e) h in (rw i, rw i)
 
 -- ---- a run of parts from component k on, and x what holds after it
 abbrev pub fit_then : ℕ → List Part → List ℕ → Bool → Bool
@@ -99,85 +68,27 @@ run_yes : (k : ℕ) (ps : List Part) (t : List ℕ) → fit_from k ps t ≡ true
 run_yes k [] t h x = refl
 run_yes k (p ∷ ps) t h x = rw (and_left (fits p (component t k)) (fit_from (k + 1) ps t) h) (run_yes (k + 1) ps t (and_right (fits p (component t k)) (fit_from (k + 1) ps t) h) x)
 
--- ---- an answer that carries something, or nothing
-pub record Answers (A R : Type 0) : Type 0 where
-  pub some : A → R
-  pub none : R
-  pub apart : (a : A) → some a ≡ none → ⊥
-  pub one : (a b : A) → some a ≡ some b → a ≡ b
-
 -- what the answer of a run's reader tells: a is what the run carries
-module _ {A R : Type 0} (o : Answers A R) (k : ℕ) (ps : List Part) (t : List ℕ) (a : A) where
-  pub no_run : o.none ≡ cond (fit_from k ps t) (o.some a) o.none → Fails k ps t
-  no_run h = run-no k ps t (picks-no (fit_from k ps t) (o.some a) o.none (λ e. o.apart a (sym e)) h)
+module _ {A : Type 0} (k : ℕ) (ps : List Part) (t : List ℕ) (a : A) where
+  pub no_run : None ≡ cond (fit_from k ps t) (Some a) None → Fails k ps t
+  no_run h = run-no k ps t (go (fit_from k ps t) h)
+    where
+      go : (v : Bool) → None ≡ cond v (Some a) None → v ≡ false
+      go true e = absurd (none-some a e)
+      go false e = refl
 
-  pub is-run : (b : A) → o.some b ≡ cond (fit_from k ps t) (o.some a) o.none → Fits k ps t × (b ≡ a)
+  pub is-run : (b : A) → Some b ≡ cond (fit_from k ps t) (Some a) None → Fits k ps t × (b ≡ a)
   is-run b h =
-      let e = picks-some (fit_from k ps t) (o.some a) o.none (o.some b) (o.apart b) h in
-      (run_yes k ps t e.0, o.one b a e.1)
+      let e = cond_some (fit_from k ps t) a b (sym h) in
+      (run_yes k ps t e.0, sym e.1)
 
-pub place-apart : (p : Place) → At p ≡ NoPlace → ⊥
-place-apart p h = let z : ◌≡◌ {A = ℕ} 0 1 = cc in omega arith
+  -- the same of an answer of which only this is asked, whether it is there
+  fitting : (v : Bool) → is_some (cond v (Some a) None) ≡ v
+  fitting true = refl
+  fitting false = refl
 
-pub place-one : (p q : Place) → At p ≡ At q → p ≡ q
-place-one p q h = cc
+  pub lacks_run : (r : Option A) → r ≡ cond (fit_from k ps t) (Some a) None → is_some r ≡ false → Fails k ps t
+  lacks_run r h e = run-no k ps t (sym (fitting (fit_from k ps t)) ∙ (rw (← h) e))
 
-abbrev pub place_answers : Answers Place PlaceAnswer
-place_answers = record { some = At; none = NoPlace; apart = place-apart; one = place-one }
-
-pub sequence-apart : (p : Sequence) → Counted p ≡ NoSequence → ⊥
-sequence-apart p h = let z : ◌≡◌ {A = ℕ} 0 1 = cc in omega arith
-
-pub sequence-one : (p q : Sequence) → Counted p ≡ Counted q → p ≡ q
-sequence-one p q h = cc
-
-abbrev pub sequence_answers : Answers Sequence SequenceAnswer
-sequence_answers = record { some = Counted; none = NoSequence; apart = sequence-apart; one = sequence-one }
-
-pub height-apart : (p : RevisionHeight) → Height p ≡ NoHeight → ⊥
-height-apart p h = let z : ◌≡◌ {A = ℕ} 0 1 = cc in omega arith
-
-pub height-one : (p q : RevisionHeight) → Height p ≡ Height q → p ≡ q
-height-one p q h = cc
-
-abbrev pub height_answers : Answers RevisionHeight HeightAnswer
-height_answers = record { some = Height; none = NoHeight; apart = height-apart; one = height-one }
-
-pub consensus-apart : (p : ConsensusPlaces) → Consensus p ≡ NoConsensus → ⊥
-consensus-apart p h = let z : ◌≡◌ {A = ℕ} 0 1 = cc in omega arith
-
-pub consensus-one : (p q : ConsensusPlaces) → Consensus p ≡ Consensus q → p ≡ q
-consensus-one p q h = cc
-
-abbrev pub consensus_answers : Answers ConsensusPlaces ConsensusAnswer
-consensus_answers = record { some = Consensus; none = NoConsensus; apart = consensus-apart; one = consensus-one }
-
-pub ends-apart : (p : ChannelPlaces) → Channel p ≡ NoChannel → ⊥
-ends-apart p h = let z : ◌≡◌ {A = ℕ} 0 1 = cc in omega arith
-
-pub ends-one : (p q : ChannelPlaces) → Channel p ≡ Channel q → p ≡ q
-ends-one p q h = cc
-
-abbrev pub ends_answers : Answers ChannelPlaces ChannelAnswer
-ends_answers = record { some = Channel; none = NoChannel; apart = ends-apart; one = ends-one }
-
-pub packet-apart : (p : PacketPlaces) → Packet p ≡ NoPacket → ⊥
-packet-apart p h = let z : ◌≡◌ {A = ℕ} 0 1 = cc in omega arith
-
-pub packet-one : (p q : PacketPlaces) → Packet p ≡ Packet q → p ≡ q
-packet-one p q h = cc
-
-abbrev pub packet_answers : Answers PacketPlaces PacketAnswer
-packet_answers = record { some = Packet; none = NoPacket; apart = packet-apart; one = packet-one }
-
-abbrev revision : RevisionNumber × RevisionHeight → RevisionAnswer
-revision p = Revision p.0 p.1
-
-pub revision-apart : (p : RevisionNumber × RevisionHeight) → revision p ≡ NoRevision → ⊥
-revision-apart p h = let z : ◌≡◌ {A = ℕ} 0 1 = cc in omega arith
-
-pub revision-one : (p q : RevisionNumber × RevisionHeight) → revision p ≡ revision q → p ≡ q
-revision-one p q h = let x : p.0 ≡ q.0 = cc in let y : p.1 ≡ q.1 = cc in λ i. (x i, y i)
-
-abbrev pub revision_answers : Answers (RevisionNumber × RevisionHeight) RevisionAnswer
-revision_answers = record { some = revision; none = NoRevision; apart = revision-apart; one = revision-one }
+  pub has_run : (r : Option A) → r ≡ cond (fit_from k ps t) (Some a) None → is_some r ≡ true → Fits k ps t
+  has_run r h e = run_yes k ps t (sym (fitting (fit_from k ps t)) ∙ (rw (← h) e))

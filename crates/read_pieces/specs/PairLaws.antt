@@ -1,38 +1,48 @@
 -- A component R-h is cut at its first dash: a number text has no dash, so the second number fails where another follows.
 -- Assumes nothing.
-use Rattle.std.specs.Prelude.{ℕ, suc, ◌+◌, ◌-◌, ◌^◌, ◌≤◌, ◌<◌, ◌≡◌, Bool, cond, ◌&&◌, List, [], ◌∷◌, eqb, ltb, get_or, take, drop}
+use Rattle.std.specs.Prelude.{ℕ, suc, ◌+◌, ◌-◌, ◌^◌, ◌≤◌, ◌<◌, ◌≡◌, Bool, cond, ◌&&◌, List, [], ◌∷◌, eqb, ltb, get_or, take, drop, Some, None, Ok, Err, not, Option, position, unwrap_or}
 use Rattle.std.proofs.Math.Path.{refl}
-use Rattle.std.proofs.Common.{sym, ap, ◌∙◌, add-one, suc-add, drop_of_length-le, drop-cons}
+use Rattle.std.proofs.Common.{sym, ap, ◌∙◌, suc-add}
 use Rattle.std.proofs.Math.Bool.{true, false, and-false}
 use native.Mathlib.Omega.{arith}
 use Rattle.std.proofs.Math.Dec.{leb}
 use Rattle.std.proofs.Math.ListN.{length}
-use borrow.Author.Tests.{eq-eqb, ne_eqb, eqb-true, leb-true, leb-false}
-use Rattle.text.specs.Number.{numeral_of, digits_at, digits_from, is_digit, with_digit}
+use borrow.Author.Tests.{ltb-false, ne_eqb, eqb-true, leb-true, leb-false}
+use Rattle.std.specs.List.{position_or_len}
+use Rattle.text.specs.Number.{Numeral, numeral_of, digits_at, digits_from, is_digit, with_digit}
 use Rattle.text.specs.PartLaws.{and_left, part-rest}
-use Rattle.text.specs.declared.Numeral.{Numeral}
-use Rattle.text.specs.declared.Numeral.TheVariants.{Value, NotADigit, TooLarge}
+use Rattle.text.specs.declared.NumberFault.TheVariants.{NotADigit, TooLarge}
 use Rattle.identifiers.specs.Check.{is_value}
-use Rattle.read_pieces.specs.declared.RevisionAnswer.TheVariants.{Revision, Nothing as NoRevision}
 use Rattle.path.specs.Text.{cut_at, cut_step}
 use Rattle.path.specs.Kinds.{pair}
 use Rattle.path.specs.Read.{is_number, are_pair, fits}
 use Rattle.read_pieces.specs.Pieces.{first_dash, revision_in}
 
--- ---- one turn of the search for the first dash
-module _ (s : List ℕ) (i : ℕ) where
-  pub dash-end : length s ≤ i → first_dash (drop i s) ≡ 0
-  unfolding first_dash
-  dash-end h = rw (drop_of_length-le s h)
+-- ---- the first dash as the code finds it
+pub dash-within : (s : List ℕ) → first_dash s ≤ length s
+unfolding first_dash
+dash-within [] = omega arith
+dash-within (b ∷ s) = go (eqb b 45) (dash-within s)
+  where
+    go : (v : Bool) → first_dash s ≤ length s → cond v 0 (suc (first_dash s)) ≤ suc (length s)
+    go true h = omega arith
+    go false h = omega arith
 
-  module _ (h : i < length s) where
-    pub dash-here : get_or s i 0 ≡ 45 → first_dash (drop i s) ≡ 0
-    unfolding first_dash
-    dash-here e = rw (drop-cons s i 0 h, eq-eqb (get_or s i 0) 45 e)
+position-dash : (s : List ℕ) → first_dash s ≡ position_or_len (λ b. eqb b 45) s
+unfolding first_dash
+position-dash [] = refl
+position-dash (b ∷ s) = go (eqb b 45) (position-dash s)
+  where
+    go : (v : Bool) → first_dash s ≡ position_or_len (λ b. eqb b 45) s → cond v 0 (suc (first_dash s)) ≡ cond (not v) (1 + position_or_len (λ b. eqb b 45) s) 0
+    go true h = refl
+    go false h = omega arith
 
-    pub dash-later : (get_or s i 0 ≡ 45 → ⊥) → first_dash (drop i s) ≡ suc (first_dash (drop (i + 1) s))
-    unfolding first_dash
-    dash-later e = rw (drop-cons s i 0 h, ne_eqb (get_or s i 0) 45 e, add-one)
+pub dash-found : (s : List ℕ) (r : Option ℕ) → r ≡ position (λ b. eqb b 45) s → unwrap_or r (length s) ≡ first_dash s
+dash-found s r e = rw (e, ← position-dash s) (go (ltb (first_dash s) (length s)) refl)
+  where
+    go : (v : Bool) → ltb (first_dash s) (length s) ≡ v → unwrap_or (cond v (Some (first_dash s)) None) (length s) ≡ first_dash s
+    go true h = refl
+    go false h = omega (arith, dash-within s, ltb-false (first_dash s) (length s) h)
 
 -- ---- the cut at dashes, by the first
 pub cut-here : (s : List ℕ) → length s ≤ first_dash s → cut_at 45 s ≡ s ∷ []
@@ -60,7 +70,7 @@ unfolding digits_from first_dash
 digits-plain [] v i h = omega arith
 digits-plain (b ∷ s) v i h = go (is_digit b) refl (ltb (with_digit v b) (2 ^ 64)) h (digits-plain s (with_digit v b) (i + 1))
   where
-    go : (p : Bool) → is_digit b ≡ p → (q : Bool) → is_value (cond p (cond q (digits_from (with_digit v b) (i + 1) s) (TooLarge i)) (NotADigit i)) ≡ true
+    go : (p : Bool) → is_digit b ≡ p → (q : Bool) → is_value (cond p (cond q (digits_from (with_digit v b) (i + 1) s) (Err (TooLarge i))) (Err (NotADigit i))) ≡ true
         → (is_value (digits_from (with_digit v b) (i + 1) s) ≡ true → length s ≤ first_dash s) → suc (length s) ≤ cond (eqb b 45) 0 (suc (first_dash s))
     go true e true k ih =
         let low = leb-true 48 b (and_left (leb 48 b) (leb b 57) e) in
@@ -124,17 +134,8 @@ module _ (s : List ℕ) (l : first_dash s < length s) where
   pair-after h = rw (cut-there s l, cut-here after (number-plain after h))
 
 -- ---- the reader's answers: its first dash is at d, and x and y are the readings of the parts before and after it
-pub dash-within : (s : List ℕ) → first_dash s ≤ length s
-unfolding first_dash
-dash-within [] = omega arith
-dash-within (b ∷ s) = go (eqb b 45) (dash-within s)
-  where
-    go : (v : Bool) → first_dash s ≤ length s → cond v 0 (suc (first_dash s)) ≤ suc (length s)
-    go true h = omega arith
-    go false h = omega arith
-
 module _ (s : List ℕ) (d : ℕ) (e : d ≡ first_dash s) where
-  pub revision-none : d ≡ length s → NoRevision ≡ revision_in s
+  pub revision-none : d ≡ length s → None ≡ revision_in s
   unfolding revision_in
   revision-none h = let l : length s ≤ first_dash s = omega arith in rw (pair-none s l)
 
@@ -145,11 +146,11 @@ module _ (s : List ℕ) (d : ℕ) (e : d ≡ first_dash s) where
     inside : first_dash s < length s
     inside = omega (arith, dash-inside)
 
-    module _ (x : Numeral) (f : x ≡ numeral_of (take (d - 0) s)) where
+    module _ (x : Numeral) (f : x ≡ numeral_of (take d s)) where
       first : numeral_of (before s inside) ≡ x
-      first = let z : d - 0 ≡ first_dash s = omega arith in rw (← z) (sym f)
+      first = rw (← e) (sym f)
 
-      pub revision-no_number : is_value x ≡ false → NoRevision ≡ revision_in s
+      pub revision-no_number : is_value x ≡ false → None ≡ revision_in s
       unfolding revision_in
       revision-no_number k = rw (pair-by s inside, first, k)
 
@@ -157,13 +158,13 @@ module _ (s : List ℕ) (d : ℕ) (e : d ≡ first_dash s) where
         second : numeral_of (after s inside) ≡ y
         second = rw (← e) (sym (g ∙ rw part-rest))
 
-        pub revision-no-height : is_value y ≡ false → NoRevision ≡ revision_in s
+        pub revision-no-height : is_value y ≡ false → None ≡ revision_in s
         unfolding revision_in
         revision-no-height k = rw (pair-by s inside, second, k, and-false)
 
-        pub revision-some : (m n : ℕ) → x ≡ Value m → y ≡ Value n → Revision (record { 0 = m }) (record { 0 = n }) ≡ revision_in s
+        pub revision-some : (m n : ℕ) → x ≡ Ok m → y ≡ Ok n → Some (record { number = record { 0 = m }; height = record { 0 = n } }) ≡ revision_in s
         unfolding revision_in
         revision-some m n k l =
-            let p : numeral_of (before s inside) ≡ Value m = first ∙ k in
-            let q : numeral_of (after s inside) ≡ Value n = second ∙ l in
+            let p : numeral_of (before s inside) ≡ Ok m = first ∙ k in
+            let q : numeral_of (after s inside) ≡ Ok n = second ∙ l in
             rw (pair-by s inside, pair-before s inside, pair-after s inside (rw q), p, q)

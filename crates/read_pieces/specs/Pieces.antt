@@ -1,27 +1,15 @@
 -- What the readers of some of the components answer: what the parts from component k on carry, where these fit.
 -- Assumes nothing.
-use Rattle.std.specs.Prelude.{ℕ, suc, ◌+◌, cond, List, [], ◌∷◌, ◌++◌, eqb, get_or}
+use Rattle.std.specs.Prelude.{ℕ, suc, ◌+◌, cond, List, [], ◌∷◌, ◌++◌, eqb, get_or, Option, Some, None}
 use Rattle.text.specs.Bytes.{bytes}
 use Rattle.path.specs.declared.RevisionNumber.{RevisionNumber}
 use Rattle.path.specs.declared.RevisionHeight.{RevisionHeight}
+use Rattle.path.specs.declared.Revision.{Revision}
+use Rattle.path.specs.declared.Place.{Place}
 use Rattle.path.specs.declared.Sequence.{Sequence}
 use Rattle.path.specs.declared.ConsensusPlaces.{ConsensusPlaces}
 use Rattle.path.specs.declared.ChannelPlaces.{ChannelPlaces}
 use Rattle.path.specs.declared.PacketPlaces.{PacketPlaces}
-use Rattle.read_pieces.specs.declared.PlaceAnswer.{PlaceAnswer}
-use Rattle.read_pieces.specs.declared.PlaceAnswer.TheVariants.{At, Nothing as NoPlace}
-use Rattle.read_pieces.specs.declared.SequenceAnswer.{SequenceAnswer}
-use Rattle.read_pieces.specs.declared.SequenceAnswer.TheVariants.{Counted, Nothing as NoSequence}
-use Rattle.read_pieces.specs.declared.HeightAnswer.{HeightAnswer}
-use Rattle.read_pieces.specs.declared.HeightAnswer.TheVariants.{Height, Nothing as NoHeight}
-use Rattle.read_pieces.specs.declared.RevisionAnswer.{RevisionAnswer}
-use Rattle.read_pieces.specs.declared.RevisionAnswer.TheVariants.{Revision, Nothing as NoRevision}
-use Rattle.read_pieces.specs.declared.ConsensusAnswer.{ConsensusAnswer}
-use Rattle.read_pieces.specs.declared.ConsensusAnswer.TheVariants.{Consensus, Nothing as NoConsensus}
-use Rattle.read_pieces.specs.declared.ChannelAnswer.{ChannelAnswer}
-use Rattle.read_pieces.specs.declared.ChannelAnswer.TheVariants.{Channel, Nothing as NoChannel}
-use Rattle.read_pieces.specs.declared.PacketAnswer.{PacketAnswer}
-use Rattle.read_pieces.specs.declared.PacketAnswer.TheVariants.{Packet, Nothing as NoPacket}
 use Rattle.path.specs.Text.{cut_at, component, place_at}
 use Rattle.path.specs.Kinds.{Part, word, name, count, pair}
 use Rattle.path.specs.declared.name.Name.{Name}
@@ -62,6 +50,9 @@ first_of c = record { 0 = number_in (get_or (cut_at 45 c) 0 []) }
 abbrev pub second_of : List ℕ → RevisionHeight
 second_of c = record { 0 = number_in (get_or (cut_at 45 c) 1 []) }
 
+abbrev pub revision_of : List ℕ → Revision
+revision_of c = record { number = first_of c; height = second_of c }
+
 abbrev pub consensus_of : List ℕ → ConsensusPlaces
 consensus_of t = record { client = place_at t 1; number = first_of (component t 3); height = second_of (component t 3) }
 
@@ -73,36 +64,36 @@ packet_places_of t = record { port = place_at t 2; channel = place_at t 4; seque
 
 -- ---- the answers
 -- the word w at component k and an identifier after it: where the identifier stands
-unfoldable pub place_after : List ℕ → Name → List ℕ → ℕ → PlaceAnswer
-place_after w n t k = cond (fit_from k (place_parts w n) t) (At (place_at t (k + 1))) NoPlace
+unfoldable pub place_after : List ℕ → Name → List ℕ → ℕ → Option Place
+place_after w n t k = cond (fit_from k (place_parts w n) t) (Some (place_at t (k + 1))) None
 
 -- `sequences` at component k and a number after it
-unfoldable pub sequence_after : List ℕ → ℕ → SequenceAnswer
-sequence_after t k = cond (fit_from k sequence_parts t) (Counted (sequence_in (component t (k + 1)))) NoSequence
+unfoldable pub sequence_after : List ℕ → ℕ → Option Sequence
+sequence_after t k = cond (fit_from k sequence_parts t) (Some (sequence_in (component t (k + 1)))) None
 
 -- a number at component k
-unfoldable pub height_at : List ℕ → ℕ → HeightAnswer
-height_at t k = cond (fit_from k (count ∷ []) t) (Height (height_in (component t k))) NoHeight
+unfoldable pub height_at : List ℕ → ℕ → Option RevisionHeight
+height_at t k = cond (fit_from k (count ∷ []) t) (Some (height_in (component t k))) None
 
 -- R-h
-unfoldable pub revision_in : List ℕ → RevisionAnswer
-revision_in c = cond (fits pair c) (Revision (first_of c) (second_of c)) NoRevision
+unfoldable pub revision_in : List ℕ → Option Revision
+revision_in c = cond (fits pair c) (Some (revision_of c)) None
 
 -- `consensusStates` at component k and R-h after it
-unfoldable pub revision_after : List ℕ → ℕ → RevisionAnswer
-revision_after t k = cond (fit_from k revision_parts t) (Revision (first_of (component t (k + 1))) (second_of (component t (k + 1)))) NoRevision
+unfoldable pub revision_after : List ℕ → ℕ → Option Revision
+revision_after t k = cond (fit_from k revision_parts t) (Some (revision_of (component t (k + 1)))) None
 
 -- `clients/C/consensusStates/R-h` at the start
-unfoldable pub consensus_in : List ℕ → ConsensusAnswer
-consensus_in t = cond (fit_from 0 consensus_parts t) (Consensus (consensus_of t)) NoConsensus
+unfoldable pub consensus_in : List ℕ → Option ConsensusPlaces
+consensus_in t = cond (fit_from 0 consensus_parts t) (Some (consensus_of t)) None
 
 -- `ports/P/channels/H` after the first component
-unfoldable pub ends_in : List ℕ → ChannelAnswer
-ends_in t = cond (fit_from 1 ends_parts t) (Channel (ends_of t)) NoChannel
+unfoldable pub ends_in : List ℕ → Option ChannelPlaces
+ends_in t = cond (fit_from 1 ends_parts t) (Some (ends_of t)) None
 
 -- `ports/P/channels/H/sequences/S` after the first component
-unfoldable pub packet_in : List ℕ → PacketAnswer
-packet_in t = cond (fit_from 1 packet_parts t) (Packet (packet_places_of t)) NoPacket
+unfoldable pub packet_in : List ℕ → Option PacketPlaces
+packet_in t = cond (fit_from 1 packet_parts t) (Some (packet_places_of t)) None
 
 -- where the first dash stands: the length where there is none
 unfoldable pub first_dash : List ℕ → ℕ

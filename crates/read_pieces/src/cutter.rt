@@ -13,15 +13,11 @@ pub fn cut_text(text: &[u8]) -> Cut
 {
     let mut starts = [0usize; 8];
     let mut count: usize = 1;
-    let mut i: usize = 0;
-    while i < text.len() {
-        if text[i] == b'/' {
-            if count < 8 {
-                starts[count] = i + 1;
-                count += 1;
-            }
+    for (i, &b) in text.iter().enumerate() {
+        if b == b'/' && count < 8 {
+            starts[count] = i + 1;
+            count += 1;
         }
-        i += 1;
     }
     Cut { starts, count }
 }

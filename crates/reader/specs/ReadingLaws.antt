@@ -1,6 +1,6 @@
 -- What is read has a kind, its places lie in the text, it is ASCII, and the exact mark goes by the length of the rendering.
 -- Assumes nothing.
-use Rattle.std.specs.Prelude.{ℕ, ◌+◌, ◌≤◌, ◌<◌, ◌^◌, ◌≡◌, Bool, List, eqb}
+use Rattle.std.specs.Prelude.{ℕ, ◌+◌, ◌≤◌, ◌<◌, ◌^◌, ◌≡◌, Bool, List, eqb, Some}
 use Rattle.std.proofs.Math.Path.{sym}
 use Rattle.std.proofs.Common.{◌∙◌, arith, length-take, length-drop, le-ltb}
 use Rattle.std.proofs.Math.ListN.{length}
@@ -8,8 +8,7 @@ use Rattle.text.specs.Part.{same}
 use Rattle.path.specs.declared.Place.{Place}
 use Rattle.path.specs.declared.Path.{Path}
 use Rattle.path.specs.declared.PathView.{PathView}
-use Rattle.path.specs.declared.PathAnswer.TheVariants.{Found}
-use Rattle.path.specs.declared.Reading.TheVariants.{Read}
+use Rattle.path.specs.Reading.{Read}
 use Rattle.path.specs.Text.{part_of}
 use Rattle.path.specs.Kinds.{kinds, carried}
 use Rattle.path.specs.Read.{parts_of, texts_of, render_path, carried_from, read_first, read_path}
@@ -26,7 +25,7 @@ use Rattle.path.specs.MeasureLaws.{render-length}
 lies-length : (t : List ℕ) (p : Place) → p.start + p.len ≤ length t → length (part_of t p) ≡ p.len
 lies-length t p h = simp (length-take, length-drop) (omega arith)
 
-module _ (t : List ℕ) (p : Path) (h : Found p ≡ read_first kinds t) where
+module _ (t : List ℕ) (p : Path) (h : Some p ≡ read_first kinds t) where
   found : Reads t p
   found = is-reads t p (sym h)
 

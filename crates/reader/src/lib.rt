@@ -5,7 +5,7 @@ ghost use Rattle.std.specs.Prelude.{◌≡◌, length};
 ghost use Rattle.text.specs.Put.{left};
 ghost use Rattle.path.specs.Read.{read_path, reading_bytes, read_fault};
 
-use path::{PathAnswer, Reading, Refusal};
+use path::{ReadPath, Reading, Refusal};
 use text::Fault;
 
 // Reads a text as a path. What is read is ASCII, so only another text is tested for it. The mark goes by length, since a
@@ -14,17 +14,17 @@ pub fn read_path(text: &[u8]) -> Reading
     ensures { result ≡ read_path text.now }
 {
     if 4096 < text.len() {
-        return Reading::Refused(Refusal::TooLong);
+        return Err(Refusal::TooLong);
     }
-    let PathAnswer::Found(path) = read_kinds::parse_path(text) else {
-        return Reading::Refused(reading::fault(text));
+    let Some(path) = read_kinds::parse_path(text) else {
+        return Err(reading::fault(text));
     };
     let v = path::view(path, false);
     let length = path::measure::render_length(v.kind, v.first.len, v.second.len, v.a, v.b);
-    Reading::Read {
+    Ok(ReadPath {
         path,
         exact: length == text.len(),
-    }
+    })
 }
 
 // The reading of a text as 26 bytes, for the node.

@@ -2,7 +2,7 @@
 -- Assumes nothing.
 use Rattle.std.specs.Prelude.{ℕ, cond, List, ◌∷◌, ◌++◌}
 use Rattle.path.specs.declared.PathView.{PathView}
-use Rattle.path.specs.declared.Reading.{Reading}
+use Rattle.path.specs.Reading.{Reading}
 use Rattle.path.specs.Read.{place_bytes, bytes_by, read_place}
 use Rattle.text.specs.declared.Fault.{Fault}
 use Rattle.text.specs.Put.{answer}

@@ -1,6 +1,6 @@
 -- The lengths of what is encoded, and one writer after the other.
 -- Assumes nothing.
-use Rattle.std.specs.Prelude.{ℕ, ◌+◌, ◌≤◌, ◌≡◌, Bool, cond, List, [], ◌∷◌, ◌++◌, length}
+use Rattle.std.specs.Prelude.{ℕ, ◌+◌, ◌≤◌, ◌≡◌, Bool, cond, List, [], ◌∷◌, ◌++◌, length, Err}
 use Rattle.std.proofs.Common.{append_assoc, length-append}
 use Rattle.text.specs.Put.{put, Wrote, text, refused, Wanted, answer}
 use Rattle.text.specs.declared.Fault.{Fault}
@@ -9,8 +9,7 @@ use Rattle.path.specs.declared.Place.{Place}
 use Rattle.path.specs.declared.PathView.{PathView}
 use Rattle.path.specs.declared.Path.{Path}
 use Rattle.path.specs.declared.Refusal.{Refusal}
-use Rattle.path.specs.declared.Reading.{Reading}
-use Rattle.path.specs.declared.Reading.TheVariants.{Read, Refused}
+use Rattle.path.specs.Reading.{Reading, Read}
 use Rattle.path.specs.Read.{place_bytes, refusal_of, as_fault, read_path, bytes_by, reading_bytes, read_fault}
 use Rattle.path.specs.View.{view_of}
 use Rattle.text.specs.Number.{big_endian}
@@ -43,7 +42,7 @@ module _ (r : Reading) where
   unfolding view_bytes view_of
   bytes_read p x v h e = rw (h, e)
 
-  pub bytes-refused : (w : Refusal) → r ≡ Refused w → refused (refusal_of w) ≡ bytes_by r
+  pub bytes-refused : (w : Refusal) → r ≡ Err w → refused (refusal_of w) ≡ bytes_by r
   bytes-refused w h = rw h
 
   -- and the answer beside them
@@ -52,7 +51,7 @@ module _ (r : Reading) where
     unfolding answer_by
     fault-read p x h w e a i = rw (i, e, h)
 
-    pub fault-refused : (w : Refusal) (f : Fault) → r ≡ Refused w → f ≡ as_fault w → f ≡ answer_by r room
+    pub fault-refused : (w : Refusal) (f : Fault) → r ≡ Err w → f ≡ as_fault w → f ≡ answer_by r room
     unfolding answer_by answer
     fault-refused w f h e = rw h e
 

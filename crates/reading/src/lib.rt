@@ -34,10 +34,10 @@ pub fn part(text: &[u8], p: Place) -> &[u8]
 pub fn first_identifier(text: &[u8], reading: Reading) -> &[u8]
     ensures { Shows result text.entry (first_place reading) }
 {
-    let Reading::Read { path, exact } = reading else {
+    let Ok(read) = reading else {
         return part(text, Place { start: 0, len: 0 });
     };
-    let v = path::view(path, exact);
+    let v = path::view(read.path, read.exact);
     let first = v.first;
     part(text, first)
 }
@@ -46,10 +46,10 @@ pub fn first_identifier(text: &[u8], reading: Reading) -> &[u8]
 pub fn second_identifier(text: &[u8], reading: Reading) -> &[u8]
     ensures { Shows result text.entry (second_place reading) }
 {
-    let Reading::Read { path, exact } = reading else {
+    let Ok(read) = reading else {
         return part(text, Place { start: 0, len: 0 });
     };
-    let v = path::view(path, exact);
+    let v = path::view(read.path, read.exact);
     let second = v.second;
     part(text, second)
 }
@@ -71,13 +71,13 @@ pub fn write_answer(reading: Reading, out: &mut [u8]) -> Fault
     ensures out_after { out.new ≡ left (bytes_by reading) out.old }
 {
     match reading {
-        Reading::Read { path, exact } => {
-            let written = encode::write_view(path::view(path, exact), out);
+        Ok(read) => {
+            let written = encode::write_view(path::view(read.path, read.exact), out);
             Fault {
                 refusal: written.refusal,
                 place: 0,
             }
         }
-        Reading::Refused(why) => path::fault_of(why),
+        Err(why) => path::fault_of(why),
     }
 }

@@ -6,6 +6,13 @@ use Rattle.text.specs.OutcomeLaws.{agree}
 use Rattle.render.proofs.render.Reads as render
 use Rattle.render.proofs.fit.fit_kind.Reads as fit-kind
 use Rattle.render.proofs.names_of.Reads as names_of
+use Rattle.render.proofs.checks.checked_kind.Reads as checked-kind
+use Rattle.render.proofs.checks.checked_parent.Reads as checked-parent
+use Rattle.render.proofs.checks.checked_packets.Reads as checked-packets
+use denote.RattleType.{RattleType}
+use denote.Param.Laws.{Laws}
+use mir.Syntax.{Dict}
+use Rattle.render.specs.declared.checks.NameCheck as NameCheck
 use Rattle.render.proofs.texts.fit_parent.Reads as fit-parent
 use Rattle.render.proofs.texts.fit_packets_path.Reads as fit-packets-path
 use Rattle.render.proofs.texts.client_state_prefix.Reads as client-state-prefix
@@ -79,3 +86,13 @@ one-ack_prefix κs a r₁ r₂ s₁ s₂ p q = agree p q
 
 pub one-receipt_prefix : OneWith receipt-prefix.Post (λ κs s. s.0.now)
 one-receipt_prefix κs a r₁ r₂ s₁ s₂ p q = agree p q
+
+-- whatever the identifiers are made of
+pub one-checked_kind : (T : RattleType) (M : Laws T) (G : NameCheck.Ghosts T.Denot) (D : Dict) → OneWith (checked-kind.Post T M G D) (λ κs s. s.0.now)
+one-checked_kind T M G D κs a r₁ r₂ s₁ s₂ p q = agree p q
+
+pub one-checked_parent : (T : RattleType) (M : Laws T) (G : NameCheck.Ghosts T.Denot) (D : Dict) → OneWith (checked-parent.Post T M G D) (λ κs s. s.1.0.now)
+one-checked_parent T M G D κs a r₁ r₂ s₁ s₂ p q = agree p q
+
+pub one-checked_packets : (T : RattleType) (M : Laws T) (G : NameCheck.Ghosts T.Denot) (D : Dict) → OneWith (checked-packets.Post T M G D) (λ κs s. s.1.1.1.0.now)
+one-checked_packets T M G D κs a r₁ r₂ s₁ s₂ p q = agree p q

@@ -1,8 +1,8 @@
 -- Two steps of a rendering: which identifiers are checked, and that the text is short enough.
 -- Assumes nothing.
-use Rattle.std.specs.Prelude.{ℕ, cond, List, ltb, leb, length}
+use Rattle.std.specs.Prelude.{ℕ, cond, List, eqb, ltb, leb, length}
 use Rattle.text.specs.Refusal.{too_long}
-use Rattle.text.specs.Put.{Wanted, accepted}
+use Rattle.text.specs.Put.{Wanted, refused, accepted}
 use Rattle.identifiers.specs.Check.{first, unless}
 use Rattle.path.specs.declared.name.Name.{Name}
 use Rattle.path.specs.declared.name.Name.TheVariants.{Client as client, Connection as connection, Port as port, Channel as channel, Upgrade as upgrade}
@@ -21,3 +21,7 @@ fault_by f PortAndChannel one two = first (f port one) (f channel two)
 -- a text of at most 4,096 bytes
 unfoldable pub short : List ℕ → Wanted
 short w = accepted (unless too_long (leb (length w) 4096)) w
+
+-- what is wanted, unless a check refused
+abbrev pub checked : ℕ → Wanted → Wanted
+checked n w = cond (eqb n 0) w (refused n)

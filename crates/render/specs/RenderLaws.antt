@@ -1,12 +1,14 @@
 -- The ways through the renderer.
 -- Assumes nothing.
-use Rattle.std.specs.Prelude.{ℕ, zero, suc, min, ◌+◌, ◌-◌, ◌≤◌, ◌<◌, ◌≡◌, List, [], get_or}
+use Rattle.std.specs.Prelude.{ℕ, zero, suc, min, ◌+◌, ◌-◌, ◌≤◌, ◌<◌, ◌≡◌, List, [], get_or, Bool}
 use Rattle.std.proofs.Math.Path.{refl}
-use Rattle.std.proofs.Math.Bool.{and-false}
+use Rattle.std.proofs.Math.Bool.{true, false, cond, and-false}
+use Rattle.std.proofs.Math.Dec.{eqb}
+use Rattle.std.proofs.lemmas.Bool.{eqb-false}
 use native.Mathlib.Omega.{arith}
 use Rattle.std.proofs.Math.ListN.{length}
-use borrow.Author.Tests.{le-leb, lt-leb, ne_eqb}
-use Rattle.text.specs.Put.{Wrote, refused, text, refusal, done, answer, left}
+use borrow.Author.Tests.{le-leb, lt-leb, eqb-true, ne_eqb}
+use Rattle.text.specs.Put.{Wrote, Wanted, refused, text, refusal, done, answer, left}
 use Rattle.text.specs.PutLaws.{gives-refusal, gives_same, gives-short, gives-text}
 use Rattle.text.specs.TableLaws.{agree_at}
 use Rattle.identifiers.specs.CheckLaws.{first-last}
@@ -17,7 +19,7 @@ use Rattle.path.specs.Read.{show, render, name_fault, names_fault, limited, part
 use Rattle.path.specs.Length.{render_length, first_of}
 use Rattle.path.specs.MeasureLaws.{render-length, length-by}
 use Rattle.writers.specs.Texts.{sequence_texts}
-use Rattle.render.specs.Render.{names_of, fault_by, short}
+use Rattle.render.specs.Render.{names_of, fault_by, short, checked}
 
 -- ---- the kind
 module _ (k : ℕ) (v : Carried (List ℕ)) where
@@ -53,6 +55,21 @@ module _ (k : ℕ) (v : Carried (List ℕ)) where
     pub kind-limited : fault_by name_fault (names_of k) v.first v.second ≡ 0 → limited (parts_of k) v ≡ short (render (parts_of k) v)
     unfolding short
     kind-limited e = rw (kind-fault, e)
+
+    pub kind-checked : limited (parts_of k) v ≡ checked (fault_by name_fault (names_of k) v.first v.second) (short (render (parts_of k) v))
+    kind-checked = go (eqb (fault_by name_fault (names_of k) v.first v.second) 0) refl
+      where
+        go : (b : Bool) → eqb (fault_by name_fault (names_of k) v.first v.second) 0 ≡ b → limited (parts_of k) v ≡ cond b (short (render (parts_of k) v)) (refused (fault_by name_fault (names_of k) v.first v.second))
+        go true e = kind-limited (eqb-true _ 0 e)
+        go false e = kind-refused _ refl (eqb-false _ 0 e)
+
+-- ---- what is wanted, by a check's refusal, and by none
+module _ {n m : ℕ} (w : Wanted) (e : n ≡ m) where
+  pub checked-refused : (n ≡ 0 → ⊥) → checked m w ≡ refused n
+  checked-refused h = rw (← e, ne_eqb n 0 h)
+
+  pub checked-wanted : n ≡ 0 → checked m w ≡ w
+  checked-wanted h = rw (← e, h)
 
 -- ---- the length, by the lengths of the identifiers up to 4,097
 first-capped : (n x y f g : ℕ) → min 4097 (f + (first_of n (min 4097 x) (min 4097 y) + g)) ≡ min 4097 (f + (first_of n x y + g))

@@ -10,19 +10,12 @@ use text::Written;
 use text::refusal::{NO_ROOM, TOO_LONG};
 use writers::kinds::{write_kind, write_next_sequence};
 
-// The number, and 4,097 for every larger one: no text of more than 4,096 bytes is written.
-fn capped(n: usize) -> usize
-    ensures { result ≡ min 4097 n }
-{
-    if 4097 < n { 4097 } else { n }
-}
-
-// How many bytes the text of a kind has; of what is longer than 4,096, only that it is.
+// How many bytes the text of a kind has; of what is longer than 4,096, which is never written, only that it is.
 fn length_of(kind: u8, first: &[u8], second: &[u8], a: u64, b: u64) -> usize
     requires { (1 ≤ kind) × (kind ≤ 19) }
     ensures { min 4097 result ≡ min 4097 (length (render (parts_of kind) (carried first.now second.now a b))) }
 {
-    path::measure::render_length(kind, capped(first.len()), capped(second.len()), a, b)
+    path::measure::render_length(kind, first.len().min(4097), second.len().min(4097), a, b)
 }
 
 // Kinds 1 to 3: a word each.

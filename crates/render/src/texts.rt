@@ -1,15 +1,13 @@
 // The texts that are no whole path: prefixes, parents, leaves and the paths of packets.
-ghost use Rattle.std.specs.Prelude.{◌≡◌, ◌∷◌, [], ◌≤◌, length};
+ghost use Rattle.std.specs.Prelude.{◌≡◌, true, false, ◌∷◌, [], ◌+◌, ◌≤◌, ◌<◌, length};
 ghost use Rattle.text.specs.Bytes.{bytes};
-ghost use Rattle.text.specs.Put.{text, accepted, answer, left};
+ghost use Rattle.text.specs.Put.{text, answer, left};
 ghost use Rattle.path.specs.Kinds.{word, carried};
 ghost use Rattle.path.specs.Parents.{text_of, consensus_parent, consensus_leaf, packets_path};
-ghost use Rattle.path.specs.Read.{name_fault};
 ghost use Rattle.writers.specs.Texts.{parent_text, leaf_text, packets_text};
-ghost use Rattle.render.specs.declared.Names.TheVariants.{PortAndChannel};
-ghost use Rattle.render.specs.Render.{fault_by};
 
-use crate::ends_fault;
+use crate::checks::{checked_packets, checked_parent};
+use identifiers::alphabet::Ascii;
 use path::{RevisionHeight, RevisionNumber};
 use text::Written;
 use text::refusal::NO_ROOM;
@@ -52,14 +50,28 @@ pub fn fit_parent(client: &[u8], out: &mut [u8]) -> Written
     }
 }
 
+// Whether two texts and so many bytes beside them fit the room. The sum is not formed, since it may be larger than any number.
+fn fit(room: usize, beside: usize, one: usize, two: usize) -> bool
+    ensures { (result ≡ true → beside + one + two ≤ room) × (result ≡ false → room < beside + one + two) }
+{
+    if room < beside {
+        return false;
+    }
+    let left = room - beside;
+    if left < one {
+        return false;
+    }
+    two <= left - one
+}
+
 // `ports/P/channels/H/sequences` after the first component, of a port and a channel that were accepted; `first` is that
 // component and `/ports/`.
 pub fn fit_packets_path(first: &[u8], port: &[u8], channel: &[u8], out: &mut [u8]) -> Written
-    requires { (length first.now ≤ 64) × (length port.now ≤ 128) × (length channel.now ≤ 64) }
+    requires { length first.now ≤ 64 }
     ensures value { result ≡ answer (text (packets_text first.now port.now channel.now)) (length out.old) }
     ensures out_after { out.new ≡ left (text (packets_text first.now port.now channel.now)) out.old }
 {
-    if out.len() < 20 + first.len() + port.len() + channel.len() {
+    if !fit(out.len(), 20 + first.len(), port.len(), channel.len()) {
         return Written {
             refusal: NO_ROOM,
             length: 0,
@@ -70,19 +82,6 @@ pub fn fit_packets_path(first: &[u8], port: &[u8], channel: &[u8], out: &mut [u8
         refusal: 0,
         length: length as u64,
     }
-}
-
-// Checks a port and a channel, then writes the path of their packets.
-fn checked_packets(first: &[u8], port: &[u8], channel: &[u8], out: &mut [u8]) -> Written
-    requires { length first.now ≤ 64 }
-    ensures value { result ≡ answer (accepted (fault_by name_fault PortAndChannel port.now channel.now) (packets_text first.now port.now channel.now)) (length out.old) }
-    ensures out_after { out.new ≡ left (accepted (fault_by name_fault PortAndChannel port.now channel.now) (packets_text first.now port.now channel.now)) out.old }
-{
-    let refusal = ends_fault(port, channel);
-    if refusal != 0 {
-        return Written { refusal, length: 0 };
-    }
-    fit_packets_path(first, port, channel, out)
 }
 
 // What all client states stand under.
@@ -106,11 +105,7 @@ pub fn consensus_state_parent(client: &[u8], out: &mut [u8]) -> Written
     ensures value { result ≡ answer (text_of consensus_parent (carried client.now [] 0 0)) (length out.old) }
     ensures out_after { out.new ≡ left (text_of consensus_parent (carried client.now [] 0 0)) out.old }
 {
-    let refusal = identifiers::validate::validate_client_identifier(client);
-    if refusal != 0 {
-        return Written { refusal, length: 0 };
-    }
-    fit_parent(client, out)
+    checked_parent::<Ascii>(client, out)
 }
 
 // `consensusStates/R-h`.
@@ -162,7 +157,7 @@ pub fn commitments_path(port: &[u8], channel: &[u8], out: &mut [u8]) -> Written
     ensures value { result ≡ answer (text_of (packets_path (bytes "commitments")) (carried port.now channel.now 0 0)) (length out.old) }
     ensures out_after { out.new ≡ left (text_of (packets_path (bytes "commitments")) (carried port.now channel.now 0 0)) out.old }
 {
-    checked_packets(b"commitments/ports/", port, channel, out)
+    checked_packets::<Ascii>(b"commitments/ports/", port, channel, out)
 }
 
 // `acks/ports/P/channels/H/sequences`.
@@ -170,7 +165,7 @@ pub fn acks_path(port: &[u8], channel: &[u8], out: &mut [u8]) -> Written
     ensures value { result ≡ answer (text_of (packets_path (bytes "acks")) (carried port.now channel.now 0 0)) (length out.old) }
     ensures out_after { out.new ≡ left (text_of (packets_path (bytes "acks")) (carried port.now channel.now 0 0)) out.old }
 {
-    checked_packets(b"acks/ports/", port, channel, out)
+    checked_packets::<Ascii>(b"acks/ports/", port, channel, out)
 }
 
 // `receipts/ports/P/channels/H/sequences`.
@@ -178,7 +173,7 @@ pub fn receipts_path(port: &[u8], channel: &[u8], out: &mut [u8]) -> Written
     ensures value { result ≡ answer (text_of (packets_path (bytes "receipts")) (carried port.now channel.now 0 0)) (length out.old) }
     ensures out_after { out.new ≡ left (text_of (packets_path (bytes "receipts")) (carried port.now channel.now 0 0)) out.old }
 {
-    checked_packets(b"receipts/ports/", port, channel, out)
+    checked_packets::<Ascii>(b"receipts/ports/", port, channel, out)
 }
 
 // What all packet commitments stand under.

@@ -1,12 +1,12 @@
 -- Laws of `sentence`: which numbers have no sentence, and how long one is.
 -- Assumes nothing.
-use Rattle.std.specs.Prelude.{ℕ, ◌+◌, ◌-◌, ◌≤◌, ◌<◌, ◌≡◌, Bool, true, false, cond, ◌&&◌, List, [], ◌∷◌, eqb, leb, length, take, drop}
+use Rattle.std.specs.Prelude.{ℕ, ◌≤◌, ◌<◌, ◌≡◌, Bool, true, false, cond, ◌&&◌, List, [], ◌∷◌, eqb, leb, length}
 use Rattle.std.proofs.Math.Path.{refl}
-use Rattle.std.proofs.Common.{sym, ap, ◌∙◌, arith, take_at, leb-true, ne_eqb}
-use Rattle.text.specs.Put.{put}
-use Rattle.text.specs.PutLaws.{put-nil, put-zero, length-put}
+use Rattle.std.proofs.Common.{arith, leb-true, ne_eqb}
 use Rattle.text.specs.PartLaws.{and_left, and_right}
 use Rattle.text.specs.Refusal.{sentences, said, sentence}
+use Rattle.text.specs.TableLaws.{NoneOf, past}
+use Rattle.std.proofs.Math.Decide.{dec_lt}
 
 -- ---- 8, and what is above 25, have none
 pub sentence-eight : sentence 8 ≡ []
@@ -28,9 +28,13 @@ module _ (n : ℕ) (l : 25 < n) where
   unfolding sentence
   sentence-past = none_said sentences refl
 
--- nothing is written where there is none
-pub nothing_said : (out : List ℕ) (at : ℕ) (s : List ℕ) → s ≡ [] → (at ≡ at + length s) × (out ≡ put out at s)
-nothing_said out at s e = rw e (omega arith, sym (put-nil out at))
+-- nor has what is none of the others
+pub sentence-none : (n : ℕ) → NoneOf 0 8 n → NoneOf 9 17 n → sentence n ≡ []
+sentence-none n h k = go (dec_lt 8 n)
+  where
+    go : Dec (8 < n) → sentence n ≡ []
+    go (yes l) = sentence-past n (past 9 17 n k l)
+    go (no l) = let e : n ≡ 8 = omega (arith, past 0 8 n h (omega arith)) in rw e sentence-eight
 
 -- ---- a sentence has at most 128 bytes
 abbrev short : List (ℕ × List ℕ) → Bool
@@ -48,11 +52,3 @@ short-said n (row ∷ rows) h = go (eqb n row.0) (short-said n rows (and_right (
 pub sentence-length : (n : ℕ) → length (sentence n) ≤ 128
 unfolding sentence
 sentence-length n = short-said n sentences refl
-
--- ---- a text that was written to the front of a buffer, lent again
-module _ (out w o : List ℕ) (n : ℕ) (h : length w ≤ length out) (e : n ≡ 0 + length w) (f : o ≡ put out 0 w) where
-  pub front-room : n ≤ length o
-  front-room = omega (arith, ap length f ∙ length-put out 0 w (omega arith))
-
-  pub front-part : take (n - 0) o ≡ w
-  front-part = let l : length w ≡ n - 0 = omega arith in rw (f, put-zero out w) (take_at w (drop (length w) out) (n - 0) l)

@@ -13,7 +13,6 @@ use Rattle.text.proofs.number_width.Reads as number-width
 use Rattle.text.proofs.write_number.Reads as write-number
 use Rattle.text.proofs.write_big_endian.Reads as write-big-endian
 use Rattle.text.proofs.read_big_endian.Reads as read-big-endian
-use Rattle.text.proofs.part.larger.Reads as larger
 use Rattle.text.proofs.part.eight.Reads as eight
 use Rattle.text.proofs.part.all_ascii.Reads as all_ascii
 use Rattle.text.proofs.part.same_at.Reads as same_at
@@ -49,9 +48,6 @@ one-write_big_endian κs a r₁ r₂ s₁ s₂ p q = agree p q
 
 pub one-read_big_endian : One read-big-endian.Post
 one-read_big_endian κs a r₁ r₂ s₁ s₂ p q = p ∙ sym q
-
-pub one-larger : One larger.Post
-one-larger κs a r₁ r₂ s₁ s₂ p q = p ∙ sym q
 
 pub one-eight : One eight.Post
 one-eight κs a r₁ r₂ s₁ s₂ p q = p.0 ∙ sym q.0

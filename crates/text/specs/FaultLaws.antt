@@ -1,10 +1,9 @@
 -- Laws of `Fault`: the fault of a number text stands in it or at its end, and says what to mend.
 -- Assumes nothing.
-use Rattle.std.specs.Prelude.{ℕ, zero, suc, ◌+◌, ◌^◌, ◌≤◌, ◌<◌, ◌≡◌, refl, Bool, true, false, cond, List, [], ◌∷◌, ◌++◌, eqb, ltb, length, take}
+use Rattle.std.specs.Prelude.{ℕ, zero, suc, ◌+◌, ◌^◌, ◌≤◌, ◌<◌, ◌≡◌, refl, Bool, true, false, cond, List, [], ◌∷◌, ◌++◌, eqb, ltb, length, take, Ok, Err}
 use Rattle.std.proofs.Common.{sym, ap, ◌∙◌, append-nil, arith, eqb-true}
-use Rattle.text.specs.Number.{is_digit, with_digit, digits_from, digits_at, numeral_of}
-use Rattle.text.specs.declared.Numeral.{Numeral}
-use Rattle.text.specs.declared.Numeral.TheVariants.{Value, NoDigits, NotADigit, TooLarge}
+use Rattle.text.specs.Number.{Numeral, is_digit, with_digit, digits_from, digits_at, numeral_of}
+use Rattle.text.specs.declared.NumberFault.TheVariants.{NoDigits, NotADigit, TooLarge}
 use Rattle.text.specs.Refusal.{no_digits}
 use Rattle.text.specs.Fault.{fault, has_place, numeral_fault, numeral_place, Mends}
 
@@ -12,7 +11,7 @@ use Rattle.text.specs.Fault.{fault, has_place, numeral_fault, numeral_place, Men
 abbrev Faulty : Numeral → Type 0
 Faulty x = numeral_fault x ≡ 0 → ⊥
 
-fault-value : (x : Numeral) (v : ℕ) → Faulty x → x ≡ Value v → ⊥
+fault-value : (x : Numeral) (v : ℕ) → Faulty x → x ≡ Ok v → ⊥
 fault-value x v f e = f (ap numeral_fault e)
 
 -- ---- digits after the value v, the first at i: the bytes before the fault are digits, and the byte at it decides
@@ -20,7 +19,7 @@ record Stops (v i : ℕ) (s : List ℕ) : Type 0 where
   n : ℕ
   inside : n < length s
   place : numeral_place (digits_from v i s) ≡ i + n
-  before : (w : ℕ) × (digits_from v i (take n s) ≡ Value w)
+  before : (w : ℕ) × (digits_from v i (take n s) ≡ Ok w)
   after : (r : List ℕ) → digits_from v i (take (suc n) s ++ r) ≡ digits_from v i s
   other : numeral_fault (digits_from v i s) ≡ no_digits → ⊥
 
@@ -29,7 +28,7 @@ unfolding digits_from
 digits-stop v i [] f = absurd (f refl)
 digits-stop v i (b ∷ s) f = go (is_digit b) refl (ltb (with_digit v b) (2 ^ 64)) refl f (λ g. digits-stop (with_digit v b) (i + 1) s g)
   where
-    go : (d : Bool) → is_digit b ≡ d → (l : Bool) → ltb (with_digit v b) (2 ^ 64) ≡ l → Faulty (cond d (cond l (digits_from (with_digit v b) (i + 1) s) (TooLarge i)) (NotADigit i))
+    go : (d : Bool) → is_digit b ≡ d → (l : Bool) → ltb (with_digit v b) (2 ^ 64) ≡ l → Faulty (cond d (cond l (digits_from (with_digit v b) (i + 1) s) (Err (TooLarge i))) (Err (NotADigit i)))
         → (Faulty (digits_from (with_digit v b) (i + 1) s) → Stops (with_digit v b) (i + 1) s) → Stops v i (b ∷ s)
     go true e true l g ih =
         let x = ih g in
@@ -51,11 +50,11 @@ record Ends (i : ℕ) (s : List ℕ) : Type 0 where
   n : ℕ
   inside : n ≤ length s
   place : numeral_place (digits_at i s) ≡ i + n
-  begun : (r : List ℕ) × (w : ℕ) × (digits_at i (take n s ++ r) ≡ Value w)
+  begun : (r : List ℕ) × (w : ℕ) × (digits_at i (take n s ++ r) ≡ Ok w)
   ended : numeral_fault (digits_at i s) ≡ no_digits → n ≡ length s
   stuck : (numeral_fault (digits_at i s) ≡ no_digits → ⊥) → (n < length s) × ((r : List ℕ) → digits_at i (take (suc n) s ++ r) ≡ digits_at i s)
 
-zero_digit : (i : ℕ) → digits_at i (48 ∷ []) ≡ Value 0
+zero_digit : (i : ℕ) → digits_at i (48 ∷ []) ≡ Ok 0
 unfolding digits_at digits_from
 zero_digit i = refl
 
@@ -64,7 +63,7 @@ unfolding digits_at
 at-ends i [] f = record { n = 0; inside = omega arith; place = omega arith; begun = (48 ∷ [], 0, zero_digit i); ended = λ h. refl; stuck = λ h. absurd (h refl) }
 at-ends i (b ∷ s) f = go (digits-stop 0 i (b ∷ s) f)
   where
-    start : (n w : ℕ) → digits_from 0 i (take n (b ∷ s)) ≡ Value w → (r : List ℕ) × (w : ℕ) × (digits_at i (take n (b ∷ s) ++ r) ≡ Value w)
+    start : (n w : ℕ) → digits_from 0 i (take n (b ∷ s)) ≡ Ok w → (r : List ℕ) × (w : ℕ) × (digits_at i (take n (b ∷ s) ++ r) ≡ Ok w)
     start zero w h = (48 ∷ [], 0, zero_digit i)
     start (suc n) w h = ([], w, ap (digits_at i) (append-nil (take (suc n) (b ∷ s))) ∙ h)
 
@@ -81,14 +80,14 @@ at-ends i (b ∷ s) f = go (digits-stop 0 i (b ∷ s) f)
 
 -- ---- the sign
 -- digits that are a number begin with no sign
-plain-number : (u : List ℕ) (w : ℕ) → digits_at 0 u ≡ Value w → numeral_of u ≡ Value w
+plain-number : (u : List ℕ) (w : ℕ) → digits_at 0 u ≡ Ok w → numeral_of u ≡ Ok w
 unfolding numeral_of digits_at digits_from
 plain-number [] w h = let z : ◌≡◌ {A = ℕ} 0 1 = cc in absurd (omega arith)
 plain-number (c ∷ u) w h = go (eqb c 43) refl
   where
-    go : (v : Bool) → eqb c 43 ≡ v → cond v (digits_at 1 u) (digits_at 0 (c ∷ u)) ≡ Value w
+    go : (v : Bool) → eqb c 43 ≡ v → cond v (digits_at 1 u) (digits_at 0 (c ∷ u)) ≡ Ok w
     go true e =
-        let k : NotADigit 0 ≡ Value w = rw (eqb-true c 43 e) at h in
+        let k : Err (NotADigit 0) ≡ Ok w = rw (eqb-true c 43 e) at h in
         let z : ◌≡◌ {A = ℕ} 0 1 = cc in absurd (omega arith)
     go false e = h
 
@@ -106,7 +105,7 @@ number-mends (b ∷ s) f = go (eqb b 43) refl f
           inside = let h = x.inside in omega arith;
           begun = (x.begun.0, (x.begun.1, rw (p, e) x.begun.2));
           ended = λ h. let k = x.ended h in omega arith;
-          stuck = λ h. (let k = (x.stuck h).0 in omega arith, λ r y. let k : digits_at 1 (take (suc x.n) s ++ r) ≡ Value y.0 = rw (p, e) at y.1 in fault-value (digits_at 1 s) y.0 g (sym ((x.stuck h).1 r) ∙ k));
+          stuck = λ h. (let k = (x.stuck h).0 in omega arith, λ r y. let k : digits_at 1 (take (suc x.n) s ++ r) ≡ Ok y.0 = rw (p, e) at y.1 in fault-value (digits_at 1 s) y.0 g (sym ((x.stuck h).1 r) ∙ k));
         }
     go false e g =
         let x = at-ends 0 (b ∷ s) g in
@@ -115,7 +114,7 @@ number-mends (b ∷ s) f = go (eqb b 43) refl f
           inside = let h = x.inside in omega arith;
           begun = (x.begun.0, (x.begun.1, rw p (plain-number (take x.n (b ∷ s) ++ x.begun.0) x.begun.1 x.begun.2)));
           ended = λ h. let k = x.ended h in omega arith;
-          stuck = λ h. (let k = (x.stuck h).0 in omega arith, λ r y. let k : digits_at 0 (b ∷ (take x.n s ++ r)) ≡ Value y.0 = rw (p, e) at y.1 in fault-value (digits_at 0 (b ∷ s)) y.0 g (sym ((x.stuck h).1 r) ∙ k));
+          stuck = λ h. (let k = (x.stuck h).0 in omega arith, λ r y. let k : digits_at 0 (b ∷ (take x.n s ++ r)) ≡ Ok y.0 = rw (p, e) at y.1 in fault-value (digits_at 0 (b ∷ s)) y.0 g (sym ((x.stuck h).1 r) ∙ k));
         }
 
 -- the place of a number text, also of one without fault, is in the text or at its end
@@ -123,10 +122,10 @@ pub number-place : (c : List ℕ) → numeral_place (numeral_of c) ≤ length c
 number-place c = go (numeral_of c) refl
   where
     go : (x : Numeral) → numeral_of c ≡ x → numeral_place x ≤ length c
-    go (Value v) e = omega arith
-    go (NoDigits i) e = let k : i ≤ length c = rw e at (number-mends c (rw e (λ h. omega arith))).inside in k
-    go (NotADigit i) e = let k : i ≤ length c = rw e at (number-mends c (rw e (λ h. omega arith))).inside in k
-    go (TooLarge i) e = let k : i ≤ length c = rw e at (number-mends c (rw e (λ h. omega arith))).inside in k
+    go (Ok v) e = omega arith
+    go (Err (NoDigits i)) e = let k : i ≤ length c = rw e at (number-mends c (rw e (λ h. omega arith))).inside in k
+    go (Err (NotADigit i)) e = let k : i ≤ length c = rw e at (number-mends c (rw e (λ h. omega arith))).inside in k
+    go (Err (TooLarge i)) e = let k : i ≤ length c = rw e at (number-mends c (rw e (λ h. omega arith))).inside in k
 
 -- ---- a refusal without a place
 pub refuses : (n m p : ℕ) → m ≡ n → has_place n ≡ false → record { refusal = n; place = 0 } ≡ fault m p

@@ -1,14 +1,13 @@
 -- Laws of `Number`. No contract cites this file.
 -- Assumes nothing.
-use Rattle.std.specs.Prelude.{◌≡◌, refl, Bool, true, false, cond, ℕ, zero, suc, ◌+◌, ◌*◌, ◌/◌, ◌%◌, ◌^◌, ◌≤◌, ◌<◌, List, [], ◌∷◌, ◌++◌, ltb, leb, eqb, length, take, drop, get_or}
+use Rattle.std.specs.Prelude.{◌≡◌, refl, Bool, true, false, cond, ℕ, zero, suc, ◌+◌, ◌*◌, ◌/◌, ◌%◌, ◌^◌, ◌≤◌, ◌<◌, List, [], ◌∷◌, ◌++◌, ltb, leb, eqb, length, take, drop, get_or, Ok, Err}
 use Rattle.std.proofs.Common.{ap, ◌∙◌, pow-suc, add-zero, zero-add, le_refl, add-one, arith, append_assoc, append-nil, length-append, length-take, length-drop, get_or-drop, drop-cons, take_at, drop_at, lt-ltb, le-ltb, le-leb, ne_eqb, ltb-true, leb-true}
 use Rattle.std.proofs.Math.Decide.{dec_lt}
 use Rattle.std.proofs.Math.ListN.{get_or-append}
 use Rattle.std.proofs.lemmas.List.{get_or_at}
 use Rattle.text.specs.PartLaws.{and_left, and_right}
-use Rattle.text.specs.Number.{numeral_of, digits_at, digits_from, is_digit, with_digit, width, width_by, digits, decimal, big_endian, low_bytes, big_from, big_at, Bytes}
-use Rattle.text.specs.declared.Numeral.{Numeral}
-use Rattle.text.specs.declared.Numeral.TheVariants.{Value, NotADigit, TooLarge}
+use Rattle.text.specs.Number.{Numeral, numeral_of, digits_at, digits_from, is_digit, with_digit, width, width_by, digits, decimal, big_endian, low_bytes, big_from, big_at, Bytes}
+use Rattle.text.specs.declared.NumberFault.TheVariants.{NotADigit, TooLarge}
 
 -- what holds of the numbers below ten, and of n where it holds of n / 10, holds of each number
 module _ (P : ℕ → Type 0) (small : (n : ℕ) → n < 10 → P n) (more : (n : ℕ) → 10 ≤ n → P (n / 10) → P n) where
@@ -131,24 +130,24 @@ unsigned [] h d = absurd (omega arith)
 unsigned (b ∷ s) h d = rw (ne_eqb b 43 (λ e. omega arith))
 
 -- what is written reads as the number
-pub read-decimal : (n : ℕ) → n < 2 ^ 64 → numeral_of (decimal n) ≡ Value n
+pub read-decimal : (n : ℕ) → n < 2 ^ 64 → numeral_of (decimal n) ≡ Ok n
 unfolding decimal digits_from
 read-decimal n h =
     let p : 0 < length (decimal n) = omega (arith, length-decimal n, width_pos n) in
     unsigned (decimal n) p (decimal-each n 0 p).0 ∙ rw (← append-nil (decimal n)) (digits-read (width n) n 0 [] (below_pow n) h)
 
 -- a number that is read fits a u64
-cond-is : (t : Bool) (a b : Numeral) (n : ℕ) → cond t a b ≡ Value n → (b ≡ Value n → ⊥) → (t ≡ true) × (a ≡ Value n)
+cond-is : (t : Bool) (a b : Numeral) (n : ℕ) → cond t a b ≡ Ok n → (b ≡ Ok n → ⊥) → (t ≡ true) × (a ≡ Ok n)
 cond-is true a b n h x = (refl, h)
 cond-is false a b n h x = absurd (x h)
 
-large-is-none : (i n : ℕ) → TooLarge i ≡ Value n → ⊥
+large-is-none : (i n : ℕ) → Err (TooLarge i) ≡ Ok n → ⊥
 large-is-none i n x = let z : ◌≡◌ {A = ℕ} 0 1 = cc in omega arith
 
-letter-is-none : (i n : ℕ) → NotADigit i ≡ Value n → ⊥
+letter-is-none : (i n : ℕ) → Err (NotADigit i) ≡ Ok n → ⊥
 letter-is-none i n x = let z : ◌≡◌ {A = ℕ} 0 1 = cc in omega arith
 
-digits_from-fits : (s : List ℕ) (v i n : ℕ) → v < 2 ^ 64 → digits_from v i s ≡ Value n → n < 2 ^ 64
+digits_from-fits : (s : List ℕ) (v i n : ℕ) → v < 2 ^ 64 → digits_from v i s ≡ Ok n → n < 2 ^ 64
 unfolding digits_from
 digits_from-fits [] v i n u h = let e : v ≡ n = cc in omega arith
 digits_from-fits (b ∷ s) v i n u h =
@@ -156,16 +155,16 @@ digits_from-fits (b ∷ s) v i n u h =
     let small = cond-is (ltb (with_digit v b) (2 ^ 64)) _ _ n digit.1 (large-is-none i n) in
     digits_from-fits s (with_digit v b) (i + 1) n (ltb-true _ _ small.0) small.1
 
-digits_at-fits : (s : List ℕ) (i n : ℕ) → digits_at i s ≡ Value n → n < 2 ^ 64
+digits_at-fits : (s : List ℕ) (i n : ℕ) → digits_at i s ≡ Ok n → n < 2 ^ 64
 unfolding digits_at
 digits_at-fits [] i n h = let z : ◌≡◌ {A = ℕ} 0 1 = cc in omega arith
 digits_at-fits (b ∷ s) i n h = digits_from-fits (b ∷ s) 0 i n (omega arith) h
 
-either-fits : (t : Bool) (a b : Numeral) (n : ℕ) → (a ≡ Value n → n < 2 ^ 64) → (b ≡ Value n → n < 2 ^ 64) → cond t a b ≡ Value n → n < 2 ^ 64
+either-fits : (t : Bool) (a b : Numeral) (n : ℕ) → (a ≡ Ok n → n < 2 ^ 64) → (b ≡ Ok n → n < 2 ^ 64) → cond t a b ≡ Ok n → n < 2 ^ 64
 either-fits true a b n f g h = f h
 either-fits false a b n f g h = g h
 
-pub numeral-fits : (s : List ℕ) (n : ℕ) → numeral_of s ≡ Value n → n < 2 ^ 64
+pub numeral-fits : (s : List ℕ) (n : ℕ) → numeral_of s ≡ Ok n → n < 2 ^ 64
 unfolding numeral_of
 numeral-fits [] n h = let z : ◌≡◌ {A = ℕ} 0 1 = cc in omega arith
 numeral-fits (b ∷ s) n h = either-fits (eqb b 43) _ _ n (digits_at-fits s 1 n) (digits_at-fits (b ∷ s) 0 n) h
@@ -176,7 +175,7 @@ abbrev pub NoLonger : List ℕ → List ℕ → Type 0
 NoLonger d c = (length d ≤ length c) × (length d ≡ length c → d ≡ c)
 
 -- k digits with the value v, and the digits s after them, are the digits of what they read as
-digits-back : (k v i : ℕ) (s : List ℕ) (n : ℕ) → v < 10 ^ k → digits_from v i s ≡ Value n → (n < 10 ^ (k + length s)) × (digits (k + length s) n ≡ digits k v ++ s)
+digits-back : (k v i : ℕ) (s : List ℕ) (n : ℕ) → v < 10 ^ k → digits_from v i s ≡ Ok n → (n < 10 ^ (k + length s)) × (digits (k + length s) n ≡ digits k v ++ s)
 unfolding digits digits_from
 digits-back k v i [] n u h = let e : v ≡ n = cc in (rw (add-zero, ← e) u, rw (add-zero, append-nil, e))
 digits-back k v i (b ∷ s) n u h =
@@ -190,7 +189,7 @@ digits-back k v i (b ∷ s) n u h =
     let ones : 48 + with_digit v b % 10 ≡ b = omega arith in
     (rw more at back.0, rw (more, tens, ones, append_assoc) at back.1)
 
-digits_at-no-longer : (i : ℕ) (s : List ℕ) (n : ℕ) → digits_at i s ≡ Value n → NoLonger (decimal n) s
+digits_at-no-longer : (i : ℕ) (s : List ℕ) (n : ℕ) → digits_at i s ≡ Ok n → NoLonger (decimal n) s
 unfolding digits_at decimal digits
 digits_at-no-longer i [] n h = let z : ◌≡◌ {A = ℕ} 0 1 = cc in absurd (omega arith)
 digits_at-no-longer i (b ∷ s) n h =
@@ -199,12 +198,12 @@ digits_at-no-longer i (b ∷ s) n h =
     (omega (arith, length-decimal n), λ e. let f : width n ≡ suc (length s) = omega (arith, length-decimal n) in rw f (rw zero-add at back.1))
 
 -- a sign makes the text longer
-pub decimal-no-longer : (c : List ℕ) (n : ℕ) → numeral_of c ≡ Value n → NoLonger (decimal n) c
+pub decimal-no-longer : (c : List ℕ) (n : ℕ) → numeral_of c ≡ Ok n → NoLonger (decimal n) c
 unfolding numeral_of
 decimal-no-longer [] n h = let z : ◌≡◌ {A = ℕ} 0 1 = cc in absurd (omega arith)
 decimal-no-longer (b ∷ s) n h = go (eqb b 43) h
   where
-    go : (v : Bool) → cond v (digits_at 1 s) (digits_at 0 (b ∷ s)) ≡ Value n → NoLonger (decimal n) (b ∷ s)
+    go : (v : Bool) → cond v (digits_at 1 s) (digits_at 0 (b ∷ s)) ≡ Ok n → NoLonger (decimal n) (b ∷ s)
     go true k = let l = (digits_at-no-longer 1 s n k).0 in (omega arith, λ e. absurd (omega arith))
     go false k = digits_at-no-longer 0 (b ∷ s) n k
 

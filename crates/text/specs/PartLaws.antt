@@ -1,14 +1,19 @@
 -- Laws of `Part`: one turn of each loop.
 -- Assumes nothing.
-use Rattle.std.specs.Prelude.{◌≡◌, Bool, cond, ◌&&◌, ℕ, zero, suc, ◌+◌, ◌-◌, ◌≤◌, ◌<◌, List, [], ◌∷◌, ◌++◌, length, take, drop, get_or, eqb}
+use Rattle.std.specs.Prelude.{◌≡◌, Bool, cond, ◌&&◌, ℕ, zero, suc, ◌+◌, ◌-◌, ◌≤◌, ◌<◌, List, [], ◌∷◌, ◌++◌, length, take, drop, get_or, eqb, ltb}
 use Rattle.std.proofs.Math.Path.{refl}
-use Rattle.std.proofs.Common.{sym, ap, ◌∙◌, add-suc, le_refl, arith, length-drop, take-append-drop, take_all, take-take, take-add}
+use Rattle.std.proofs.Common.{sym, ap, ◌∙◌, le_refl, arith, length-drop, take-append-drop, take_all, take-take, take-add}
 use Rattle.std.proofs.Math.Bool.{true, false, and-true, and-false, and_assoc}
 use Rattle.std.proofs.Math.Numerals.{add-one}
 use Rattle.std.proofs.Math.ListN.{drop_of_length-le}
 use Rattle.std.proofs.Math.Seq.{drop-cons}
-use borrow.Author.Tests.{eq-eqb, ne_eqb, eqb-true}
-use Rattle.text.specs.Part.{every, starts_with, same}
+use Rattle.std.proofs.lemmas.Bool.{eqb-false}
+use Rattle.std.specs.Bool.{MatchBool}
+use Rattle.std.specs.List.{AllWithin, HoldsAt}
+use Rattle.std.specs.Cmp.Lexicographic.{pointwise}
+use Rattle.std.specs.Str.{IsAscii, IsNotAscii}
+use borrow.Author.Tests.{eq-eqb, ne_eqb, eqb-true, lt-ltb, ltb-true}
+use Rattle.text.specs.Part.{every, ascii, starts_with, same}
 
 -- ---- both tests hold
 pub and_left : (a b : Bool) → (a && b) ≡ true → a ≡ true
@@ -25,6 +30,37 @@ unfolding every
 every-at f [] i h l = absurd (omega arith)
 every-at f (b ∷ s) zero h l = and_left (f b) (every f s) h
 every-at f (b ∷ s) (suc i) h l = every-at f s i (and_right (f b) (every f s) h) (omega arith)
+
+-- each byte of a text passes a test that holds at each of its places
+every-each : (f : ℕ → Bool) (s : List ℕ) → ((i : ℕ) → i < length s → f (get_or s i 0) ≡ true) → every f s ≡ true
+unfolding every
+every-each f [] h = refl
+every-each f (b ∷ s) h = rw (h 0 (omega arith), every-each f s (λ i l. h (suc i) (omega arith)))
+
+-- a test of each byte in turn, as `all` makes it
+pub every-match : (f : ℕ → Bool) (r : Bool) (s : List ℕ) → MatchBool r (AllWithin (λ b. f b ≡ true) s 0 (length s)) ((k : ℕ) × (k < length s) × HoldsAt (λ b. f b ≡ false) s k) → r ≡ every f s
+every-match f true s h = sym (every-each f s (λ i l. h i 0 (omega arith) l))
+every-match f false s h = go (every f s) refl
+  where
+    go : (v : Bool) → every f s ≡ v → false ≡ v
+    go false e = refl
+    go true e = sym (h.2 0) ∙ every-at f s h.0 e h.1
+
+-- a byte that is not 0 stands in the text
+stands-within : (s : List ℕ) (i : ℕ) → 0 < get_or s i 0 → i < length s
+stands-within [] i h = absurd (omega arith)
+stands-within (b ∷ s) zero h = omega arith
+stands-within (b ∷ s) (suc i) h = omega (arith, stands-within s i h)
+
+-- a text is ASCII or not
+pub ascii-match : (r : Bool) (s : List ℕ) → MatchBool r (IsAscii s) (IsNotAscii s) → r ≡ ascii s
+unfolding ascii
+ascii-match true s h = sym (every-each (λ b. ltb b 128) s (λ i l. lt-ltb (get_or s i 0) 128 (h i)))
+ascii-match false s h = go (ascii s) refl
+  where
+    go : (v : Bool) → every (λ b. ltb b 128) s ≡ v → false ≡ v
+    go false e = refl
+    go true e = absurd (omega (arith, h.1, ltb-true (get_or s h.0 0) 128 (every-at (λ b. ltb b 128) s h.0 e (stands-within s h.0 (omega (arith, h.1))))))
 
 pub every_append : (f : ℕ → Bool) (a b : List ℕ) → every f (a ++ b) ≡ (every f a && every f b)
 unfolding every
@@ -58,11 +94,6 @@ module _ (f : ℕ → Bool) (s : List ℕ) (i n : ℕ) where
   pub run_more : every f (take i s) ≡ true → every f (take n (drop i s)) ≡ true → every f (take (i + n) s) ≡ true
   run_more h k = rw (take-add i n s, every_append f (take i s) (take n (drop i s)), h, k)
 
-  pub run-stop : every f (take n (drop i s)) ≡ false → every f s ≡ false
-  run-stop h =
-      let rest : every f (drop i s) ≡ false = every_split f (drop i s) n ∙ rw h in
-      every_split f s i ∙ rw rest (and-false (every f (take i s)))
-
 -- the n bytes from i on are the last of the text, and those before j passed
 pub run-last : (f : ℕ → Bool) (s : List ℕ) (i n j : ℕ) → i + n ≡ length s → i ≤ j → every f (take j s) ≡ true → every f s ≡ every f (take n (drop i s))
 run-last f s i n j e h k =
@@ -89,20 +120,19 @@ unfolding starts_with
 starts-byte x [] h = absurd (omega arith)
 starts-byte x (y ∷ s) h = and-true (eqb y x)
 
--- w from i on, against s from at + i on
-module _ (w s : List ℕ) (at i : ℕ) where
-  pub starts_none : length w ≤ i → starts_with (drop i w) (drop (at + i) s) ≡ true
-  unfolding starts_with
-  starts_none h = rw (drop_of_length-le w h)
+eqb_flip : (x y : ℕ) → eqb x y ≡ eqb y x
+eqb_flip x y = go (eqb y x) refl
+  where
+    go : (v : Bool) → eqb y x ≡ v → eqb x y ≡ v
+    go true e = eq-eqb x y (sym (eqb-true y x e))
+    go false e = ne_eqb x y (λ z. eqb-false y x e (sym z))
 
-  module _ (h : i < length w) (k : at + i < length s) where
-    pub starts_other : (get_or s (at + i) 0 ≡ get_or w i 0 → ⊥) → starts_with (drop i w) (drop (at + i) s) ≡ false
-    unfolding starts_with
-    starts_other e = rw (drop-cons w i 0 h, drop-cons s (at + i) 0 k, ne_eqb (get_or s (at + i) 0) (get_or w i 0) e)
-
-    pub starts_more : get_or s (at + i) 0 ≡ get_or w i 0 → starts_with (drop i w) (drop (at + i) s) ≡ starts_with (drop (i + 1) w) (drop (at + (i + 1)) s)
-    unfolding starts_with
-    starts_more e = rw (drop-cons w i 0 h, drop-cons s (at + i) 0 k, eq-eqb (get_or s (at + i) 0) (get_or w i 0) e, add-one, add-suc)
+-- it does where it starts with so many bytes, the same one by one
+pub starts-pointwise : (w s : List ℕ) → pointwise eqb w (take (length w) s) ≡ starts_with w s
+unfolding starts_with
+starts-pointwise [] s = refl
+starts-pointwise (x ∷ w) [] = refl
+starts-pointwise (x ∷ w) (y ∷ s) = rw (eqb_flip x y, starts-pointwise w s)
 
 -- ---- two texts of one length from i on, where d is 0 unless they differed before
 module _ (a b : List ℕ) (i d : ℕ) where

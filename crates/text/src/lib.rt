@@ -6,16 +6,15 @@ pub mod put;
 pub mod refusal;
 
 ghost use Rattle.std.specs.Prelude.{◌≡◌, true, false, ◌+◌, ◌*◌, ◌^◌, ◌≤◌, ◌<◌, length, drop};
-ghost use Rattle.text.specs.Number.{numeral_of, digits_at, width, digits, decimal, big_endian, low_bytes, big_at};
+ghost use Rattle.text.specs.Number.{numeral_of, digits_at, width, digits, decimal, big_endian, big_at};
 ghost use Rattle.text.specs.Fault.{fault, numeral_fault, numeral_place};
 ghost use Rattle.text.specs.Put.{put};
 
 use crate::refusal::{NO_DIGITS, NOT_A_DIGIT, TOO_LARGE};
 
-// What a text says as a number. A fault names its place in the text.
+// Why a text is no number, with the place of the fault in the text.
 #[derive(Clone, Copy)]
-pub enum Numeral {
-    Value(u64),
+pub enum NumberFault {
     NoDigits(usize),
     NotADigit(usize),
     TooLarge(usize),
@@ -53,39 +52,34 @@ pub fn over(v: u64, d: u64) -> bool
 }
 
 // Reads the digits from `start` to the end of `s`: one or more.
-fn digits_at(s: &[u8], start: usize) -> Numeral
+fn digits_at(s: &[u8], start: usize) -> Result<u64, NumberFault>
     requires { start ≤ length s.now }
     ensures { result ≡ digits_at start (drop start s.now) }
 {
     if start == s.len() {
-        return Numeral::NoDigits(start);
+        return Err(NumberFault::NoDigits(start));
     }
     let mut v: u64 = 0;
-    let mut i = start;
-    while i < s.len() {
+    for i in start..s.len() {
         let b = s[i];
-        if b < 48 {
-            return Numeral::NotADigit(i);
+        if !b.is_ascii_digit() {
+            return Err(NumberFault::NotADigit(i));
         }
-        if 57 < b {
-            return Numeral::NotADigit(i);
-        }
-        let d = (b - 48) as u64;
+        let d = u64::from(b - b'0');
         if over(v, d) {
-            return Numeral::TooLarge(i);
+            return Err(NumberFault::TooLarge(i));
         }
         v = v * 10 + d;
-        i += 1;
     }
-    Numeral::Value(v)
+    Ok(v)
 }
 
 // Reads a number: an optional `+`, then one digit or more. The leftmost fault decides.
-pub fn read_number(s: &[u8]) -> Numeral
+pub fn read_number(s: &[u8]) -> Result<u64, NumberFault>
     ensures { result ≡ numeral_of s.now }
 {
     if s.len() == 0 {
-        return Numeral::NoDigits(0);
+        return Err(NumberFault::NoDigits(0));
     }
     if s[0] == 43 {
         digits_at(s, 1)
@@ -95,24 +89,24 @@ pub fn read_number(s: &[u8]) -> Numeral
 }
 
 // What is wrong with a number text whose first byte stands at `at`.
-pub fn numeral_fault(n: Numeral, at: usize) -> Fault
+pub fn numeral_fault(n: Result<u64, NumberFault>, at: usize) -> Fault
     requires { at + numeral_place n < 2 ^ 64 }
     ensures { result ≡ fault (numeral_fault n) (at + numeral_place n) }
 {
     match n {
-        Numeral::Value(_) => Fault {
+        Ok(_) => Fault {
             refusal: 0,
             place: 0,
         },
-        Numeral::NoDigits(i) => Fault {
+        Err(NumberFault::NoDigits(i)) => Fault {
             refusal: NO_DIGITS,
             place: (at + i) as u64,
         },
-        Numeral::NotADigit(i) => Fault {
+        Err(NumberFault::NotADigit(i)) => Fault {
             refusal: NOT_A_DIGIT,
             place: (at + i) as u64,
         },
-        Numeral::TooLarge(i) => Fault {
+        Err(NumberFault::TooLarge(i)) => Fault {
             refusal: TOO_LARGE,
             place: (at + i) as u64,
         },
@@ -295,62 +289,22 @@ pub fn write_number(out: &mut [u8], at: usize, n: u64) -> usize
     write_sixteen(out, next, n % 10000000000000000)
 }
 
-// The number whose eight bytes, low byte first, are those of v, high byte first.
-fn turned(v: u64) -> u64
-    ensures { low_bytes 8 result ≡ big_endian 8 v }
-{
-    let mut r: u64 = 0;
-    let mut m = v;
-    let mut i: usize = 0;
-    while i < 8 {
-        r = r * 256 + m % 256;
-        m = m / 256;
-        i += 1;
-    }
-    r
-}
-
-// Writes the eight bytes of v from out[at] on, low byte first.
-fn write_low(out: &mut [u8], at: usize, v: u64) -> usize
-    requires { at + 8 ≤ length out.old }
-    ensures value { result ≡ at + 8 }
-    ensures out_after { out.new ≡ put out.old at (low_bytes 8 v) }
-{
-    let mut m = v;
-    let mut i: usize = 0;
-    while i < 8 {
-        out[at + i] = (m % 256) as u8;
-        m = m / 256;
-        i += 1;
-    }
-    at + 8
-}
-
-// Writes `width` bytes of v from out[at] on, high byte first, and returns the place after them. Eight are turned round
-// first, since eight stores low byte first are one.
+// Writes `width` bytes of v from out[at] on, high byte first, and returns the place after them. Eight are copied as a whole,
+// which is one store.
 pub fn write_big_endian(out: &mut [u8], at: usize, v: u64, width: usize) -> usize
     requires { at + width ≤ length out.old }
     ensures value { result ≡ at + width }
     ensures out_after { out.new ≡ put out.old at (big_endian width v) }
 {
     if width == 8 {
-        return write_low(out, at, turned(v));
+        return put::write_text(out, at, &v.to_be_bytes());
     }
-    let mut j = width;
     let mut m = v;
-    while 0 < j {
-        j -= 1;
+    for j in (0..width).rev() {
         out[at + j] = (m % 256) as u8;
         m = m / 256;
     }
     at + width
-}
-
-// A byte as a wider number.
-fn wide(b: u8) -> u64
-    ensures { result ≡ b }
-{
-    b as u64
 }
 
 // The number that `width` bytes from s[at] on are, high byte first.
@@ -359,10 +313,8 @@ pub fn read_big_endian(s: &[u8], at: usize, width: usize) -> u64
     ensures { result ≡ big_at at width s.now }
 {
     let mut v: u64 = 0;
-    let mut i: usize = 0;
-    while i < width {
-        v = v * 256 + wide(s[at + i]);
-        i += 1;
+    for b in &s[at..at + width] {
+        v = v * 256 + u64::from(*b);
     }
     v
 }

@@ -21,12 +21,9 @@ pub fn write_text(out: &mut [u8], at: usize, src: &[u8]) -> usize
     ensures value { result ≡ at + length src.now }
     ensures out_after { out.new ≡ put out.old at src.now }
 {
-    let mut i = 0;
-    while i < src.len() {
-        out[at + i] = src[i];
-        i += 1;
-    }
-    at + i
+    let end = at + src.len();
+    out[at..end].copy_from_slice(src);
+    end
 }
 
 // Writes `src` from byte 0 on, or refuses where `out` has too little room.

@@ -1,6 +1,6 @@
 -- The contract of each public function, as the source has it, leaves one outcome: the result, and the content of the buffer that is lent.
 -- Assumes nothing.
-use mathlib.Core.Path.{◌≡◌, sym, ◌∙◌}
+use mathlib.Core.Path.{sym, ◌∙◌}
 use Rattle.text.specs.Outcome.{One, OneWith}
 use Rattle.text.specs.OutcomeLaws.{agree}
 use Rattle.walk.proofs.walk_view.Reads as walk-view

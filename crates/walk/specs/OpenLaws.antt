@@ -1,27 +1,26 @@
 -- The first bytes of a text decide which kinds it can be: the others need not be tried.
 -- Assumes nothing.
-use Rattle.std.specs.Prelude.{ℕ, suc, ◌+◌, ◌≡◌, Bool, false, cond, not, ◌&&◌, ◌||◌, eqb, drop}
+use Rattle.std.specs.Prelude.{ℕ, ◌+◌, ◌≡◌, Bool, false, cond, ◌&&◌, ◌||◌, eqb, drop}
 use Rattle.std.proofs.Math.Path.{refl, sym}
 use Rattle.std.proofs.Common.{ap, ◌∙◌, eqb-true}
 use mathlib.Core.List.{List, [], ◌∷◌, ◌++◌, append_assoc}
-use Rattle.std.proofs.Math.Bool.{true, and-true}
+use Rattle.std.proofs.Math.Bool.{true}
 use native.Mathlib.Omega.{arith}
 use Rattle.std.proofs.Math.ListN.{length, length-append}
 use Rattle.std.proofs.Math.Seq.{drop-drop}
 use Rattle.std.proofs.lemmas.Bool.{eqb-false}
 use Rattle.text.specs.Bytes.{bytes}
-use Rattle.text.specs.Part.{every, starts_with, same}
+use Rattle.text.specs.Part.{every, starts_with}
 use Rattle.text.specs.PartLaws.{and_left, and_right, starts-append}
 use Rattle.path.specs.declared.Place.{Place}
-use Rattle.path.specs.declared.PathView.{PathView}
 use Rattle.path.specs.TextLaws.{without}
-use Rattle.path.specs.Kinds.{Part, word, name, count, pair, Carried, Kind, kinds, kind1, kind2, kind3, kind4, kind5, kind6, kind7, kind8, kind9, kind10, kind11, kind12, kind13, kind14, kind15, kind16, kind17}
+use Rattle.path.specs.Kinds.{Part, word, name, count, pair, Carried, Kind, kinds}
 use Rattle.path.specs.Read.{read_first}
 use Rattle.path.specs.Reads.{Has, here}
 use Rattle.path.specs.View.{kind_of}
 use Rattle.walk_scan.specs.Tail.{Tail, none, some, tail_of}
 use Rattle.walk_scan.specs.TailLaws.{word_more, word-other}
-use Rattle.walk_families.specs.Flat.{nothing, walked, flat, listed, client_kinds, ends_parts, packet_parts}
+use Rattle.walk_families.specs.Flat.{walked, flat, listed}
 use Rattle.walk_families.specs.FlatLaws.{skip, found, none_left}
 use Rattle.walk.specs.Opening.{NoneOf}
 

@@ -1,6 +1,6 @@
 -- What the first bytes of a text say of the kinds 11 to 17.
 -- Assumes nothing.
-use Rattle.std.specs.Prelude.{ℕ, ◌≤◌, ◌≡◌, List, [], ◌∷◌, Bool, false, cond, length, drop}
+use Rattle.std.specs.Prelude.{ℕ, ◌≤◌, ◌≡◌, List, [], ◌∷◌, false, length, drop, Option}
 use Rattle.text.specs.Bytes.{bytes}
 use Rattle.text.specs.Part.{starts_with}
 use Rattle.path.specs.declared.PathView.{PathView}
@@ -18,11 +18,7 @@ NoneOf (h ∷ hs) t = (starts_with h t ≡ false) × NoneOf hs t
 abbrev pub openings : List (List ℕ)
 openings = bytes "channelEnds/ports/" ∷ bytes "nextSequenceSend/ports/" ∷ bytes "nextSequenceRecv/ports/" ∷ bytes "nextSequenceAck/ports/" ∷ bytes "commitments/ports/" ∷ bytes "acks/ports/" ∷ bytes "receipts/ports/" ∷ []
 
-abbrev pub shown : Bool → ℕ → ℕ → Opening
-shown v k n = cond v (record { kind = k; at = n }) (record { kind = 0; at = 0 })
-
--- kind 0 is that none of them stands there; otherwise what follows the opening decides what the text is
+-- the opening of r stands there, and what follows it decides what the text is
 pub record Opens (t : List ℕ) (r : Opening) : Type 0 where
   pub within : r.at ≤ length t
-  pub shut : r.kind ≡ 0 → NoneOf openings t
-  pub decides : (r.kind ≡ 0 → ⊥) → (w : PathView) → w ≡ walked r.kind (tail_of (ends_of r.kind) r.at (drop r.at t)) → w ≡ flat t (read_first listed t)
+  pub decides : (w : Option PathView) → w ≡ walked r.kind (tail_of (ends_of r.kind) r.at (drop r.at t)) → w ≡ flat t (read_first listed t)

@@ -12,38 +12,36 @@ use path::PathView;
 use walk_families::client::client;
 use walk_families::ends::after_ports;
 use walk_families::name::{connection, port};
-use walk_families::no_path;
 
 // Kind 9.
-fn connections(text: &[u8]) -> PathView
+fn connections(text: &[u8]) -> Option<PathView>
     requires { starts_with (bytes "connecti") text.now ≡ true }
     ensures { result ≡ flat text.now (read_first listed text.now) }
 {
     if walk_words::is_connections(text, 0) {
         return connection(text, 12);
     }
-    no_path()
+    None
 }
 
 // Kind 10.
-fn ports(text: &[u8]) -> PathView
+fn ports(text: &[u8]) -> Option<PathView>
     ensures { result ≡ walked 10 (tail_of kind10.parts 0 text.now) }
 {
     if walk_words::is_ports(text, 0) {
         return port(text, 6);
     }
-    no_path()
+    None
 }
 
 // Kinds 4 to 17.
-pub(crate) fn by_word(text: &[u8]) -> PathView
+pub(crate) fn by_word(text: &[u8]) -> Option<PathView>
     ensures { result ≡ flat text.now (read_first listed text.now) }
 {
     if walk_words::is_clients_open(text, 0) {
         return client(text);
     }
-    let o = find_opening(text);
-    if o.kind != 0 {
+    if let Some(o) = find_opening(text) {
         return after_ports(text, o.at, o.kind);
     }
     if walk_words::is_head_connections(text, 0) {

@@ -16,46 +16,37 @@ ghost use Rattle.walk.specs.Bytes.{put_fault};
 
 use crate::counter::counter;
 use path::typed::typed_path;
-use path::{PathView, Reading, Refusal, ViewAnswer};
+use path::{PathView, ReadPath, Reading, Refusal};
 use reading::encode::write_view;
 use reading::fault;
 use text::Fault;
 use walk_families::upgrade::upgrade;
 
 // Kinds 4 to 19: 18 and 19 get their turn wherever no other kind is read.
-fn walk_rest(text: &[u8]) -> PathView
+fn walk_rest(text: &[u8]) -> Option<PathView>
     ensures { result ≡ flat text.now (read_first (listed ++ upgrades) text.now) }
 {
-    let w = dispatch::by_word(text);
-    if w.kind != 0 {
-        return w;
-    }
-    upgrade(text)
+    dispatch::by_word(text).or_else(|| upgrade(text))
 }
 
 // Walks a text.
-fn walk_all(text: &[u8]) -> PathView
+fn walk_all(text: &[u8]) -> Option<PathView>
     ensures { result ≡ flat text.now (read_first kinds text.now) }
 {
-    let c = counter(text);
-    if c.kind != 0 {
-        return c;
-    }
-    walk_rest(text)
+    counter(text).or_else(|| walk_rest(text))
 }
 
 // Reads a text as a path in its flat form. Only a text that is none is looked at again, for the reason.
-pub fn walk_view(text: &[u8]) -> ViewAnswer
+pub fn walk_view(text: &[u8]) -> Result<PathView, Refusal>
     ensures { result ≡ viewed_by (read_path text.now) }
 {
     if 4096 < text.len() {
-        return ViewAnswer::Refused(Refusal::TooLong);
+        return Err(Refusal::TooLong);
     }
-    let w = walk_all(text);
-    if w.kind == 0 {
-        return ViewAnswer::Refused(fault(text));
-    }
-    ViewAnswer::Seen(w)
+    let Some(w) = walk_all(text) else {
+        return Err(fault(text));
+    };
+    Ok(w)
 }
 
 // Reads a text as a path.
@@ -63,16 +54,15 @@ pub fn walk_path(text: &[u8]) -> Reading
     ensures { result ≡ read_path text.now }
 {
     if 4096 < text.len() {
-        return Reading::Refused(Refusal::TooLong);
+        return Err(Refusal::TooLong);
     }
-    let w = walk_all(text);
-    if w.kind == 0 {
-        return Reading::Refused(fault(text));
-    }
-    Reading::Read {
+    let Some(w) = walk_all(text) else {
+        return Err(fault(text));
+    };
+    Ok(ReadPath {
         path: typed_path(w),
         exact: w.exact,
-    }
+    })
 }
 
 // The 26 bytes of what was walked.
@@ -96,13 +86,11 @@ pub fn write_walk(text: &[u8], out: &mut [u8]) -> Fault
     if 4096 < text.len() {
         return path::fault_of(Refusal::TooLong);
     }
-    let c = counter(text);
-    if c.kind != 0 {
+    if let Some(c) = counter(text) {
         return put_walk(c, out);
     }
-    let w = walk_rest(text);
-    if w.kind == 0 {
+    let Some(w) = walk_rest(text) else {
         return path::fault_of(fault(text));
-    }
+    };
     put_walk(w, out)
 }

@@ -1,8 +1,9 @@
 -- The exits of the walk of a client's path.
 -- Assumes nothing.
-use Rattle.std.specs.Prelude.{ℕ, ◌+◌, ◌-◌, ◌≤◌, ◌<◌, ◌≡◌, Bool, false, cond, ◌&&◌, eqb, length, drop, get_or}
+use Rattle.std.specs.Prelude.{ℕ, ◌+◌, ◌-◌, ◌≤◌, ◌<◌, ◌≡◌, Bool, false, cond, ◌&&◌, eqb, length, drop, get_or, Option, Some, None}
+use Rattle.std.specs.Bool.{then_some}
 use Rattle.std.proofs.Math.Path.{refl, sym}
-use Rattle.std.proofs.Common.{ap, ◌∙◌, add-zero, length-drop, drop_of_length-le, get_or-drop, eq-eqb, ne_eqb}
+use Rattle.std.proofs.Common.{ap, ◌∙◌, add-zero, length-drop, drop_of_length-le, get_or-drop}
 use mathlib.Core.List.{List, [], ◌∷◌}
 use Rattle.std.proofs.Math.Bool.{true, and-true}
 use native.Mathlib.Omega.{arith}
@@ -14,43 +15,40 @@ use Rattle.identifiers.specs.Check as check
 use Rattle.path.specs.declared.name.Name.TheVariants.{Client}
 use Rattle.path.specs.declared.PathView.{PathView}
 use Rattle.path.specs.Text.{nowhere}
-use Rattle.path.specs.Kinds.{Part, word, name, pair, carried, Kind, kinds, kind4, kind5, kind6, kind7, kind8}
+use Rattle.path.specs.Kinds.{Part, word, name, pair, carried, kinds, kind4, kind5, kind6, kind7, kind8}
 use Rattle.path.specs.Read.{read_first}
 use Rattle.path.specs.Reads.{here, later}
 use Rattle.path.specs.ReadLaws.{apart_all, kind-has}
 use Rattle.walk_scan.specs.declared.number.Counted.{Counted}
 use Rattle.walk_scan.specs.Number.{counted_of}
-use Rattle.walk_scan.specs.Run.{rule_run}
+use Rattle.walk_scan.specs.Run.{nonzero, rule_run}
 use Rattle.walk_scan.specs.NameLaws.{scans-client}
 use Rattle.walk_scan.specs.Tail.{none, some, tail_of, after_of}
 use Rattle.walk_scan.specs.TailLaws.{word_more, after-word, after_last, after-other, after-longer, after-end, after_more}
-use Rattle.walk_families.specs.Flat.{nothing, flat, client_kinds}
+use Rattle.walk_families.specs.Flat.{flat, client_kinds}
 use Rattle.walk_families.specs.FlatLaws.{skip, found, none_left}
 use Rattle.walk_families.specs.Ends.{with_name}
-use Rattle.walk_families.specs.PieceLaws.{with_pair, rule-none, rule-some, pair-first, pair-none, pair-some}
-use Rattle.walk_families.specs.Client.{time_parts, height_parts, state_parts, link_parts, ended, WordKind, state, links, neither, UpdateKind, over, time, height, other, owned, Consensus, unread, five, six, seven}
+use Rattle.walk_families.specs.PieceLaws.{rule-none, rule-some, pair-first, pair-no_dash, pair-second, pair-some}
+use Rattle.walk_families.specs.Client.{time_parts, height_parts, state_parts, link_parts, ended, WordKind, state, links, neither, UpdateKind, over, time, height, other, Consensus, unread, five, six, seven}
 
 -- ---- one word more
 module _ (t : List ℕ) (e : ℕ) (l : e ≤ length t) where
   left_is : length (drop e t) ≡ length t - e
   left_is = length-drop e t
 
-  pub word-long : (length t - e ≡ 12 → ⊥) → WordKind t e 0
+  pub word-long : (length t - e ≡ 12 → ⊥) → WordKind t e None
   unfolding every
   word-long h = neither (after-longer (bytes "clientState") refl e (drop e t) (λ x. h (omega (arith, x, left_is)))) (after-longer (bytes "connections") refl e (drop e t) (λ x. h (omega (arith, x, left_is))))
 
   module _ (n : length t - e ≡ 12) where
-    pub word-state : starts_with (bytes "/clientState") (drop e t) ≡ true → WordKind t e 4
+    pub word-state : starts_with (bytes "/clientState") (drop e t) ≡ true → WordKind t e (Some 4)
     unfolding every
     word-state h = state (after_last (bytes "clientState") refl e (drop e t) h (omega (arith, n, left_is)))
 
-    pub word-links : starts_with (bytes "/connections") (drop e t) ≡ true → WordKind t e 8
+    pub word-links : starts_with (bytes "/clientState") (drop e t) ≡ false → (v : Bool) → v ≡ starts_with (bytes "/connections") (drop e t) → (k : Option ℕ) → k ≡ then_some v 8 → WordKind t e k
     unfolding every
-    word-links h = links (after_last (bytes "connections") refl e (drop e t) h (omega (arith, n, left_is)))
-
-  pub word-neither : starts_with (bytes "/clientState") (drop e t) ≡ false → starts_with (bytes "/connections") (drop e t) ≡ false → WordKind t e 0
-  unfolding every
-  word-neither h k = neither (after-other (bytes "clientState") refl e (drop e t) h) (after-other (bytes "connections") refl e (drop e t) k)
+    word-links h true i k e\' = rw e\' (links (after_last (bytes "connections") refl e (drop e t) (sym i) (omega (arith, n, left_is))))
+    word-links h false i k e\' = rw e\' (neither (after-other (bytes "clientState") refl e (drop e t) h) (after-other (bytes "connections") refl e (drop e t) (sym i)))
 
   -- ---- what follows R-h
   long-time : (length t - e ≡ 14 → ⊥) → after_of time_parts e (drop e t) ≡ none
@@ -61,101 +59,92 @@ module _ (t : List ℕ) (e : ℕ) (l : e ≤ length t) where
   unfolding every
   long-height h = after-longer (bytes "processedHeight") refl e (drop e t) (λ x. h (omega (arith, x, left_is)))
 
-  pub update-over : length t - e ≡ 0 → UpdateKind t e 5
+  pub update-over : length t - e ≡ 0 → UpdateKind t e (Some 5)
   update-over h = over (after-end e (drop e t) (omega (arith, h, left_is)))
 
-  pub update-time : length t - e ≡ 14 → starts_with (bytes "/processedTime") (drop e t) ≡ true → UpdateKind t e 6
+  pub update-time : length t - e ≡ 14 → (v : Bool) → v ≡ starts_with (bytes "/processedTime") (drop e t) → (k : Option ℕ) → k ≡ then_some v 6 → UpdateKind t e k
   unfolding every
-  update-time n h = time (after_last (bytes "processedTime") refl e (drop e t) h (omega (arith, n, left_is)))
+  update-time n true h k e\' = rw e\' (time (after_last (bytes "processedTime") refl e (drop e t) (sym h) (omega (arith, n, left_is))))
+  update-time n false h k e\' = rw e\' (other (after_more e (drop e t) (omega (arith, n, left_is))) (after-other (bytes "processedTime") refl e (drop e t) (sym h)) (long-height (λ x. omega arith)))
 
-  pub update-height : length t - e ≡ 16 → starts_with (bytes "/processedHeight") (drop e t) ≡ true → UpdateKind t e 7
+  pub update-height : length t - e ≡ 16 → (v : Bool) → v ≡ starts_with (bytes "/processedHeight") (drop e t) → (k : Option ℕ) → k ≡ then_some v 7 → UpdateKind t e k
   unfolding every
-  update-height n h = height (after_last (bytes "processedHeight") refl e (drop e t) h (omega (arith, n, left_is)))
+  update-height n true h k e\' = rw e\' (height (after_last (bytes "processedHeight") refl e (drop e t) (sym h) (omega (arith, n, left_is))))
+  update-height n false h k e\' = rw e\' (other (after_more e (drop e t) (omega (arith, n, left_is))) (long-time (λ x. omega arith)) (after-other (bytes "processedHeight") refl e (drop e t) (sym h)))
 
-  pub update-no-time : length t - e ≡ 14 → starts_with (bytes "/processedTime") (drop e t) ≡ false → UpdateKind t e 0
-  unfolding every
-  update-no-time n h = other (after_more e (drop e t) (omega (arith, n, left_is))) (after-other (bytes "processedTime") refl e (drop e t) h) (long-height (λ x. omega arith))
-
-  pub update-no-height : length t - e ≡ 16 → starts_with (bytes "/processedHeight") (drop e t) ≡ false → UpdateKind t e 0
-  unfolding every
-  update-no-height n h = other (after_more e (drop e t) (omega (arith, n, left_is))) (long-time (λ x. omega arith)) (after-other (bytes "processedHeight") refl e (drop e t) h)
-
-  pub update_other : (length t - e ≡ 0 → ⊥) → (length t - e ≡ 14 → ⊥) → (length t - e ≡ 16 → ⊥) → UpdateKind t e 0
+  pub update_other : (length t - e ≡ 0 → ⊥) → (length t - e ≡ 14 → ⊥) → (length t - e ≡ 16 → ⊥) → UpdateKind t e None
   update_other h i j = other (after_more e (drop e t) (omega (arith, h, left_is))) (long-time i) (long-height j)
 
 -- ---- R-h
-module _ (t : List ℕ) (at n : ℕ) (r : Counted) (e : r ≡ counted_of at (drop at t)) where
-  unread-all : ((ps : List Part) → tail_of (pair ∷ ps) at (drop at t) ≡ none) → Consensus t at n nothing
+module _ (t : List ℕ) (at n : ℕ) where
+  unread-all : ((ps : List Part) → tail_of (pair ∷ ps) at (drop at t) ≡ none) → Consensus t at n None
   unread-all h = unread (h []) (h time_parts) (h height_parts)
 
   -- where the first number is none, no dash is looked for
-  pub no-first : r.ok ≡ false → Consensus t at n nothing
-  no-first h = unread-all (pair-first t at r e h)
+  pub no-first : None ≡ counted_of at (drop at t) → Consensus t at n None
+  no-first h = unread-all (pair-first t at h)
 
-  module _ (ok : r.ok ≡ true) (h : Counted) (f : h ≡ counted_of (r.end + 1) (drop (r.end + 1) t)) (dash : Bool) (d : dash ≡ starts_with (45 ∷ []) (drop r.end t)) where
-    pub no_second : (dash && h.ok) ≡ false → Consensus t at n nothing
-    no_second x = unread-all (pair-none t at r h e f dash d ok x)
+  module _ (r : Counted) (e : Some r ≡ counted_of at (drop at t)) where
+    pub no_dash : starts_with (45 ∷ []) (drop r.end t) ≡ false → Consensus t at n None
+    no_dash h = unread-all (pair-no_dash t at r e h)
 
-    module _ (is : dash ≡ true) (ok2 : h.ok ≡ true) (b : Bool) (g : b ≡ (r.plain && h.plain)) where
-      pairs : (ps : List Part) → after_of ps h.end (drop h.end t) ≡ ended → tail_of (pair ∷ ps) at (drop at t) ≡ some (carried nowhere nowhere r.value h.value) b
-      pairs ps k = pair-some t at r h e f dash d ok is ok2 ps ∙ rw (k, ← g, and-true b)
+    module _ (dash : starts_with (45 ∷ []) (drop r.end t) ≡ true) where
+      pub no_second : None ≡ counted_of (r.end + 1) (drop (r.end + 1) t) → Consensus t at n None
+      no_second h = unread-all (pair-second t at r e dash h)
 
-      unpairs : (ps : List Part) → after_of ps h.end (drop h.end t) ≡ none → tail_of (pair ∷ ps) at (drop at t) ≡ none
-      unpairs ps k = pair-some t at r h e f dash d ok is ok2 ps ∙ rw k
+      module _ (h : Counted) (f : Some h ≡ counted_of (r.end + 1) (drop (r.end + 1) t)) where
+        pub no_update : UpdateKind t h.end None → Consensus t at n None
+        no_update (other x y w) = unread (unpairs [] x) (unpairs time_parts y) (unpairs height_parts w)
+          where
+            unpairs : (ps : List Part) → after_of ps h.end (drop h.end t) ≡ none → tail_of (pair ∷ ps) at (drop at t) ≡ none
+            unpairs ps k = pair-some t at r e dash h f ps ∙ rw k
 
-      abbrev answer : ℕ → PathView
-      answer k = record { kind = k; exact = b; first = record { start = 8; len = n }; second = nowhere; a = r.value; b = h.value }
+        module _ (b : Bool) (g : b ≡ (r.plain && h.plain)) where
+          pairs : (ps : List Part) → after_of ps h.end (drop h.end t) ≡ ended → tail_of (pair ∷ ps) at (drop at t) ≡ some (carried nowhere nowhere r.value h.value) b
+          pairs ps k = pair-some t at r e dash h f ps ∙ rw (k, ← g, and-true b)
 
-      pub read_update : (k : ℕ) → UpdateKind t h.end k → (k ≡ 0 → ⊥) → Consensus t at n (answer k)
-      read_update _ (over x) z = five _ b (pairs [] x)
-      read_update _ (time x) z = six _ b (pairs time_parts x)
-      read_update _ (height x) z = seven _ b (pairs height_parts x)
-      read_update _ (other x y w) z = absurd (z refl)
-
-      pub no_update : (k : ℕ) → UpdateKind t h.end k → k ≡ 0 → Consensus t at n nothing
-      no_update _ (over x) z = absurd (omega arith)
-      no_update _ (time x) z = absurd (omega arith)
-      no_update _ (height x) z = absurd (omega arith)
-      no_update _ (other x y w) z = unread (unpairs [] x) (unpairs time_parts y) (unpairs height_parts w)
+          pub read_update : (k : ℕ) → UpdateKind t h.end (Some k) → Consensus t at n (Some (record { kind = k; exact = b; first = record { start = 8; len = n }; second = nowhere; a = r.value; b = h.value }))
+          read_update _ (over x) = five _ b (pairs [] x)
+          read_update _ (time x) = six _ b (pairs time_parts x)
+          read_update _ (height x) = seven _ b (pairs height_parts x)
 
 -- the dash
-pub dash-end : (t : List ℕ) (q : ℕ) → q ≡ length t → false ≡ starts_with (45 ∷ []) (drop q t)
+pub dash-end : (t : List ℕ) (q : ℕ) → q ≡ length t → starts_with (45 ∷ []) (drop q t) ≡ false
 unfolding starts_with
 dash-end t q h = let l : length t ≤ q = omega arith in rw (drop_of_length-le t l)
 
-pub dash-at : (t : List ℕ) (q : ℕ) → q < length t → eqb (get_or t q 0) 45 ≡ starts_with (45 ∷ []) (drop q t)
-dash-at t q h = sym (starts-byte 45 (drop q t) (rw length-drop (omega arith)) ∙ rw (get_or-drop, add-zero))
+pub dash-at : (t : List ℕ) (q : ℕ) → q < length t → starts_with (45 ∷ []) (drop q t) ≡ eqb (get_or t q 0) 45
+dash-at t q h = (starts-byte 45 (drop q t) (rw length-drop (omega arith)) ∙ rw (get_or-drop, add-zero))
 
 -- ---- the five kinds
 clients-apart : apart_all client_kinds ≡ true
 unfolding same
 clients-apart = refl
 
-module _ (t : List ℕ) (start : starts_with (bytes "clients/") t ≡ true) (n : ℕ) (e : n ≡ rule_run check.client (drop 8 t)) where
+module _ (t : List ℕ) (start : starts_with (bytes "clients/") t ≡ true) where
   opened : (ps : List Part) → tail_of (word (bytes "clients") ∷ name Client ∷ ps) 0 t ≡ tail_of (name Client ∷ ps) 8 (drop 8 t)
   unfolding every
   opened ps = word_more (bytes "clients") refl (name Client) ps 0 t ∙ rw start
 
   nothing_left : ((ps : List Part) → tail_of (word (bytes "clients") ∷ name Client ∷ (word (bytes "consensusStates") ∷ pair ∷ ps)) 0 t ≡ none)
-      → tail_of kind4.parts 0 t ≡ none → tail_of kind8.parts 0 t ≡ none → nothing ≡ flat t (read_first client_kinds t)
+      → tail_of kind4.parts 0 t ≡ none → tail_of kind8.parts 0 t ≡ none → None ≡ flat t (read_first client_kinds t)
   nothing_left h x y =
       sym (ap (flat t) (skip kind4 t x _ ∙ skip kind5 t (h []) _ ∙ skip kind6 t (h time_parts) _ ∙ skip kind7 t (h height_parts) _ ∙ skip kind8 t y []) ∙ none_left t)
 
-  pub client-none : n ≡ 0 → nothing ≡ flat t (read_first client_kinds t)
+  pub client-none : None ≡ nonzero (rule_run check.client (drop 8 t)) → None ≡ flat t (read_first client_kinds t)
   client-none h =
-      let no : (ps : List Part) → tail_of (word (bytes "clients") ∷ name Client ∷ ps) 0 t ≡ none = λ ps. opened ps ∙ rule-none Client check.client scans-client t 8 n e h ps in
+      let no : (ps : List Part) → tail_of (word (bytes "clients") ∷ name Client ∷ ps) 0 t ≡ none = λ ps. opened ps ∙ rule-none Client check.client scans-client t 8 h ps in
       nothing_left (λ ps. no (word (bytes "consensusStates") ∷ pair ∷ ps)) (no state_parts) (no link_parts)
 
-  module _ (some-client : n ≡ 0 → ⊥) where
+  module _ (n : ℕ) (e : Some n ≡ nonzero (rule_run check.client (drop 8 t))) where
     after-client : (ps : List Part) → tail_of (word (bytes "clients") ∷ name Client ∷ ps) 0 t ≡ with_name Client (record { start = 8; len = n }) (after_of ps (8 + n) (drop (8 + n) t))
-    after-client ps = opened ps ∙ rule-some Client check.client scans-client t 8 n e some-client ps
+    after-client ps = opened ps ∙ rule-some Client check.client scans-client t 8 n e ps
 
     -- one word more
-    pub client-word : (k : ℕ) → WordKind t (8 + n) k → (k ≡ 0 → ⊥) → record { kind = k; exact = true; first = record { start = 8; len = n }; second = nowhere; a = 0; b = 0 } ≡ flat t (read_first client_kinds t)
+    pub client-word : (k : ℕ) → WordKind t (8 + n) (Some k) → Some (record { kind = k; exact = true; first = record { start = 8; len = n }; second = nowhere; a = 0; b = 0 }) ≡ flat t (read_first client_kinds t)
     unfolding kinds
-    client-word _ (state x) z = found kind4 t {es = client_kinds} here clients-apart (kind-has 4 (omega arith) (omega arith)) 4 (λ v. refl) (carried (record { start = 8; len = n }) nowhere 0 0) true (after-client state_parts ∙ rw x)
-    client-word _ (links x) z = found kind8 t {es = client_kinds} (later (later (later (later here)))) clients-apart (kind-has 8 (omega arith) (omega arith)) 8 (λ v. refl) (carried (record { start = 8; len = n }) nowhere 0 0) true (after-client link_parts ∙ rw x)
-    client-word _ (neither x y) z = absurd (z refl)
+    client-word _ (state x) = found kind4 t {es = client_kinds} here clients-apart (kind-has 4 (omega arith) (omega arith)) 4 (λ v. refl) (carried (record { start = 8; len = n }) nowhere 0 0) true (after-client state_parts ∙ rw x)
+    client-word _ (links x) = found kind8 t {es = client_kinds} (later (later (later (later here)))) clients-apart (kind-has 8 (omega arith) (omega arith)) 8 (λ v. refl) (carried (record { start = 8; len = n }) nowhere 0 0) true (after-client link_parts ∙ rw x)
 
     -- or R-h after `/consensusStates/`
     module _ (w : Bool) (is : w ≡ starts_with (bytes "/consensusStates/") (drop (8 + n) t)) where
@@ -166,18 +155,16 @@ module _ (t : List ℕ) (start : starts_with (bytes "clients/") t ≡ true) (n :
           let i : 8 + n + 15 + 2 ≡ 8 + n + 17 = omega arith in
           after-client (word (bytes "consensusStates") ∷ pair ∷ ps) ∙ rw (after-word (bytes "consensusStates") refl pair ps (8 + n) (drop (8 + n) t), is, drop-drop 17 (8 + n) t, i)
 
-      wordless : (k : ℕ) → WordKind t (8 + n) k → k ≡ 0 → (tail_of kind4.parts 0 t ≡ none) × (tail_of kind8.parts 0 t ≡ none)
-      wordless _ (state x) z = absurd (omega arith)
-      wordless _ (links x) z = absurd (omega arith)
-      wordless _ (neither x y) z = (after-client state_parts ∙ rw x, after-client link_parts ∙ rw y)
+      wordless : WordKind t (8 + n) None → (tail_of kind4.parts 0 t ≡ none) × (tail_of kind8.parts 0 t ≡ none)
+      wordless (neither x y) = (after-client state_parts ∙ rw x, after-client link_parts ∙ rw y)
 
-      module _ (k : ℕ) (kind : WordKind t (8 + n) k) (zero-kind : k ≡ 0) where
-        pub client-other : w ≡ false → nothing ≡ flat t (read_first client_kinds t)
-        client-other h = let q = wordless k kind zero-kind in nothing_left (λ ps. after-states ps ∙ rw h) q.0 q.1
+      module _ (kind : WordKind t (8 + n) None) where
+        pub client-other : w ≡ false → None ≡ flat t (read_first client_kinds t)
+        client-other h = let q = wordless kind in nothing_left (λ ps. after-states ps ∙ rw h) q.0 q.1
 
-        pub client-states : w ≡ true → (r : PathView) → Consensus t (8 + n + 17) n r → r ≡ flat t (read_first client_kinds t)
+        pub client-states : w ≡ true → (r : Option PathView) → Consensus t (8 + n + 17) n r → r ≡ flat t (read_first client_kinds t)
         unfolding kinds
-        client-states h _ (unread x y z) = sym (ap (flat t) (skip kind4 t (wordless k kind zero-kind).0 _ ∙ skip kind5 t (after-states [] ∙ rw (h, x)) _ ∙ skip kind6 t (after-states time_parts ∙ rw (h, y)) _ ∙ skip kind7 t (after-states height_parts ∙ rw (h, z)) _ ∙ skip kind8 t (wordless k kind zero-kind).1 []) ∙ none_left t)
+        client-states h _ (unread x y z) = sym (ap (flat t) (skip kind4 t (wordless kind).0 _ ∙ skip kind5 t (after-states [] ∙ rw (h, x)) _ ∙ skip kind6 t (after-states time_parts ∙ rw (h, y)) _ ∙ skip kind7 t (after-states height_parts ∙ rw (h, z)) _ ∙ skip kind8 t (wordless kind).1 []) ∙ none_left t)
         client-states h _ (five v x q) = found kind5 t {es = client_kinds} (later here) clients-apart (kind-has 5 (omega arith) (omega arith)) 5 (λ u. refl) _ x (after-states [] ∙ rw (h, q))
         client-states h _ (six v x q) = found kind6 t {es = client_kinds} (later (later here)) clients-apart (kind-has 6 (omega arith) (omega arith)) 6 (λ u. refl) _ x (after-states time_parts ∙ rw (h, q))
         client-states h _ (seven v x q) = found kind7 t {es = client_kinds} (later (later (later here))) clients-apart (kind-has 7 (omega arith) (omega arith)) 7 (λ u. refl) _ x (after-states height_parts ∙ rw (h, q))

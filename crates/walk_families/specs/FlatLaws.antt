@@ -1,23 +1,22 @@
 -- A tail that reads is the reading, and where none does there is none.
 -- Assumes nothing.
-use Rattle.std.specs.Prelude.{ℕ, ◌+◌, ◌<◌, ◌≤◌, ◌≡◌, List, [], ◌∷◌, Bool, ◌&&◌, eqb, length, drop, get_or}
+use Rattle.std.specs.Prelude.{ℕ, ◌+◌, ◌<◌, ◌≡◌, List, [], ◌∷◌, Bool, length, drop, Some, None}
 use Rattle.std.proofs.Math.Path.{refl}
 use Rattle.std.proofs.Common.{sym, ap, ◌∙◌, arith, add-one, drop-cons, eqb-true}
 use Rattle.std.proofs.Math.Bool.{true, false, cond}
 use Rattle.text.specs.PartLaws.{and_left}
 use Rattle.path.specs.declared.Place.{Place}
-use Rattle.path.specs.declared.PathAnswer.TheVariants.{Found, Nothing}
 use Rattle.path.specs.Text.{components, places, places_from, nowhere}
 use Rattle.path.specs.TextLaws.{count-components}
-use Rattle.path.specs.Kinds.{Part, Carried, carried, Kind, kinds}
-use Rattle.path.specs.Read.{fit_from, carried_from, component_count, fits_kind, read_kind, or_else, read_first}
+use Rattle.path.specs.Kinds.{Part, Carried, Kind, kinds}
+use Rattle.path.specs.Read.{fit_from, carried_from, component_count, fits_kind, read_kind, read_first}
 use Rattle.path.specs.Reads.{Has, Reads}
 use Rattle.path.specs.ReadLaws.{kind_fits, apart_all, read_has, made-carried}
 use Rattle.path.specs.Spelled.{fit_all, spelled_from}
 use Rattle.path.specs.ExactLaws.{exact-by_spelling}
 use Rattle.path.specs.View.{kind_of, seen}
-use Rattle.walk_scan.specs.Tail.{carried_all, spelled_all, Tail, none, some, tail_of}
-use Rattle.walk_families.specs.Flat.{nothing, flat}
+use Rattle.walk_scan.specs.Tail.{carried_all, spelled_all, none, some, tail_of}
+use Rattle.walk_families.specs.Flat.{flat}
 
 -- ---- what parts carry, by the numbers of the components and one after the other
 carried_from_lem : (k : ℕ) (ps : List Part) (t : List ℕ) → k + length ps ≡ component_count t → carried_from k ps t ≡ carried_all ps (drop k (components t)) (drop k (places t))
@@ -70,13 +69,13 @@ module _ (e : Kind) (t : List ℕ) where
   skip h es = rw (tail_unfit h)
 
   -- a kind that the text is, is what is read
-  pub found : {es : List Kind} → Has es e → apart_all es ≡ true → Has kinds e → (k : ℕ) → ((v : Carried Place) → kind_of (e.make v) ≡ k) → (v : Carried Place) (x : Bool) → tail_of e.parts 0 t ≡ some v x → seen k x v ≡ flat t (read_first es t)
+  pub found : {es : List Kind} → Has es e → apart_all es ≡ true → Has kinds e → (k : ℕ) → ((v : Carried Place) → kind_of (e.make v) ≡ k) → (v : Carried Place) (x : Bool) → tail_of e.parts 0 t ≡ some v x → Some (seen k x v) ≡ flat t (read_first es t)
   found m apart has k number v x h =
       let f = tail-fits v x h in
       let r : Reads t (e.make (carried_from 0 e.parts t)) = record { kind = e; listed = has; fitting = f.0; made = refl } in
       sym (ap (flat t) (read_has t m apart f.0) ∙ rw (exact-by_spelling r, made-carried has t, number (carried_from 0 e.parts t), f.1, f.2))
 
 -- where no kind is left there is nothing
-pub none_left : (t : List ℕ) → flat t (read_first [] t) ≡ nothing
+pub none_left : (t : List ℕ) → flat t (read_first [] t) ≡ None
 unfolding read_first
 none_left t = refl

@@ -1,38 +1,34 @@
 -- What the scanners find, as the parts of a tail.
 -- Assumes nothing.
-use Rattle.std.specs.Prelude.{ℕ, zero, suc, ◌+◌, ◌-◌, ◌≤◌, ◌<◌, ◌≡◌, List, [], ◌∷◌, ◌++◌, Bool, false, cond, ◌&&◌, eqb, ltb, length, get_or}
-use Rattle.std.proofs.Math.Path.{refl, sym}
-use Rattle.std.proofs.Common.{◌∙◌, length-append, length-take, eq-eqb, ne_eqb, eqb-true, lt-ltb, le-ltb}
-use Rattle.std.proofs.Math.Bool.{true, and-true}
+use Rattle.std.specs.Prelude.{ℕ, suc, ◌+◌, ◌≤◌, ◌≡◌, List, [], ◌∷◌, ◌++◌, Bool, false, cond, ◌&&◌, eqb, ltb, length, Some, None}
+use Rattle.std.proofs.Math.Path.{refl}
+use Rattle.std.proofs.Common.{◌∙◌, length-append, eq-eqb, ne_eqb, eqb-true, lt-ltb, le-ltb}
+use Rattle.std.proofs.Math.Bool.{true}
 use native.Mathlib.Omega.{arith}
 use Rattle.std.proofs.Math.ListN.{take, drop}
 use Rattle.std.proofs.Math.Seq.{drop-drop}
 use Rattle.std.proofs.lemmas.Bool.{eqb-false}
 use Rattle.text.specs.Bytes.{bytes}
-use Rattle.text.specs.Number.{decimal}
 use Rattle.text.specs.Part.{every, starts_with}
-use Rattle.text.specs.PartLaws.{and_left, and_right}
 use Rattle.identifiers.specs.Check as check
 use Rattle.path.specs.declared.Place.{Place}
 use Rattle.path.specs.declared.name.Name.{Name}
-use Rattle.path.specs.declared.name.Name.TheVariants.{Client, Connection, Port, Channel, Upgrade}
-use Rattle.path.specs.Text.{cut_at, nowhere}
-use Rattle.path.specs.TextLaws.{without}
-use Rattle.path.specs.Kinds.{Part, word, name, count, pair, Carried, carried, set_name}
+use Rattle.path.specs.declared.name.Name.TheVariants.{Port, Channel, Upgrade}
+use Rattle.path.specs.Kinds.{Part, word, name, count, pair, carried}
 use Rattle.path.specs.Read.{is_number, number_in}
 use Rattle.path.specs.ExactLaws.{value-is}
 use Rattle.path.specs.Spelled.{spelled}
 use Rattle.text.specs.NumberLaws.{decimal-no-longer}
 use Rattle.walk_scan.specs.declared.number.Counted.{Counted}
-use Rattle.walk_scan.specs.Run.{run, rule_run}
+use Rattle.walk_scan.specs.Run.{run, nonzero, rule_run}
+use Rattle.walk_scan.specs.RunLaws.{none-nonzero, some-nonzero}
 use Rattle.walk_scan.specs.Number.{num_len, num_text, counted_of, pair_ok, pair_len, no_slash, upgrade_ok}
-use Rattle.walk_scan.specs.CountLaws.{count_fields, count-is}
+use Rattle.walk_scan.specs.CountLaws.{count-no, count-yes, count-is}
 use Rattle.walk_scan.specs.NumberLaws.{scans-count, scans-pair, scans-upgrade, pair-text, cut-pair}
-use Rattle.walk_scan.specs.NameLaws.{scans-client, scans-connection, scans-port, scans-channel}
+use Rattle.walk_scan.specs.NameLaws.{scans-port, scans-channel}
 use Rattle.walk_scan.specs.Tail.{Tail, none, some, tail_of, after_of, added}
 use Rattle.walk_scan.specs.TailLaws.{Scans, step-none, step-some, after-word}
-use Rattle.walk_families.specs.declared.ends.Ends.{Ends}
-use Rattle.walk_families.specs.Ends.{with_name, EndsAt}
+use Rattle.walk_families.specs.Ends.{with_name, EndsAt, NoEnds}
 
 -- ---- a tail with something in front
 abbrev pub with_count : ℕ → Bool → Tail → Tail
@@ -55,13 +51,15 @@ module _ (i : Name) (ok : List ℕ → Bool) (len : List ℕ → ℕ) (scans : S
   name-some : ok (drop at t) ≡ true → (n : ℕ) → n ≡ len (drop at t) → (ps : List Part) → tail_of (name i ∷ ps) at (drop at t) ≡ with_name i (record { start = at; len = n }) (after_of ps (at + n) (drop (at + n) t))
   name-some h n e ps = step-some (name i) ok len scans ps at (drop at t) h ∙ rw (added-name i, e, drop-drop (len (drop at t)) at t)
 
--- those that have a rule: 0 tells that there is none
-module _ (i : Name) (r : check.Rule) (scans : Scans (name i) (λ s. ltb 0 (rule_run r s)) (rule_run r)) (t : List ℕ) (at n : ℕ) (e : n ≡ rule_run r (drop at t)) where
-  pub rule-none : n ≡ 0 → (ps : List Part) → tail_of (name i ∷ ps) at (drop at t) ≡ none
-  rule-none h ps = name-none i (λ s. ltb 0 (rule_run r s)) (rule_run r) scans t at (le-ltb 0 (rule_run r (drop at t)) (omega (arith, e))) ps
+-- those that have a rule
+module _ (i : Name) (r : check.Rule) (scans : Scans (name i) (λ s. ltb 0 (rule_run r s)) (rule_run r)) (t : List ℕ) (at : ℕ) where
+  pub rule-none : None ≡ nonzero (rule_run r (drop at t)) → (ps : List Part) → tail_of (name i ∷ ps) at (drop at t) ≡ none
+  rule-none h ps = name-none i (λ s. ltb 0 (rule_run r s)) (rule_run r) scans t at (le-ltb 0 (rule_run r (drop at t)) (omega (arith, none-nonzero (rule_run r (drop at t)) h))) ps
 
-  pub rule-some : (n ≡ 0 → ⊥) → (ps : List Part) → tail_of (name i ∷ ps) at (drop at t) ≡ with_name i (record { start = at; len = n }) (after_of ps (at + n) (drop (at + n) t))
-  rule-some h ps = name-some i (λ s. ltb 0 (rule_run r s)) (rule_run r) scans t at (lt-ltb 0 (rule_run r (drop at t)) (omega (arith, e, h))) n e ps
+  pub rule-some : (n : ℕ) → Some n ≡ nonzero (rule_run r (drop at t)) → (ps : List Part) → tail_of (name i ∷ ps) at (drop at t) ≡ with_name i (record { start = at; len = n }) (after_of ps (at + n) (drop (at + n) t))
+  rule-some n h ps =
+      let k = some-nonzero n (rule_run r (drop at t)) h in
+      name-some i (λ s. ltb 0 (rule_run r s)) (rule_run r) scans t at (lt-ltb 0 (rule_run r (drop at t)) (omega (arith, k.0, k.1))) n k.0 ps
 
 -- ---- U
 module _ (t : List ℕ) (e : ℕ) (is : e ≡ 0 + run no_slash (drop 0 t)) where
@@ -79,14 +77,14 @@ added-count : (c : List ℕ) (q : Place) (x : Tail) → added count c q x ≡ wi
 added-count c q none = refl
 added-count c q (some v e) = refl
 
-module _ (t : List ℕ) (at : ℕ) (r : Counted) (e : r ≡ counted_of at (drop at t)) where
-  pub count_none : r.ok ≡ false → (ps : List Part) → tail_of (count ∷ ps) at (drop at t) ≡ none
-  count_none h ps = step-none count (λ s. is_number (num_text s)) num_len scans-count ps at (drop at t) (sym (count_fields at (drop at t) r e) ∙ h)
+module _ (t : List ℕ) (at : ℕ) where
+  pub count_none : None ≡ counted_of at (drop at t) → (ps : List Part) → tail_of (count ∷ ps) at (drop at t) ≡ none
+  count_none h ps = step-none count (λ s. is_number (num_text s)) num_len scans-count ps at (drop at t) (count-no at (drop at t) h)
 
-  pub count-some : r.ok ≡ true → (ps : List Part) → tail_of (count ∷ ps) at (drop at t) ≡ with_count r.value r.plain (after_of ps r.end (drop r.end t))
-  count-some h ps =
-      let k = count-is at (drop at t) r e h in
-      step-some count (λ s. is_number (num_text s)) num_len scans-count ps at (drop at t) (sym (count_fields at (drop at t) r e) ∙ h)
+  pub count-some : (r : Counted) → Some r ≡ counted_of at (drop at t) → (ps : List Part) → tail_of (count ∷ ps) at (drop at t) ≡ with_count r.value r.plain (after_of ps r.end (drop r.end t))
+  count-some r e ps =
+      let k = count-is at (drop at t) r e in
+      step-some count (λ s. is_number (num_text s)) num_len scans-count ps at (drop at t) (count-yes at (drop at t) r e)
       ∙ rw (added-count, k.0, k.1, k.2, drop-drop (num_len (drop at t)) at t)
 
 -- ---- R-h
@@ -107,59 +105,62 @@ added-pair a b q (some v e) f g =
     rw (cut-pair a b f g, length-append a (45 ∷ b), eqb-sum _ _ _ _ l m)
 
 -- where R is no number
-pub pair-first : (t : List ℕ) (at : ℕ) (r : Counted) → r ≡ counted_of at (drop at t) → r.ok ≡ false → (ps : List Part) → tail_of (pair ∷ ps) at (drop at t) ≡ none
+pub pair-first : (t : List ℕ) (at : ℕ) → None ≡ counted_of at (drop at t) → (ps : List Part) → tail_of (pair ∷ ps) at (drop at t) ≡ none
 unfolding pair_ok
-pair-first t at r e h ps = let n : is_number (num_text (drop at t)) ≡ false = sym (count_fields at (drop at t) r e) ∙ h in step-none pair pair_ok pair_len scans-pair ps at (drop at t) (rw n)
+pair-first t at h ps = step-none pair pair_ok pair_len scans-pair ps at (drop at t) (rw (count-no at (drop at t) h))
 
-module _ (t : List ℕ) (at : ℕ) (r h : Counted) (e : r ≡ counted_of at (drop at t)) (f : h ≡ counted_of (r.end + 1) (drop (r.end + 1) t)) (dash : Bool) (d : dash ≡ starts_with (45 ∷ []) (drop r.end t)) where
-  pair_ok_lem : r.ok ≡ true → pair_ok (drop at t) ≡ (dash && h.ok)
+module _ (t : List ℕ) (at : ℕ) (r : Counted) (e : Some r ≡ counted_of at (drop at t)) where
+  pair_ok_lem : pair_ok (drop at t) ≡ (starts_with (45 ∷ []) (drop r.end t) && is_number (num_text (drop (r.end + 1) t)))
   unfolding pair_ok
-  pair_ok_lem g =
-      let k = (count-is at (drop at t) r e g).1 in
+  pair_ok_lem =
+      let k = (count-is at (drop at t) r e).1 in
       let i : at + (num_len (drop at t) + 1) ≡ r.end + 1 = omega (arith, k) in
-      let n : is_number (num_text (drop at t)) ≡ true = sym (count_fields at (drop at t) r e) ∙ g in
-      rw (n, d, drop-drop (num_len (drop at t)) at t, ← k, drop-drop (num_len (drop at t) + 1) at t, i, count_fields (r.end + 1) (drop (r.end + 1) t) h f)
+      rw (count-yes at (drop at t) r e, drop-drop (num_len (drop at t)) at t, ← k, drop-drop (num_len (drop at t) + 1) at t, i)
 
-  pub pair-none : r.ok ≡ true → (dash && h.ok) ≡ false → (ps : List Part) → tail_of (pair ∷ ps) at (drop at t) ≡ none
-  pair-none g n ps = step-none pair pair_ok pair_len scans-pair ps at (drop at t) (pair_ok_lem g ∙ n)
+  pub pair-no_dash : starts_with (45 ∷ []) (drop r.end t) ≡ false → (ps : List Part) → tail_of (pair ∷ ps) at (drop at t) ≡ none
+  pair-no_dash n ps = step-none pair pair_ok pair_len scans-pair ps at (drop at t) (pair_ok_lem ∙ rw n)
 
-  pub pair-some : r.ok ≡ true → dash ≡ true → h.ok ≡ true → (ps : List Part) → tail_of (pair ∷ ps) at (drop at t) ≡ with_pair r.value h.value (r.plain && h.plain) (after_of ps h.end (drop h.end t))
-  unfolding pair_len
-  pair-some g n o ps =
-      let k = count-is at (drop at t) r e g in
-      let m = count-is (r.end + 1) (drop (r.end + 1) t) h f o in
-      let x : is_number (num_text (drop at t)) ≡ true = sym (count_fields at (drop at t) r e) ∙ g in
-      let i : at + (num_len (drop at t) + 1) ≡ r.end + 1 = omega (arith, k.1) in
-      let s : drop (num_len (drop at t) + 1) (drop at t) ≡ drop (r.end + 1) t = drop-drop (num_len (drop at t) + 1) at t ∙ rw i in
-      let y : is_number (num_text (drop (r.end + 1) t)) ≡ true = sym (count_fields (r.end + 1) (drop (r.end + 1) t) h f) ∙ o in
-      let w : starts_with (45 ∷ []) (drop (num_len (drop at t)) (drop at t)) ≡ true = rw (drop-drop (num_len (drop at t)) at t, ← k.1) (sym d ∙ n) in
-      let p : take (pair_len (drop at t)) (drop at t) ≡ num_text (drop at t) ++ (45 ∷ num_text (drop (r.end + 1) t)) = pair-text (drop at t) w ∙ rw s in
-      let z : at + pair_len (drop at t) ≡ h.end = rw s (omega (arith, k.1, m.1)) in
-      let ok : pair_ok (drop at t) ≡ true = pair_ok_lem g ∙ rw (n, o) in
-      step-some pair pair_ok pair_len scans-pair ps at (drop at t) ok
-      ∙ rw (drop-drop (pair_len (drop at t)) at t, z, p)
-      (added-pair (num_text (drop at t)) (num_text (drop (r.end + 1) t)) (record { start = at; len = pair_len (drop at t) }) (after_of ps h.end (drop h.end t)) x y ∙ rw (k.0, k.2, m.0, m.2))
+  module _ (dash : starts_with (45 ∷ []) (drop r.end t) ≡ true) where
+    pub pair-second : None ≡ counted_of (r.end + 1) (drop (r.end + 1) t) → (ps : List Part) → tail_of (pair ∷ ps) at (drop at t) ≡ none
+    pair-second h ps = step-none pair pair_ok pair_len scans-pair ps at (drop at t) (pair_ok_lem ∙ rw (dash, count-no (r.end + 1) (drop (r.end + 1) t) h))
+
+    pub pair-some : (h : Counted) → Some h ≡ counted_of (r.end + 1) (drop (r.end + 1) t) → (ps : List Part) → tail_of (pair ∷ ps) at (drop at t) ≡ with_pair r.value h.value (r.plain && h.plain) (after_of ps h.end (drop h.end t))
+    unfolding pair_len
+    pair-some h f ps =
+        let k = count-is at (drop at t) r e in
+        let m = count-is (r.end + 1) (drop (r.end + 1) t) h f in
+        let x = count-yes at (drop at t) r e in
+        let i : at + (num_len (drop at t) + 1) ≡ r.end + 1 = omega (arith, k.1) in
+        let s : drop (num_len (drop at t) + 1) (drop at t) ≡ drop (r.end + 1) t = drop-drop (num_len (drop at t) + 1) at t ∙ rw i in
+        let y = count-yes (r.end + 1) (drop (r.end + 1) t) h f in
+        let w : starts_with (45 ∷ []) (drop (num_len (drop at t)) (drop at t)) ≡ true = rw (drop-drop (num_len (drop at t)) at t, ← k.1) dash in
+        let p : take (pair_len (drop at t)) (drop at t) ≡ num_text (drop at t) ++ (45 ∷ num_text (drop (r.end + 1) t)) = pair-text (drop at t) w ∙ rw s in
+        let z : at + pair_len (drop at t) ≡ h.end = rw s (omega (arith, k.1, m.1)) in
+        let ok : pair_ok (drop at t) ≡ true = pair_ok_lem ∙ rw (dash, y) in
+        step-some pair pair_ok pair_len scans-pair ps at (drop at t) ok
+        ∙ rw (drop-drop (pair_len (drop at t)) at t, z, p)
+        (added-pair (num_text (drop at t)) (num_text (drop (r.end + 1) t)) (record { start = at; len = pair_len (drop at t) }) (after_of ps h.end (drop h.end t)) x y ∙ rw (k.0, k.2, m.0, m.2))
 
 -- ---- `P/channels/H`, whatever follows
-module _ (t : List ℕ) (at p : ℕ) (e : p ≡ rule_run check.port (drop at t)) where
-  pub ends-none : p ≡ 0 → EndsAt t at (record { port = 0; channel = 0 })
-  ends-none h = record { within = λ k. absurd (omega arith); nothing = λ k ps. rule-none Port check.port scans-port t at p e h _; both = λ k. absurd (k refl) }
+module _ (t : List ℕ) (at : ℕ) where
+  pub ends-none : None ≡ nonzero (rule_run check.port (drop at t)) → NoEnds t at
+  ends-none h ps = rule-none Port check.port scans-port t at h _
 
-  module _ (some : p ≡ 0 → ⊥) (v : Bool) (w : v ≡ starts_with (bytes "/channels/") (drop (at + p) t)) where
+  module _ (p : ℕ) (e : Some p ≡ nonzero (rule_run check.port (drop at t))) (v : Bool) (w : v ≡ starts_with (bytes "/channels/") (drop (at + p) t)) where
     ends-word : (ps : List Part) → tail_of (name Port ∷ word (bytes "channels") ∷ name Channel ∷ ps) at (drop at t)
         ≡ with_name Port (record { start = at; len = p }) (cond v (tail_of (name Channel ∷ ps) (at + p + 10) (drop (at + p + 10) t)) none)
     unfolding every
     ends-word ps =
         let i : at + p + 8 + 2 ≡ at + p + 10 = omega arith in
-        rule-some Port check.port scans-port t at p e some (word (bytes "channels") ∷ name Channel ∷ ps)
+        rule-some Port check.port scans-port t at p e (word (bytes "channels") ∷ name Channel ∷ ps)
         ∙ rw (after-word (bytes "channels") refl (name Channel) ps (at + p) (drop (at + p) t), w, drop-drop 10 (at + p) t, i)
 
-    pub ends-no-word : v ≡ false → EndsAt t at (record { port = 0; channel = 0 })
-    ends-no-word h = record { within = λ k. absurd (omega arith); nothing = λ k ps. ends-word ps ∙ rw h; both = λ k. absurd (k refl) }
+    pub ends-no-word : v ≡ false → NoEnds t at
+    ends-no-word h ps = ends-word ps ∙ rw h
 
-    pub ends-both : v ≡ true → (h : ℕ) → h ≡ rule_run check.channel (drop (at + p + 10) t) → at + p + 10 + h ≤ length t → EndsAt t at (record { port = p; channel = h })
-    ends-both k h f l = record {
-      within = λ x. l;
-      nothing = λ x ps. ends-word ps ∙ rw (k, rule-none Channel check.channel scans-channel t (at + p + 10) h f x ps);
-      both = λ x ps. ends-word ps ∙ rw (k, rule-some Channel check.channel scans-channel t (at + p + 10) h f x ps);
-    }
+    module _ (k : v ≡ true) where
+      pub ends-no-channel : None ≡ nonzero (rule_run check.channel (drop (at + p + 10) t)) → NoEnds t at
+      ends-no-channel h ps = ends-word ps ∙ rw (k, rule-none Channel check.channel scans-channel t (at + p + 10) h ps)
+
+      pub ends-both : (h : ℕ) → Some h ≡ nonzero (rule_run check.channel (drop (at + p + 10) t)) → at + p + 10 + h ≤ length t → EndsAt t at (record { port = p; channel = h })
+      ends-both h f l = record { within = l; both = λ ps. ends-word ps ∙ rw (k, rule-some Channel check.channel scans-channel t (at + p + 10) h f ps) }

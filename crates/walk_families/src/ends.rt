@@ -1,16 +1,15 @@
 // Kinds 11 to 17: `P/channels/H`, and for a packet its sequence.
-ghost use Rattle.std.specs.Prelude.{◌≡◌, ◌≤◌, length, drop};
+ghost use Rattle.std.specs.Prelude.{◌≡◌, ◌≤◌, length, drop, MatchOption};
 ghost use Rattle.walk_scan.specs.Tail.{tail_of};
 ghost use Rattle.walk_families.specs.Flat.{walked, ends_parts, ends_of};
-ghost use Rattle.walk_families.specs.Ends.{EndsAt};
+ghost use Rattle.walk_families.specs.Ends.{EndsAt, NoEnds};
 
-use crate::no_path;
 use crate::packet::packet;
 use path::{PathView, Place};
 use walk_scan::name::{channel_length, plain_length};
 use walk_words::is_channels;
 
-// The lengths of P and H in `P/channels/H`: a channel of 0 tells that they do not stand there.
+// The lengths of P and H in `P/channels/H`.
 #[derive(Clone, Copy)]
 pub struct Ends {
     pub port: usize,
@@ -18,40 +17,30 @@ pub struct Ends {
 }
 
 // `P/channels/H` from `at` on.
-fn ends_at(text: &[u8], at: usize) -> Ends
+fn ends_at(text: &[u8], at: usize) -> Option<Ends>
     requires { at ≤ length text.now }
-    ensures { EndsAt text.now at result }
+    ensures { MatchOption result (NoEnds text.now at) (EndsAt text.now at) }
 {
-    let port = plain_length(text, at, 2, 128);
-    if port == 0 {
-        return Ends {
-            port: 0,
-            channel: 0,
-        };
-    }
+    let port = plain_length(text, at, 2, 128)?;
     if !is_channels(text, at + port) {
-        return Ends {
-            port: 0,
-            channel: 0,
-        };
+        return None;
     }
-    let channel = channel_length(text, at + port + 10);
-    Ends { port, channel }
+    let channel = channel_length(text, at + port + 10)?;
+    Some(Ends { port, channel })
 }
 
 // Kinds 11 to 14: no more than `P/channels/H`.
-fn channel(text: &[u8], at: usize, kind: u8, e: Ends) -> PathView
-    requires ends_at { EndsAt text.now at e }
-    requires fact { e.channel ≡ 0 → ⊥ }
+fn channel(text: &[u8], at: usize, kind: u8, e: Ends) -> Option<PathView>
+    requires { EndsAt text.now at e }
     ensures { result ≡ walked kind (tail_of ends_parts at (drop at text.now)) }
 {
     let port = e.port;
     let channel = e.channel;
     let start = at + port + 10;
     if start + channel != text.len() {
-        return no_path();
+        return None;
     }
-    PathView {
+    Some(PathView {
         kind,
         exact: true,
         first: Place {
@@ -64,19 +53,16 @@ fn channel(text: &[u8], at: usize, kind: u8, e: Ends) -> PathView
         },
         a: 0,
         b: 0,
-    }
+    })
 }
 
 // What follows `W/ports/` in a text of this kind. It is one function for all seven kinds, so that the compiler has one
 // place to put it, and no call is left.
-pub fn after_ports(text: &[u8], at: usize, kind: u8) -> PathView
+pub fn after_ports(text: &[u8], at: usize, kind: u8) -> Option<PathView>
     requires { at ≤ length text.now }
     ensures { result ≡ walked kind (tail_of (ends_of kind) at (drop at text.now)) }
 {
-    let e = ends_at(text, at);
-    if e.channel == 0 {
-        return no_path();
-    }
+    let e = ends_at(text, at)?;
     if kind < 15 {
         return channel(text, at, kind, e);
     }

@@ -8,23 +8,8 @@ mod packet;
 pub mod upgrade;
 
 ghost use Rattle.std.specs.Prelude.{◌≡◌, true};
-ghost use Rattle.walk_families.specs.Flat.{nothing};
 
 use path::{PathView, Place};
-
-// What is answered where nothing is read.
-pub fn no_path() -> PathView
-    ensures { result ≡ nothing }
-{
-    PathView {
-        kind: 0,
-        exact: false,
-        first: Place { start: 0, len: 0 },
-        second: Place { start: 0, len: 0 },
-        a: 0,
-        b: 0,
-    }
-}
 
 // A path that carries nothing, or one identifier.
 pub fn bare(kind: u8, start: usize, len: usize) -> PathView

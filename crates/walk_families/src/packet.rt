@@ -5,15 +5,13 @@ ghost use Rattle.walk_families.specs.Flat.{walked, packet_parts};
 ghost use Rattle.walk_families.specs.Ends.{EndsAt};
 
 use crate::ends::Ends;
-use crate::no_path;
 use path::{PathView, Place};
 use walk_scan::number::number;
 use walk_words::is_sequences;
 
 // `P/channels/H/sequences/S` from `at` on, of which the first three are found.
-pub(crate) fn packet(text: &[u8], at: usize, kind: u8, e: Ends) -> PathView
-    requires ends_at { EndsAt text.now at e }
-    requires fact { e.channel ≡ 0 → ⊥ }
+pub(crate) fn packet(text: &[u8], at: usize, kind: u8, e: Ends) -> Option<PathView>
+    requires { EndsAt text.now at e }
     ensures { result ≡ walked kind (tail_of packet_parts at (drop at text.now)) }
 {
     let port = e.port;
@@ -21,16 +19,13 @@ pub(crate) fn packet(text: &[u8], at: usize, kind: u8, e: Ends) -> PathView
     let start = at + port + 10;
     let end = start + channel;
     if !is_sequences(text, end) {
-        return no_path();
+        return None;
     }
-    let n = number(text, end + 11);
-    if !n.ok {
-        return no_path();
-    }
+    let n = number(text, end + 11)?;
     if n.end != text.len() {
-        return no_path();
+        return None;
     }
-    PathView {
+    Some(PathView {
         kind,
         exact: n.plain,
         first: Place {
@@ -43,5 +38,5 @@ pub(crate) fn packet(text: &[u8], at: usize, kind: u8, e: Ends) -> PathView
         },
         a: n.value,
         b: 0,
-    }
+    })
 }

@@ -1,18 +1,16 @@
 -- A name, `-`, and a number without a leading zero: accepted once the number is read.
 -- Assumes nothing.
-use Rattle.std.specs.Prelude.{ℕ, zero, suc, ◌+◌, ◌-◌, ◌≤◌, ◌<◌, ◌≡◌, List, [], ◌∷◌, ◌++◌, Bool, true, false, ◌&&◌, eqb, ltb, take, drop, get_or}
+use Rattle.std.specs.Prelude.{ℕ, zero, suc, ◌+◌, ◌-◌, ◌≤◌, ◌<◌, ◌≡◌, List, [], ◌∷◌, ◌++◌, Bool, true, false, ◌&&◌, eqb, ltb, take, drop, get_or, Some, Ok, Err}
 use Rattle.std.proofs.Math.Path.{refl}
 use Rattle.std.proofs.Common.{sym, ap, ◌∙◌, append_assoc, inl, inr, arith, take-append-drop, drop_of_length-le, drop-cons, drop-drop, ltb-false}
 use Rattle.std.proofs.Math.ListN.{length, length-append}
 use Rattle.std.proofs.Math.Seq.{drop_at}
 use Rattle.std.proofs.lemmas.Bool.{lt-leb, eqb-false}
 use Rattle.text.specs.Bytes.{bytes}
-use Rattle.text.specs.Number.{is_digit, numeral_of}
+use Rattle.text.specs.Number.{Numeral, is_digit, numeral_of}
 use Rattle.text.specs.Part.{every, starts_with}
 use Rattle.text.specs.PartLaws.{every_append}
 use Rattle.text.specs.Fault.{numeral_fault}
-use Rattle.text.specs.declared.Numeral.{Numeral}
-use Rattle.text.specs.declared.Numeral.TheVariants.{Value, NoDigits, NotADigit, TooLarge}
 use Rattle.identifiers.specs.Check.{is_value, index_of, named_of, check_of, Rule, indexed, channel, connection, identifier_byte, among}
 use Rattle.identifiers.specs.CheckLaws.{index_short, index-other, accepted-by}
 use Rattle.identifiers.specs.IndexLaws.{channel-name, connection-name}
@@ -23,7 +21,7 @@ use Rattle.walk_scan.specs.WordLaws.{starts_split, starts-whole}
 use Rattle.walk_scan.specs.NameLaws.{run_is}
 use Rattle.walk_scan.specs.Number.{num_len, num_text, counted_of}
 use Rattle.walk_scan.specs.NumberLaws.{no_value, number-every, num-length}
-use Rattle.walk_scan.specs.CountLaws.{digit-is, first-at, count_fields, count-is}
+use Rattle.walk_scan.specs.CountLaws.{digit-is, first-at, count-yes, count-is}
 use Rattle.walk_scan.specs.Tail.{Stops, at_end, at_slash}
 use Rattle.walk_scan.specs.Index.{Leads, Index}
 
@@ -34,10 +32,8 @@ number-some [] h = no_value h
 number-some (b ∷ c) h = omega arith
 
 no-fault : (x : Numeral) → is_value x ≡ true → numeral_fault x ≡ 0
-no-fault (Value n) h = refl
-no-fault (NoDigits i) h = no_value h
-no-fault (NotADigit i) h = no_value h
-no-fault (TooLarge i) h = no_value h
+no-fault (Ok n) h = refl
+no-fault (Err fault) h = no_value h
 
 index_good : (c : List ℕ) → is_number c ≡ true → Leads (length c) (get_or c 0 0) → index_of c ≡ 0
 index_good c h (inl e) = index_short c (omega arith) ∙ no-fault (numeral_of c) h
@@ -72,10 +68,10 @@ zero-leads n b h l = go (ltb 1 n) refl (eqb b 48) refl h
     go true e false f k = inr (eqb-false b 48 f)
     go false e y f k = inl (omega (arith, ltb-false 1 n e))
 
-pub index-some : (s : List ℕ) (d : ℕ) (n : Counted) → n ≡ counted_of d (drop d s) → n.ok ≡ true → n.end - d ≤ 53 → (ltb 1 (n.end - d) && eqb (get_or s d 0) 48) ≡ false → Stops (drop n.end s) → Index s d n.end
-index-some s d n is ok m z k =
-    let num : is_number (num_text (drop d s)) ≡ true = sym (count_fields d (drop d s) n is) ∙ ok in
-    let e = (count-is d (drop d s) n is ok).1 in
+pub index-some : (s : List ℕ) (d : ℕ) (n : Counted) → Some n ≡ counted_of d (drop d s) → n.end - d ≤ 53 → (ltb 1 (n.end - d) && eqb (get_or s d 0) 48) ≡ false → Stops (drop n.end s) → Index s d n.end
+index-some s d n is m z k =
+    let num = count-yes d (drop d s) n is in
+    let e = (count-is d (drop d s) n is).1 in
     let l : d < n.end = omega (arith, e, number-some (num_text (drop d s)) num, num-length (drop d s)) in
     record { some = l; few = omega arith; number = num; ends = e; leads = zero-leads (n.end - d) (get_or s d 0) z (omega arith); stops = k }
 

@@ -1,6 +1,6 @@
 -- The scanner of an identifier: the run of identifier bytes that its rule accepts.
 -- Assumes nothing.
-use Rattle.std.specs.Prelude.{ℕ, ◌+◌, ◌-◌, ◌≤◌, ◌<◌, ◌≡◌, List, ◌++◌, Bool, ltb, take}
+use Rattle.std.specs.Prelude.{ℕ, ◌≤◌, ◌<◌, ◌≡◌, List, ◌++◌, Bool, ltb, take}
 use Rattle.std.proofs.Math.Path.{refl, sym}
 use Rattle.std.proofs.Common.{◌∙◌, arith, length-take, take_at}
 use Rattle.std.proofs.Math.Bool.{true, false, cond}
@@ -25,7 +25,16 @@ no_slash : identifier_byte 47 ≡ false
 unfolding identifier_byte among
 no_slash = refl
 
+none-there : (v : Bool) (n : ℕ) → n ≡ 0 → cond v n 0 ≡ 0
+none-there true n h = h
+none-there false n h = refl
+
 module _ (r : Rule) (s : List ℕ) where
+  -- where no byte runs there is none
+  pub rule_empty : run identifier_byte s ≡ 0 → rule_run r s ≡ 0
+  unfolding rule_run
+  rule_empty h = none-there (eqb (check_of r (take (run identifier_byte s) s)) 0) _ h
+
   pub rule_in : check_of r (take (run identifier_byte s) s) ≡ 0 → rule_run r s ≡ run identifier_byte s
   unfolding rule_run
   rule_in h = rw (eq-eqb (check_of r (take (run identifier_byte s) s)) 0 h)
@@ -59,10 +68,14 @@ rule-plain least most s h k =
     rule_in r s (accepted-by r (take (run identifier_byte s) s) (run-every identifier_byte s) (rw (run_length r s) h) (rw (run_length r s) k) refl)
 
 -- by the check of a name
+pub name_empty : (m : Name) (s : List ℕ) → run identifier_byte s ≡ 0 → name_run m s ≡ 0
+unfolding name_run
+name_empty m s h = none-there (eqb (name_fault m (take (run identifier_byte s) s)) 0) _ h
+
 module _ (m : Name) (s : List ℕ) (n v : ℕ) (e : n ≡ run identifier_byte s) (f : v ≡ name_fault m (take n s)) where
-  pub name-refused : (v ≡ 0 → ⊥) → 0 ≡ name_run m s
+  pub name-refused : (v ≡ 0 → ⊥) → name_run m s ≡ 0
   unfolding name_run
-  name-refused h = sym (rw (ne_eqb (name_fault m (take (run identifier_byte s) s)) 0 (λ k. h (f ∙ rw e k))))
+  name-refused h = rw (ne_eqb (name_fault m (take (run identifier_byte s) s)) 0 (λ k. h (f ∙ rw e k)))
 
   pub name-accepted : v ≡ 0 → n ≡ name_run m s
   unfolding name_run

@@ -1,6 +1,6 @@
 -- The number at the start of a text: a sign, and as many digits as there are.
 -- Assumes nothing.
-use Rattle.std.specs.Prelude.{ℕ, ◌+◌, ◌^◌, List, [], ◌∷◌, Bool, true, false, cond, not, ◌&&◌, eqb, ltb, take, drop}
+use Rattle.std.specs.Prelude.{ℕ, ◌+◌, ◌^◌, List, [], ◌∷◌, Bool, true, cond, not, ◌&&◌, eqb, ltb, take, drop, Option, Some, None}
 use Rattle.text.specs.Number.{is_digit, with_digit}
 use Rattle.text.specs.Part.{ascii, starts_with}
 use Rattle.path.specs.Kinds.{count}
@@ -11,11 +11,11 @@ use Rattle.walk_scan.specs.declared.number.Counted.{Counted}
 use Rattle.walk_scan.specs.Run.{run}
 
 -- the value of the digits from i on, with v before them, and where they end: none where it passes a u64
-unfoldable pub figures : ℕ → ℕ → List ℕ → Figures
-figures v i [] = record { ok = true; value = v; end = i }
+unfoldable pub figures : ℕ → ℕ → List ℕ → Option Figures
+figures v i [] = Some (record { value = v; end = i })
 figures v i (b ∷ s) =
     let more = figures (with_digit v b) (i + 1) s in
-    cond (is_digit b) (cond (ltb (with_digit v b) (2 ^ 64)) more (record { ok = false; value = 0; end = 0 })) (record { ok = true; value = v; end = i })
+    cond (is_digit b) (cond (ltb (with_digit v b) (2 ^ 64)) more None) (Some (record { value = v; end = i }))
 
 -- how long the sign is, and the number
 unfoldable pub sign : List ℕ → ℕ
@@ -28,8 +28,8 @@ abbrev pub num_text : List ℕ → List ℕ
 num_text s = take (num_len s) s
 
 -- the number, where it ends, and whether it is spelled as it is rendered; `at` is the place of its first byte
-unfoldable pub counted_of : ℕ → List ℕ → Counted
-counted_of at s = cond (is_number (num_text s)) (record { ok = true; value = number_in (num_text s); end = at + num_len s; plain = spelled count (num_text s) }) (record { ok = false; value = 0; end = 0; plain = false })
+unfoldable pub counted_of : ℕ → List ℕ → Option Counted
+counted_of at s = cond (is_number (num_text s)) (Some (record { value = number_in (num_text s); end = at + num_len s; plain = spelled count (num_text s) })) None
 
 -- n digits, the first of them b, are spelled as their number is rendered: one digit, or no leading zero
 unfoldable pub plain_of : ℕ → ℕ → Bool

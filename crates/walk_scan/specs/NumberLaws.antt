@@ -1,14 +1,13 @@
 -- The scanners of S or n, of R-h and of U.
 -- Assumes nothing.
-use Rattle.std.specs.Prelude.{ℕ, suc, ◌+◌, ◌-◌, ◌^◌, ◌≤◌, ◌<◌, ◌≡◌, List, [], ◌∷◌, ◌++◌, Bool, true, false, cond, ◌&&◌, eqb, ltb, length, take, drop}
+use Rattle.std.specs.Prelude.{ℕ, suc, ◌+◌, ◌^◌, ◌≤◌, ◌<◌, ◌≡◌, List, [], ◌∷◌, ◌++◌, Bool, true, false, cond, ◌&&◌, eqb, ltb, length, take, drop, Err}
 use Rattle.std.proofs.Math.Path.{refl}
 use Rattle.std.proofs.Common.{sym, ap, ◌∙◌, append_assoc, arith, length-append, length-take, length-drop, drop-drop, drop_at, take_at, take-add, eqb-true}
 use Rattle.std.proofs.Math.Bool.{not}
-use Rattle.text.specs.Number.{is_digit, with_digit, digits_from, digits_at, numeral_of}
+use Rattle.text.specs.Number.{Numeral, is_digit, with_digit, digits_from, digits_at, numeral_of}
 use Rattle.text.specs.Part.{every, ascii, starts_with}
 use Rattle.text.specs.PartLaws.{and_left, and_right, every_append}
-use Rattle.text.specs.declared.Numeral.{Numeral}
-use Rattle.text.specs.declared.Numeral.TheVariants.{NotADigit, TooLarge}
+use Rattle.text.specs.declared.NumberFault.TheVariants.{NotADigit, TooLarge}
 use Rattle.identifiers.specs.Check.{is_value}
 use Rattle.path.specs.Kinds.{name, count, pair}
 use Rattle.path.specs.Text.{cut_at, join_by}
@@ -50,8 +49,8 @@ digits-every : (v i : ℕ) (s : List ℕ) → is_value (digits_from v i s) ≡ t
 unfolding digits_from every
 digits-every v i [] h = refl
 digits-every v i (b ∷ s) h =
-    let d = value-cond (is_digit b) _ (NotADigit i) (λ x. no_value x) h in
-    let k = value-cond (ltb (with_digit v b) (2 ^ 64)) _ (TooLarge i) (λ x. no_value x) d.1 in
+    let d = value-cond (is_digit b) _ (Err (NotADigit i)) (λ x. no_value x) h in
+    let k = value-cond (ltb (with_digit v b) (2 ^ 64)) _ (Err (TooLarge i)) (λ x. no_value x) d.1 in
     rw d.0 (digits-every (with_digit v b) (i + 1) s k.1)
 
 some-every : (i : ℕ) (s : List ℕ) → is_value (digits_at i s) ≡ true → (every is_digit s ≡ true) × (0 < length s)

@@ -1,10 +1,11 @@
 -- Laws of `run`: one turn of a loop, and what runs.
 -- Assumes nothing.
-use Rattle.std.specs.Prelude.{ℕ, suc, ◌+◌, ◌-◌, ◌≤◌, ◌<◌, ◌≡◌, refl, List, [], ◌∷◌, ◌++◌, Bool, true, false, cond, not, ◌&&◌, eqb, length, take, drop, get_or}
-use Rattle.std.proofs.Common.{sym, ◌∙◌, arith, add-one, drop_of_length-le, drop-cons, eqb-true}
+use Rattle.std.specs.Prelude.{ℕ, suc, ◌+◌, ◌≤◌, ◌<◌, ◌≡◌, refl, List, [], ◌∷◌, ◌++◌, Bool, true, false, cond, not, ◌&&◌, eqb, length, take, drop, get_or, Some, None}
+use Rattle.std.proofs.Common.{sym, ◌∙◌, arith, add-one, drop_of_length-le, drop-cons, eqb-true, ne_eqb}
+use Rattle.std.proofs.lemmas.Bool.{eqb-false}
 use Rattle.text.specs.Part.{every}
 use Rattle.text.specs.PartLaws.{and_left, and_right}
-use Rattle.walk_scan.specs.Run.{run}
+use Rattle.walk_scan.specs.Run.{run, nonzero}
 use Rattle.walk_scan.specs.Tail.{Stops, at_end, at_slash}
 
 -- ---- one turn of a loop
@@ -20,6 +21,31 @@ module _ (f : ℕ → Bool) (s : List ℕ) (i : ℕ) where
   pub run_more : i < length s → f (get_or s i 0) ≡ true → run f (drop i s) ≡ suc (run f (drop (i + 1) s))
   unfolding run
   run_more h e = rw (drop-cons s i 0 h, e, add-one)
+
+-- ---- what a length nonzero tells
+pub nonzero-none : (n : ℕ) → n ≡ 0 → None ≡ nonzero n
+unfolding nonzero
+nonzero-none n h = rw h
+
+pub nonzero-some : (m n : ℕ) → (m ≡ 0 → ⊥) → m ≡ n → Some m ≡ nonzero n
+unfolding nonzero
+nonzero-some m n h e = sym (rw (← e, ne_eqb m 0 h))
+
+pub none-nonzero : (n : ℕ) → None ≡ nonzero n → n ≡ 0
+unfolding nonzero
+none-nonzero n = go (eqb n 0) refl
+  where
+    go : (v : Bool) → eqb n 0 ≡ v → None ≡ cond v None (Some n) → n ≡ 0
+    go true e h = eqb-true n 0 e
+    go false e h = absurd cc
+
+pub some-nonzero : (m n : ℕ) → Some m ≡ nonzero n → (m ≡ n) × (m ≡ 0 → ⊥)
+unfolding nonzero
+some-nonzero m n = go (eqb n 0) refl
+  where
+    go : (v : Bool) → eqb n 0 ≡ v → Some m ≡ cond v None (Some n) → (m ≡ n) × (m ≡ 0 → ⊥)
+    go true e h = absurd cc
+    go false e h = let k : m ≡ n = cc in (k, λ z. eqb-false n 0 e (sym k ∙ z))
 
 -- ---- what runs
 pub run-within : (f : ℕ → Bool) (s : List ℕ) → run f s ≤ length s

@@ -18,10 +18,7 @@ pub fn word8(s: &[u8], at: usize, w: &[u8]) -> bool
     requires { (at ≤ length s.now) × (length w.now ≡ 8) }
     ensures { result ≡ starts_with w.now (drop at s.now) }
 {
-    if s.len() - at < 8 {
-        return false;
-    }
-    is_eight(s, at, eight(w, 0))
+    8 <= s.len() - at && is_eight(s, at, eight(w, 0))
 }
 
 // Whether the n bytes at `at` are these: the first eight and the last eight.
@@ -29,13 +26,7 @@ pub fn word16(s: &[u8], at: usize, n: usize, a: u64, b: u64) -> bool
     requires { (at ≤ length s.now) × (8 ≤ n) }
     ensures { result ≡ (starts_with (low_bytes 8 a) (drop at s.now) && starts_with (low_bytes 8 b) (drop (at + (n - 8)) s.now)) }
 {
-    if s.len() - at < n {
-        return false;
-    }
-    if !is_eight(s, at, a) {
-        return false;
-    }
-    is_eight(s, at + (n - 8), b)
+    n <= s.len() - at && is_eight(s, at, a) && is_eight(s, at + (n - 8), b)
 }
 
 // The first, the second and the last eight.
@@ -43,14 +34,8 @@ pub fn word24(s: &[u8], at: usize, n: usize, a: u64, b: u64, c: u64) -> bool
     requires { (at ≤ length s.now) × (16 ≤ n) }
     ensures { result ≡ (starts_with (low_bytes 8 a) (drop at s.now) && (starts_with (low_bytes 8 b) (drop (at + 8) s.now) && starts_with (low_bytes 8 c) (drop (at + (n - 8)) s.now))) }
 {
-    if s.len() - at < n {
-        return false;
-    }
-    if !is_eight(s, at, a) {
-        return false;
-    }
-    if !is_eight(s, at + 8, b) {
-        return false;
-    }
-    is_eight(s, at + (n - 8), c)
+    n <= s.len() - at
+        && is_eight(s, at, a)
+        && is_eight(s, at + 8, b)
+        && is_eight(s, at + (n - 8), c)
 }

@@ -1,19 +1,17 @@
 -- On ASCII texts the two modes are one: once for all checks, once for reading, once for rendering.
 -- Assumes nothing.
-use Rattle.std.specs.Prelude.{ℕ, ◌-◌, ◌≡◌, Bool, ltb, length}
+use Rattle.std.specs.Prelude.{ℕ, ◌-◌, ◌≡◌, Bool, ltb, length, Err, Some}
 use Rattle.std.proofs.Math.Path.{refl}
 use Rattle.std.proofs.Math.Bool.{true, false, cond}
 use mathlib.Core.List.{List}
 use Rattle.text.specs.Part.{ascii}
 use Rattle.identifiers.specs.Check.{chars_of, length_of, prefix_length_of, named_index_of, named_index_fault, Rule, check_of}
 use Rattle.path.specs.declared.Refusal.TheVariants.{TooLong}
-use Rattle.path.specs.declared.Reading.{Reading}
-use Rattle.path.specs.declared.Reading.TheVariants.{Refused}
+use Rattle.path.specs.Reading.{Reading}
 use Rattle.path.specs.Kinds.{kinds}
 use Rattle.path.specs.Read.{read_first, reading_of, read_path, key_of, reading_bytes, read_fault}
 use Rattle.letters.specs.CharacterLaws.{ascii-utf8}
 use Rattle.letters.specs.NarrowLaws.{ascii-narrow}
-use Rattle.wide.specs.declared.read.WideReading.TheVariants.{Of}
 use Rattle.wide.specs.Mode.{wide}
 use Rattle.wide.specs.Check.{chars_in, length_in, prefix_length_in, named_index_in, named_index_fault_in, check_in}
 use Rattle.wide.specs.Read.{read_in, key_in, reading_bytes_in, read_fault_in}
@@ -42,11 +40,11 @@ module _ (s : List ℕ) (low : ascii s ≡ true) where
 
 -- ---- reading
 module _ (t : List ℕ) (low : ascii t ≡ true) where
-  pub read-ascii : read_in wide t ≡ Of (read_path t)
+  pub read-ascii : read_in wide t ≡ Some (read_path t)
   unfolding wide read_in read_path
   read-ascii = rw (ascii-utf8 t low, ascii-narrow t low, low) (go (ltb 4096 (length t)) (reading_of t (read_first kinds t)))
     where
-      go : (a : Bool) (r : Reading) → cond a (Of (Refused TooLong)) (Of (cond a (Refused TooLong) r)) ≡ Of (cond a (Refused TooLong) r)
+      go : (a : Bool) (r : Reading) → cond a (Some (Err TooLong)) (Some (cond a (Err TooLong) r)) ≡ Some (cond a (Err TooLong) r)
       go true r = refl
       go false r = refl
 

@@ -1,18 +1,15 @@
 -- In the mode `plain` each definition is the plain call's.
 -- Assumes nothing.
-use Rattle.std.specs.Prelude.{ℕ, suc, ◌-◌, ◌≤◌, ◌≡◌, refl, Bool, cond, List, [], ◌∷◌, ltb, length, take, drop}
+use Rattle.std.specs.Prelude.{ℕ, suc, ◌-◌, ◌≤◌, ◌≡◌, refl, Bool, cond, List, [], ◌∷◌, ltb, length, take, drop, Err, Option, Some, None}
 use Rattle.std.proofs.Common.{ap, arith}
 use Rattle.std.proofs.Math.Bool.{true, false}
 use Rattle.text.specs.Part.{ascii}
 use Rattle.identifiers.specs.Check.{chars_of, length_of, prefix_length_of, named_index_of, named_index_fault, Rule, check_of}
 use Rattle.identifiers.specs.Owned.{blank, keep, trim_start, trim_end, trim}
 use Rattle.path.specs.declared.Refusal.TheVariants.{TooLong, NotAscii}
-use Rattle.path.specs.declared.Reading.{Reading}
-use Rattle.path.specs.declared.Reading.TheVariants.{Refused}
+use Rattle.path.specs.Reading.{Reading}
 use Rattle.path.specs.Kinds.{kinds}
 use Rattle.path.specs.Read.{read_first, reading_of, read_path, read_place, key_by, key_of, bytes_by, reading_bytes, read_fault}
-use Rattle.wide.specs.declared.read.WideReading.{WideReading}
-use Rattle.wide.specs.declared.read.WideReading.TheVariants.{Of, NotTaken}
 use Rattle.wide.specs.Mode.{plain}
 use Rattle.wide.specs.Check.{chars_in, length_in, prefix_length_in, named_index_in, named_index_fault_in, check_in, trim_in}
 use Rattle.wide.specs.Read.{read_in, place_in, key_by_in, key_in, bytes_by_in, reading_bytes_in, read_fault_in}
@@ -75,13 +72,13 @@ unfolding plain trim_in trim
 trim-plain s = rw (start-part s) (end-part (trim_start s))
 
 -- ---- reading: what is said of each answer, and of a text that is not ASCII, holds of the reading
-module _ (t : List ℕ) (P : WideReading → Reading → Type 0) (of : (r : Reading) → P (Of r) r) (other : P NotTaken (Refused NotAscii)) where
+module _ (t : List ℕ) (P : Option Reading → Reading → Type 0) (of : (r : Reading) → P (Some r) r) (other : P None (Err NotAscii)) where
   by-reading : P (read_in plain t) (read_path t)
   unfolding plain read_in read_path
   by-reading = go (ltb 4096 (length t)) (ascii t) (reading_of t (read_first kinds t))
     where
-      go : (a b : Bool) (x : Reading) → P (cond a (Of (Refused TooLong)) (cond b (Of (cond a (Refused TooLong) (cond b x (Refused NotAscii)))) NotTaken)) (cond a (Refused TooLong) (cond b x (Refused NotAscii)))
-      go true b x = of (Refused TooLong)
+      go : (a b : Bool) (x : Reading) → P (cond a (Some (Err TooLong)) (cond b (Some (cond a (Err TooLong) (cond b x (Err NotAscii)))) None)) (cond a (Err TooLong) (cond b x (Err NotAscii)))
+      go true b x = of (Err TooLong)
       go false true x = of x
       go false false x = other
 

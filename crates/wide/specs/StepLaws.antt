@@ -1,14 +1,15 @@
 -- The ways through the code of the wide calls.
 -- Assumes nothing.
-use Rattle.std.specs.Prelude.{ℕ, ◌-◌, ◌≤◌, ◌<◌, Bool, leb, take, drop}
+use Rattle.std.specs.Prelude.{ℕ, ◌-◌, ◌≤◌, ◌<◌, Bool, leb, take, drop, Err, Option, Some, None}
 use Rattle.std.proofs.Math.Path.{◌≡◌, refl}
 use Rattle.std.proofs.Common.{sym, ◌∙◌, arith, take_at}
 use Rattle.std.proofs.Math.Bool.{true, false, cond, and-false}
 use mathlib.Core.List.{List, ◌++◌}
 use Rattle.std.proofs.Math.Nat.{sub-zero}
-use Rattle.std.proofs.Math.Dec.{ltb}
+use Rattle.std.proofs.Math.Dec.{eqb, ltb}
+use Rattle.std.proofs.lemmas.Bool.{eqb-false}
 use Rattle.std.proofs.Math.ListN.{length}
-use borrow.Author.Tests.{le-leb, lt-leb, lt-ltb, le-ltb, ltb-true, ne_eqb, leb-true}
+use borrow.Author.Tests.{le-leb, lt-leb, lt-ltb, le-ltb, ltb-true, eqb-true, ne_eqb, leb-true}
 use Rattle.text.specs.Bytes.{bytes}
 use Rattle.text.specs.Number.{decimal}
 use Rattle.text.specs.PartLaws.{and_left, and_right}
@@ -20,8 +21,7 @@ use Rattle.identifiers.specs.Check as check
 use Rattle.identifiers.specs.CheckLaws.{first-zero, first-last, first-first, unless-zero}
 use Rattle.identifiers.specs.OwnedLaws.{accepted-some, accepted-none}
 use Rattle.path.specs.declared.Refusal.TheVariants.{TooLong}
-use Rattle.path.specs.declared.Reading.{Reading}
-use Rattle.path.specs.declared.Reading.TheVariants.{Refused}
+use Rattle.path.specs.Reading.{Reading}
 use Rattle.path.specs.declared.name.Name.TheVariants.{Client as client, Connection as connection, Port as port, Channel as channel, Upgrade as upgrade}
 use Rattle.path.specs.Kinds.{Carried, kinds}
 use Rattle.path.specs.Parents.{consensus_parent, packets_path}
@@ -34,11 +34,9 @@ use Rattle.writers.specs.Texts.{parent_text, packets_text}
 use Rattle.writers.specs.TextLaws.{parent-text, packets-text}
 use Rattle.reading.specs.Encode.{answer_by}
 use Rattle.render.specs.declared.Names.TheVariants.{PortAndChannel}
-use Rattle.render.specs.Render.{names_of, fault_by, short}
+use Rattle.render.specs.Render.{names_of, fault_by, short, checked}
 use Rattle.key.specs.Key.{shown_by}
 use Rattle.key.specs.KeyLaws.{shown-key}
-use Rattle.wide.specs.declared.read.WideReading.{WideReading}
-use Rattle.wide.specs.declared.read.WideReading.TheVariants.{Of, NotTaken}
 use Rattle.wide.specs.Mode.{Mode, wide}
 use Rattle.wide.specs.Check.{chars_in, check_in, trim_in, new_client_in}
 use Rattle.wide.specs.Read.{read_in, key_in, reading_bytes_in, read_fault_in}
@@ -85,16 +83,16 @@ module _ (s : List ℕ) (n : ℕ) where
 
 -- ---- reading
 module _ (t : List ℕ) where
-  pub read-long : 4096 < length t → Of (Refused TooLong) ≡ read_in wide t
+  pub read-long : 4096 < length t → Some (Err TooLong) ≡ read_in wide t
   unfolding read_in
   read-long h = rw (lt-ltb 4096 (length t) h)
 
   module _ (h : length t ≤ 4096) where
-    pub read-other : utf8 t ≡ false → NotTaken ≡ read_in wide t
+    pub read-other : utf8 t ≡ false → None ≡ read_in wide t
     unfolding wide read_in
     read-other e = rw (le-ltb 4096 (length t) h, e)
 
-    pub read-seen : utf8 t ≡ true → Of (read_path (narrow t)) ≡ read_in wide t
+    pub read-seen : utf8 t ≡ true → Some (read_path (narrow t)) ≡ read_in wide t
     unfolding wide read_in
     read-seen e = rw (le-ltb 4096 (length t) h, e)
 
@@ -102,13 +100,13 @@ module _ (t : List ℕ) where
 pub picture-part : (t o o' : List ℕ) (n : ℕ) → n ≡ length t → o' ≡ put o 0 (narrow t) → take (n - 0) o' ≡ narrow t
 picture-part t o o' n e f = rw (f, e, sub-zero, put-zero o (narrow t)) (take_at (narrow t) (drop (length (narrow t)) o) (length t) (length-narrow t))
 
-too_long_when : (t : List ℕ) → 4096 < length t → read_path t ≡ Refused TooLong
+too_long_when : (t : List ℕ) → 4096 < length t → read_path t ≡ Err TooLong
 unfolding read_path
 too_long_when t h = rw (lt-ltb 4096 (length t) h)
 
 -- an answer: its bytes, its fault and its key
-module _ (t : List ℕ) (x : WideReading) (by : x ≡ read_in wide t) where
-  module _ (other : x ≡ NotTaken) where
+module _ (t : List ℕ) (x : Option Reading) (by : x ≡ read_in wide t) where
+  module _ (other : x ≡ None) where
     pub other-bytes : refused 21 ≡ reading_bytes_in wide t
     unfolding wide reading_bytes_in
     other-bytes = rw (← by, other)
@@ -121,7 +119,7 @@ module _ (t : List ℕ) (x : WideReading) (by : x ≡ read_in wide t) where
     unfolding wide key_in
     other_key = rw (← by, other)
 
-  module _ (r : Reading) (is : x ≡ Of r) where
+  module _ (r : Reading) (is : x ≡ Some r) where
     pub of-bytes : bytes_by r ≡ reading_bytes_in wide t
     unfolding reading_bytes_in
     of-bytes = rw (← by, is)
@@ -135,7 +133,7 @@ module _ (t : List ℕ) (x : WideReading) (by : x ≡ read_in wide t) where
     unfolding wide read_in
     length_of = go (ltb 4096 (length t)) refl (utf8 t) (sym by ∙ is)
       where
-        go : (a : Bool) → ltb 4096 (length t) ≡ a → (b : Bool) → cond a (Of (Refused TooLong)) (cond b (Of (read_path (narrow t))) NotTaken) ≡ Of r → (s : List ℕ) × (length s ≡ length t) × (read_path s ≡ r)
+        go : (a : Bool) → ltb 4096 (length t) ≡ a → (b : Bool) → cond a (Some (Err TooLong)) (cond b (Some (read_path (narrow t))) None) ≡ Some r → (s : List ℕ) × (length s ≡ length t) × (read_path s ≡ r)
         go true e b f = (t, refl, too_long_when t (ltb-true 4096 (length t) e) ∙ cc)
         go false e true f = (narrow t, length-narrow t, cc)
         go false e false f = let z : ◌≡◌ {A = ℕ} 0 1 = cc in absurd (omega arith)
@@ -181,6 +179,13 @@ module _ (m : Mode) (k : ℕ) (v : Carried (List ℕ)) where
     pub kind-limited : fault_by (name_fault_in m) (names_of k) v.first v.second ≡ 0 → limited_in m (parts_of k) v ≡ short (render (parts_of k) v)
     unfolding short
     kind-limited e = rw (kind-fault, e)
+
+    pub kind-checked : limited_in m (parts_of k) v ≡ checked (fault_by (name_fault_in m) (names_of k) v.first v.second) (short (render (parts_of k) v))
+    kind-checked = go (eqb (fault_by (name_fault_in m) (names_of k) v.first v.second) 0) refl
+      where
+        go : (b : Bool) → eqb (fault_by (name_fault_in m) (names_of k) v.first v.second) 0 ≡ b → limited_in m (parts_of k) v ≡ cond b (short (render (parts_of k) v)) (refused (fault_by (name_fault_in m) (names_of k) v.first v.second))
+        go true e = kind-limited (eqb-true _ 0 e)
+        go false e = kind-refused _ refl (eqb-false _ 0 e)
 
 module _ (m : Mode) (v : Carried (List ℕ)) where
   pub parent-wanted : text_in m consensus_parent v ≡ accepted (check_in m check.client v.first) (parent_text v.first)

@@ -10,13 +10,6 @@ use path::{Reading, Refusal};
 use text::refusal::BAD_UTF8;
 use text::{Fault, Written};
 
-// What a text reads as, or that it is no UTF-8.
-#[derive(Clone, Copy)]
-pub enum WideReading {
-    Of(Reading),
-    NotTaken,
-}
-
 // Reads the picture of a text, which is written into the lent room.
 fn read_through(text: &[u8], picture: &mut [u8]) -> Reading
     requires { length text.now ≤ length picture.old }
@@ -26,49 +19,41 @@ fn read_through(text: &[u8], picture: &mut [u8]) -> Reading
     walk::walk_path(&picture[0..end])
 }
 
-// Reads the picture of a short text, as most paths are: less room takes less time to clear.
-fn read_short(text: &[u8]) -> Reading
-    requires { length text.now ≤ 256 }
+// Reads the picture of a text of at most N bytes.
+fn read_within<const N: usize>(text: &[u8]) -> Reading
+    requires fits { length text.now ≤ N }
+    requires room { N ≤ 4096 }
     ensures { result ≡ read_path (narrow text.now) }
 {
-    let mut picture = [0u8; 256];
+    let mut picture = [0u8; N];
     read_through(text, &mut picture)
 }
 
-// Reads the picture of a text of any length that is read.
-fn read_longer(text: &[u8]) -> Reading
-    requires { length text.now ≤ 4096 }
-    ensures { result ≡ read_path (narrow text.now) }
-{
-    let mut picture = [0u8; 4096];
-    read_through(text, &mut picture)
-}
-
-// Reads the picture of a text, in room that fits it.
+// Reads the picture of a text, in room that fits it: most paths are short, and less room takes less time to clear.
 fn read_picture(text: &[u8]) -> Reading
     requires { length text.now ≤ 4096 }
     ensures { result ≡ read_path (narrow text.now) }
 {
     if text.len() <= 256 {
-        return read_short(text);
+        return read_within::<256>(text);
     }
-    read_longer(text)
+    read_within::<4096>(text)
 }
 
-// Reads a text as a path.
-pub fn read_path(text: &[u8]) -> WideReading
+// Reads a text as a path: none where it is no UTF-8.
+pub fn read_path(text: &[u8]) -> Option<Reading>
     ensures { result ≡ read_in wide text.now }
 {
     if 4096 < text.len() {
-        return WideReading::Of(Reading::Refused(Refusal::TooLong));
+        return Some(Err(Refusal::TooLong));
     }
     if text::part::all_ascii(text) {
-        return WideReading::Of(walk::walk_path(text));
+        return Some(walk::walk_path(text));
     }
     if !letters::is_utf8(text) {
-        return WideReading::NotTaken;
+        return None;
     }
-    WideReading::Of(read_picture(text))
+    Some(read_picture(text))
 }
 
 // The reading of a text as 26 bytes, for the node.
@@ -77,8 +62,8 @@ pub fn write_reading(text: &[u8], out: &mut [u8]) -> Fault
     ensures out_after { out.new ≡ left (reading_bytes_in wide text.now) out.old }
 {
     match read_path(text) {
-        WideReading::Of(reading) => reading::write_answer(reading, out),
-        WideReading::NotTaken => Fault {
+        Some(reading) => reading::write_answer(reading, out),
+        None => Fault {
             refusal: BAD_UTF8,
             place: 0,
         },
@@ -91,8 +76,8 @@ pub fn write_key(text: &[u8], out: &mut [u8]) -> Written
     ensures out_after { out.new ≡ left (key_in wide text.now) out.old }
 {
     match read_path(text) {
-        WideReading::Of(reading) => key::write_shown(text, reading, out),
-        WideReading::NotTaken => Written {
+        Some(reading) => key::write_shown(text, reading, out),
+        None => Written {
             refusal: BAD_UTF8,
             length: 0,
         },

@@ -9,7 +9,7 @@ use Rattle.ask.proofs.answer_line.Goals as goal
 
 pub write_view-requires : goal.write_view-requires
 write_view-requires c =
-    let by = sym c.in-Seen.is ∙ c.walk_view.ensures in
+    let by = sym c.in-Ok.is ∙ c.walk_view.ensures in
     record {
       le_kind = seen_range c.args.line.now _ by;
       v_in_bounds = omega (arith, ap length (answer-seen c.args.why c.args.line.now _ by));
@@ -17,19 +17,19 @@ write_view-requires c =
 
 pub write_refusal-requires : goal.write_refusal-requires
 write_refusal-requires c =
-    omega (arith, ap length (answer-unread c.args.why c.args.line.now _ (sym c.in-Refused.is ∙ c.walk_view.ensures)))
+    omega (arith, ap length (answer-unread c.args.why c.args.line.now _ (sym c.in-Err.is ∙ c.walk_view.ensures)))
 
-pub returns-in-Seen : goal.returns-in-Seen
-returns-in-Seen c =
-    let e = sym (answer-seen c.args.why c.args.line.now _ (sym c.in-Seen.is ∙ c.walk_view.ensures)) in
+pub returns-in-Ok : goal.returns-in-Ok
+returns-in-Ok c =
+    let e = sym (answer-seen c.args.why c.args.line.now _ (sym c.in-Ok.is ∙ c.walk_view.ensures)) in
     record {
       value = c.write_view.ensures.value ∙ ap (λ l. c.args.at + length l) e;
       out_after = c.write_view.ensures.out_after ∙ ap (put c.args.out.now c.args.at) e;
     }
 
-pub returns-in-Refused : goal.returns-in-Refused
-returns-in-Refused c =
-    let e = sym (answer-unread c.args.why c.args.line.now _ (sym c.in-Refused.is ∙ c.walk_view.ensures)) in
+pub returns-in-Err : goal.returns-in-Err
+returns-in-Err c =
+    let e = sym (answer-unread c.args.why c.args.line.now _ (sym c.in-Err.is ∙ c.walk_view.ensures)) in
     record {
       value = c.write_refusal.ensures.value ∙ ap (λ l. c.args.at + length l) e;
       out_after = c.write_refusal.ensures.out_after ∙ ap (put c.args.out.now c.args.at) e;

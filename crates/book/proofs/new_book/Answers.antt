@@ -1,6 +1,5 @@
 -- `book::new_book` meets its contract.
 use Rattle.book.specs.RecordLaws.{new_none, new_small, new-made}
-use native.Mathlib.Omega.{arith}
 use Rattle.book.proofs.new_book.Goals as goal
 
 pub returns-then-slots-eq0 : goal.returns-then-slots-eq0
@@ -8,9 +7,6 @@ returns-then-slots-eq0 c = new_none _ _ c.slots_of-slots.ensures _ c.if-slots-eq
 
 pub returns-then-not-sum_fits : goal.returns-then-not-sum_fits
 returns-then-not-sum_fits c = new_small _ _ c.slots_of-slots.ensures _ c.if-slots-eq0.false _ c.sum_fits.ensures (c.if-not-sum_fits.true)
-
-pub put_header-requires : goal.put_header-requires
-put_header-requires c = record { n_bound = omega (arith, (c.slots_of-slots.ensures.some c.if-slots-eq0.false).size, c.ranges); in_bounds = omega (arith, (c.slots_of-slots.ensures.some c.if-slots-eq0.false).size, c.ranges) }
 
 pub returns : goal.returns
 returns c = new-made _ _ c.slots_of-slots.ensures _ c.if-slots-eq0.false _ c.sum_fits.ensures (c.if-not-sum_fits.false) _ _ c.clear.ensures c.put_header.ensures

@@ -24,11 +24,5 @@ note_slots-requires c = record {
 pub stay_of-stay-requires : goal.stay_of-stay-requires
 stay_of-stay-requires c = ((sizes Current lawful _ _ c.requires.counts).most, c.note_slots.ensures.kinds_len_2.0, c.note_slots.ensures.kinds_len_2.1, c.note_slots.ensures.kinds_len_2.2)
 
-pub sweep-requires : goal.sweep-requires
-sweep-requires c = record {
-  counts = c.requires.counts;
-  kinds_len = c.note_slots.ensures.kinds_len_2;
-}
-
 pub returns : goal.returns
 returns c = cleared_by c.args.book.now c.args.n c.requires.counts c.args.owner c.args.client.now _ _ c.stretch_of-s.ensures _ _ _ c.note_slots.ensures.noted_from c.args.keep c.stay_of-stay.result c.stay_of-stay.ensures c.sweep.result _ c.sweep.ensures

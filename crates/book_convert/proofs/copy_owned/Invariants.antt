@@ -1,6 +1,5 @@
 -- `book_convert::copy_owned` meets its contract.
 use mathlib.Core.Path.{◌≡◌}
-use Prim.Native.Nat.{◌-◌, ◌≤◌}
 use lib.ListN.{length}
 use Rattle.book_form.specs.declared.Quotas.{Quotas}
 use Rattle.book_form.specs.Version.{V2, V3}
@@ -9,7 +8,4 @@ use Rattle.book_convert.specs.ConvertLaws.{Copying}
 use Rattle.book_convert.proofs.copy_owned.Given as goal
 
 abbrev pub invariant-loop-i : goal.invariant-loop-i
-invariant-loop-i l = (l.i ≤ l.count) × ((e : Quotas) → Copying V2 V3 e firsts l.old 0 l.initial.new → Copying V2 V3 e firsts l.old l.i l.new) × (length l.new ≡ length l.initial.new)
-
-abbrev pub decreases-loop-i : goal.decreases-loop-i
-decreases-loop-i l = l.count - l.i
+invariant-loop-i l = ((e : Quotas) → Copying V2 V3 e firsts l.old 0 l.initial.new → Copying V2 V3 e firsts l.old l.i l.new) × (length l.new ≡ length l.initial.new)

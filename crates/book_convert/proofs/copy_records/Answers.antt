@@ -9,14 +9,13 @@ use Rattle.book_form.specs.VersionLaws.{version_lawful}
 use Rattle.book_convert.specs.Convert.{same}
 use Rattle.book_convert.specs.ConvertLaws.{copies, start-room, copy_start, copy_done, plain-next}
 use native.Mathlib.Omega.{arith}
-use borrow.Author.Rules.{rules}
 use Rattle.book_convert.proofs.copy_records.Goals as goal
 
 pub put_front-requires : goal.put_front-requires
 put_front-requires c = record { n_bound = omega (arith, start-room V1 (version_lawful One) V2 (version_lawful Two) _ _ _ c.requires); in_bounds = omega (arith, start-room V1 (version_lawful One) V2 (version_lawful Two) _ _ _ c.requires) }
 
 pub loop-i-init : goal.loop-i-init
-loop-i-init c = (omega arith, copy_start V1 (version_lawful One) V2 (version_lawful Two) _ _ _ c.requires tt same _ _ c.clear.ensures c.put_front.ensures, omega arith)
+loop-i-init c = (copy_start V1 (version_lawful One) V2 (version_lawful Two) _ _ _ c.requires tt same _ _ c.clear.ensures c.put_front.ensures, omega arith)
 
 pub slot_at-at-requires : goal.slot_at-at-requires
 slot_at-at-requires c = omega (arith, (copies V1 (version_lawful One) V2 (version_lawful Two) _ _ _ c.requires c.loop-i.i (omega arith)).few)
@@ -39,18 +38,12 @@ slice_bounds-put_fields-end c = omega (arith, c.slot_at-at.ensures, (copies V1 (
 pub put_fields-requires : goal.put_fields-requires
 put_fields-requires c =
     let k = copies V1 (version_lawful One) V2 (version_lawful Two) _ _ _ c.requires c.loop-i.i (omega arith) in
-    omega (arith, c.slot_at.ensures, c.loop-i.invariant.2, k.to, ap length (c.key_at.ensures.bytes ∙ ap (stored c.args.old.now) c.slot_at-at.ensures), k.fit.1, length_part (c.slot_at-at.result + 256) (c.slot_at-at.result + 256 + 32 - (c.slot_at-at.result + 256)) c.args.old.now (omega (arith, c.slot_at-at.ensures, k.from)))
-
-pub loop-i-smaller : goal.loop-i-smaller
-loop-i-smaller c = omega arith
+    omega (arith, c.slot_at.ensures, c.loop-i.invariant.1, k.to, ap length (c.key_at.ensures.bytes ∙ ap (stored c.args.old.now) c.slot_at-at.ensures), k.fit.1, length_part (c.slot_at-at.result + 256) (c.slot_at-at.result + 256 + 32 - (c.slot_at-at.result + 256)) c.args.old.now (omega (arith, c.slot_at-at.ensures, k.from)))
 
 pub loop-i-preserved : goal.loop-i-preserved
 loop-i-preserved c =
     let v = ap (λ (m : ℕ). take m (drop (c.slot_at-at.result + 256) c.args.old.now)) (let q : c.slot_at-at.result + 256 + 32 - (c.slot_at-at.result + 256) ≡ 32 = omega arith in q) in
-    (omega arith, plain-next _ _ _ c.requires c.loop-i.i (omega arith) c.slot_at-at.result c.slot_at-at.ensures _ _ c.key_at.ensures.bytes v _ c.slot_at.ensures _ _ c.loop-i.invariant.1 c.put_fields.ensures, omega (arith, c.loop-i.invariant.2))
-
-pub shape_of-new : goal.shape_of-new
-shape_of-new c = search rules
+    (plain-next _ _ _ c.requires c.loop-i.i (omega arith) c.slot_at-at.result c.slot_at-at.ensures _ _ c.key_at.ensures.bytes v _ c.slot_at.ensures _ _ c.loop-i.invariant.0 c.put_fields.ensures, omega (arith, c.loop-i.invariant.1))
 
 pub returns : goal.returns
-returns c = copy_done V1 (version_lawful One) V2 (version_lawful Two) _ _ _ c.requires tt same c.loop-i.i (omega arith) _ c.loop-i.invariant.1
+returns c = copy_done V1 (version_lawful One) V2 (version_lawful Two) _ _ _ c.requires tt same c.loop-i.i (omega arith) _ c.loop-i.invariant.0

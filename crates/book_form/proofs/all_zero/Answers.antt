@@ -1,22 +1,23 @@
-use mathlib.Core.Path.{sym, ◌∙◌}
-use Prim.Native.Nat.{◌+◌, ◌-◌}
-use lib.Dec.{eqb}
-use lib.ListN.{length}
-use Rattle.book_form.specs.BlankLaws.{part-stop, part-more, part-last}
-use native.Mathlib.Omega.{arith}
+use Rattle.std.proofs.Common.{sym, ap, ◌∙◌, arith, ◌-◌, length, eqb}
+use Rattle.std.specs.Slice.Iter.{chunks_exact_rest, chunks_exact_size}
+use Rattle.book_form.specs.BlankLaws.{left-start, left-stop, left-next, left-end}
 use Rattle.book_form.proofs.all_zero.Goals as goal
+
+pub loop-part-init : goal.loop-part-init
+loop-part-init c =
+    let i = c.into_iter-part-iterator.ensures.into_iter_gives in
+    let size = ap chunks_exact_size i ∙ c.chunks_exact-part-items.ensures.size in
+    (omega (arith, size), tt, size, left-start (λ b. eqb b 0) c.args.s.now _ (ap chunks_exact_rest i ∙ c.chunks_exact-part-items.ensures.rest))
 
 pub returns-then-not-blank : goal.returns-then-not-blank
 returns-then-not-blank c =
-    sym (part-stop (λ b. eqb b 0) c.args.s.now c.loop-i.i (c.loop-i.i + 128 - c.loop-i.i) c.loop-i.invariant.1 (sym c.blank-in-loop-i.ensures ∙ c.if-not-blank.true))
+    sym (left-stop (λ b. eqb b 0) c.args.s.now c.in-Some.part.now _ _ c.loop-part.invariant.3 c.in-Some.ensures.steps.1.0 (sym c.blank-in-loop-part.ensures ∙ c.if-not-blank.true))
 
-pub loop-i-smaller : goal.loop-i-smaller
-loop-i-smaller c = omega arith
-
-pub loop-i-preserved : goal.loop-i-preserved
-loop-i-preserved c =
-    (omega arith, part-more (λ b. eqb b 0) c.args.s.now c.loop-i.i (c.loop-i.i + 128 - c.loop-i.i) c.loop-i.invariant.1 (sym c.blank-in-loop-i.ensures ∙ c.if-not-blank.false) (c.loop-i.i + 128) (omega arith))
+pub loop-part-preserved : goal.loop-part-preserved
+loop-part-preserved c =
+    let size = c.in-Some.ensures.steps.0 ∙ c.loop-part.invariant.2 in
+    (omega (arith, size), tt, size, left-next (λ b. eqb b 0) c.args.s.now c.in-Some.part.now _ _ c.loop-part.invariant.3 c.in-Some.ensures.steps.1.0 (sym c.blank-in-loop-part.ensures ∙ c.if-not-blank.false))
 
 pub returns : goal.returns
 returns c =
-    c.blank-2.ensures ∙ part-last (λ b. eqb b 0) c.args.s.now c.loop-i.i (length c.args.s.now - 128) (length c.args.s.now - (length c.args.s.now - 128)) c.loop-i.invariant.1 (omega arith) (omega arith)
+    c.blank-2.ensures ∙ left-end (λ b. eqb b 0) c.args.s.now _ (length c.args.s.now - 128) 128 c.loop-part.invariant.3 (omega (arith, c.in-None.ensures.steps.1.0, c.loop-part.invariant.2)) (omega arith) (omega arith)

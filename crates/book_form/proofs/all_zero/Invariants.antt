@@ -1,13 +1,12 @@
 -- `book_form::all_zero` meets its contract.
-use mathlib.Core.Path.{◌≡◌}
-use Prim.Native.Nat.{◌≤◌, ◌-◌}
-use lib.Dec.{eqb}
-use lib.ListN.{length, drop}
-use Rattle.text.specs.Part.{every}
+use Rattle.std.specs.Prelude.{◌≡◌, eqb}
+use Rattle.std.specs.Slice.Iter.{chunks_exact_rest, chunks_exact_size}
+use Rattle.book_form.specs.BlankLaws.{Left}
 use Rattle.book_form.proofs.all_zero.Given as goal
 
-abbrev pub invariant-loop-i : goal.invariant-loop-i
-invariant-loop-i l = (l.i ≤ length l.s) × (every (λ b. eqb b 0) l.s ≡ every (λ b. eqb b 0) (drop l.i l.s))
-
-abbrev pub decreases-loop-i : goal.decreases-loop-i
-decreases-loop-i l = l.last - l.i
+abbrev pub invariant-loop-part : goal.invariant-loop-part
+invariant-loop-part l =
+    (goal.iterator-loop-part).can_next l.part-iterator ×
+    (goal.iterator-loop-part).is_finite l.part-iterator ×
+    (chunks_exact_size l.part-iterator ≡ 128) ×
+    Left (λ b. eqb b 0) l.s (chunks_exact_rest l.part-iterator)

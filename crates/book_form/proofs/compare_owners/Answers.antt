@@ -1,16 +1,6 @@
 -- `book_form::compare_owners` meets its contract.
-use Rattle.book_form.specs.NextLaws.{three-room, owners-one, owners-two, owners-three}
-use native.Mathlib.Omega.{arith}
+use Rattle.book_form.specs.NextLaws.{owners-one, owners-two, owners-three}
 use Rattle.book_form.proofs.compare_owners.Goals as goal
-
-pub bounds-book-at : goal.bounds-book-at
-bounds-book-at c = omega (arith, three-room _ c.args.book.now c.args.at c.requires c.in-Three.is)
-
-pub overflow_add-at : goal.overflow_add-at
-overflow_add-at c = omega (arith, three-room _ c.args.book.now c.args.at c.requires c.in-Three.is)
-
-pub bounds-book-at-in-Three : goal.bounds-book-at-in-Three
-bounds-book-at-in-Three c = omega (arith, three-room _ c.args.book.now c.args.at c.requires c.in-Three.is)
 
 pub returns-in-One : goal.returns-in-One
 returns-in-One c = owners-one c.args.version c.args.book.now c.args.at c.in-One.is
@@ -19,4 +9,4 @@ pub returns-in-Two : goal.returns-in-Two
 returns-in-Two c = owners-two c.args.version c.args.book.now c.args.at c.in-Two.is
 
 pub returns-in-Three : goal.returns-in-Three
-returns-in-Three c = owners-three c.args.version c.args.book.now c.args.at c.requires c.in-Three.is _ c.order.ensures
+returns-in-Three c = owners-three c.args.version c.args.book.now c.args.at c.requires c.in-Three.is _ c.cmp.ensures

@@ -6,7 +6,7 @@ pub returns-in_default : goal.returns-in_default
 returns-in_default c = unread-taken c.args.manner c.args.read _ c.in_default.is
 
 pub returns-in-Plain : goal.returns-in-Plain
-returns-in-Plain c = plain-by-mark c.args.manner c.args.read _ c.in-Seen.is c.in-Plain.is
+returns-in-Plain c = plain-by-mark c.args.manner c.args.read _ c.in-Ok.is c.in-Plain.is
 
 pub returns-in-Lenient : goal.returns-in-Lenient
 returns-in-Lenient c = lenient-taken c.args.manner c.args.read c.in-Lenient.is

@@ -9,4 +9,4 @@ pub returns-in_default : goal.returns-in_default
 returns-in_default c = beside-unread _ _ _ c.if-refusal-ne0.false c.in_default.is
 
 pub returns : goal.returns
-returns c = beside-seen _ _ _ c.if-refusal-ne0.false c.in-Seen.is
+returns c = beside-seen _ _ _ c.if-refusal-ne0.false c.in-Ok.is

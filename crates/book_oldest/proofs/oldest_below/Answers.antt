@@ -11,7 +11,7 @@ few b n h = (sizes Current lawful b n h).most
 
 pub loop-i-init : goal.loop-i-init
 loop-i-init c =
-    (c.keys_before-i.ensures.within, omega arith, oldest-start _ _ c.requires.counts c.args.owner _ _ c.requires.parent_value _ c.keys_before-i.ensures)
+    oldest-start _ _ c.requires.counts c.args.owner _ _ c.requires.parent_value _ c.keys_before-i.ensures
 
 pub overflow_mul-i : goal.overflow_mul-i
 overflow_mul-i c = omega (arith, few _ _ c.requires.counts)
@@ -34,17 +34,14 @@ overflow_add-i-in-loop-i-2 c = omega (arith, few _ _ c.requires.counts)
 pub key_at-requires : goal.key_at-requires
 key_at-requires c = omega (arith, (sizes Current lawful _ _ c.requires.counts).used)
 
-pub loop-i-smaller : goal.loop-i-smaller
-loop-i-smaller c = omega arith
-
 pub loop-i-preserved : goal.loop-i-preserved
 loop-i-preserved c =
-    (omega arith, omega arith, oldest-next _ c.args.n c.requires.counts c.args.owner _ _ c.requires.parent_value _ c.keys_before-i.ensures c.loop-i.best c.loop-i.i c.loop-i.invariant.2 (omega arith) _ c.is_below_parent.ensures c.if-is_below_parent.true _ c.key_at.ensures.bytes _ _ c.state_in.ensures c.older-best.ensures)
+    oldest-next _ c.args.n c.requires.counts c.args.owner _ _ c.requires.parent_value _ c.keys_before-i.ensures c.loop-i.best c.loop-i.i c.loop-i.invariant (omega arith) _ c.is_below_parent.ensures c.if-not-is_below_parent.false _ c.key_at.ensures.bytes _ _ c.state_in.ensures c.older-best.ensures
 
-pub returns-else-is_below_parent : goal.returns-else-is_below_parent
-returns-else-is_below_parent c =
-    oldest-stop _ c.args.n c.requires.counts c.args.owner _ _ c.requires.parent_value c.keys_before-i.result c.keys_before-i.ensures c.loop-i.best c.loop-i.i c.loop-i.invariant.2 (omega arith) _ c.is_below_parent.ensures (omega arith) c.if-is_below_parent.false
+pub returns-then-not-is_below_parent : goal.returns-then-not-is_below_parent
+returns-then-not-is_below_parent c =
+    oldest-stop _ c.args.n c.requires.counts c.args.owner _ _ c.requires.parent_value c.keys_before-i.result c.keys_before-i.ensures c.loop-i.best c.loop-i.i c.loop-i.invariant (omega arith) _ c.is_below_parent.ensures (omega arith) c.if-not-is_below_parent.true
 
 pub returns-after-loop-i : goal.returns-after-loop-i
 returns-after-loop-i c =
-    oldest-end _ c.args.n c.requires.counts c.args.owner _ _ c.requires.parent_value _ c.keys_before-i.ensures c.loop-i.best c.loop-i.i c.loop-i.invariant.2 (omega arith)
+    oldest-end _ c.args.n c.requires.counts c.args.owner _ _ c.requires.parent_value _ c.keys_before-i.ensures c.loop-i.best c.loop-i.i c.loop-i.invariant (omega arith)

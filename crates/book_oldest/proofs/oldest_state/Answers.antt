@@ -1,14 +1,10 @@
 -- `book_oldest::oldest_state` meets its contract.
 use Prim.Native.Nat.{◌-◌}
 use native.Mathlib.Omega.{arith}
-use lib.ListN.{length-append}
 use lib.Seq.{take_at}
 use Rattle.text.specs.PutLaws.{put-zero}
 use Rattle.writers.specs.Texts.{parent_text}
 use Rattle.book_oldest.proofs.oldest_state.Goals as goal
-
-pub write_consensus_parent-end-requires : goal.write_consensus_parent-end-requires
-write_consensus_parent-end-requires c = simp length-append (omega (arith, c.requires.client_len_bound))
 
 pub oldest_below-requires : goal.oldest_below-requires
 oldest_below-requires c = record {

@@ -7,7 +7,7 @@ use Rattle.book_table.specs.WayLaws.{fill_none, fill_more, key-there}
 use Rattle.book_table.proofs.fill_table.Goals as goal
 
 pub loop-i-init : goal.loop-i-init
-loop-i-init c = (omega arith, fill_none _ _ _ c.requires.1 c.clear.ensures)
+loop-i-init c = fill_none _ _ _ c.requires.1 c.clear.ensures
 
 pub overflow_mul-at : goal.overflow_mul-at
 overflow_mul-at c = omega (arith, (sizes Current lawful _ _ c.requires.0).most)
@@ -29,12 +29,9 @@ overflow_cast-i c = omega (arith, (sizes Current lawful _ _ c.requires.0).most)
 
 pub loop-i-preserved : goal.loop-i-preserved
 loop-i-preserved c =
-    (omega arith, fill_more _ _ _ _ c.loop-i.i _ _ c.loop-i.invariant.1 (key-there _ _ c.requires.0 c.loop-i.i (omega arith) _ c.key_at.ensures.bytes) c.home.ensures.0 c.free_spot-p.ensures c.write_byte.ensures.out_after)
-
-pub shape_of-table : goal.shape_of-table
-shape_of-table c = omega (arith, c.loop-i.invariant.1.size, c.requires.1)
+    fill_more _ _ _ _ c.loop-i.i _ _ c.loop-i.invariant (key-there _ _ c.requires.0 c.loop-i.i (omega arith) _ c.key_at.ensures.bytes) c.home.ensures.0 c.free_spot-p.ensures c.write_byte.ensures.out_after
 
 pub returns : goal.returns
 returns c =
     let e : c.loop-i.i ≡ c.args.n = omega arith in
-    c.loop-i.invariant.1.table ∙ ap (filled (key_at Current c.args.book.now)) e
+    c.loop-i.invariant.table ∙ ap (filled (key_at Current c.args.book.now)) e

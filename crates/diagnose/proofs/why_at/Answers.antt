@@ -20,13 +20,13 @@ pub returns-then-is_lacking : goal.returns-then-is_lacking
 returns-then-is_lacking c = at-empty c.args.kind.now c.args.text.now c.args.f _ c.seen_of-m.ensures c.if-m-f.false _ c.seen_of.ensures c.if-seen_of-f.false _ _ c.piece_at-w.ensures c.piece_at-c.ensures _ c.is_lacking.ensures c.if-is_lacking.true
 
 pub returns-then-fits_at : goal.returns-then-fits_at
-returns-then-fits_at c = at-extra c.args.kind.now c.args.text.now c.args.f _ c.seen_of-m.ensures c.if-m-f.false _ c.seen_of.ensures c.if-seen_of-f.false _ _ c.piece_at-w.ensures c.piece_at-c.ensures _ c.is_lacking.ensures c.if-is_lacking.false _ (count_many c.args.text.now c.args.cut c.requires.0) _ c.over.ensures _ c.fits_at.ensures c.if-fits_at.true
+returns-then-fits_at c = at-extra c.args.kind.now c.args.text.now c.args.f _ c.seen_of-m.ensures c.if-m-f.false _ c.seen_of.ensures c.if-seen_of-f.false _ _ c.piece_at-w.ensures c.piece_at-c.ensures _ c.is_lacking.ensures c.if-is_lacking.false _ (count_many c.args.text.now c.args.cut c.requires.0) _ c.saturating_sub.ensures _ c.fits_at.ensures c.if-fits_at.true
 
 pub overflow_add-f-2 : goal.overflow_add-f-2
-overflow_add-f-2 c = omega (arith, c.requires.2, c.over-2.ensures, c.seen_of-m.ensures, seven-length c.args.kind.now)
+overflow_add-f-2 c = omega (arith, c.requires.2, c.saturating_sub-2.ensures, c.seen_of-m.ensures, seven-length c.args.kind.now)
 
 pub returns-then-part_fits : goal.returns-then-part_fits
-returns-then-part_fits c = at-missing c.args.kind.now c.args.text.now c.args.f _ c.seen_of-m.ensures c.if-m-f.false _ c.seen_of.ensures c.if-seen_of-f.false _ _ c.piece_at-w.ensures c.piece_at-c.ensures _ c.is_lacking.ensures c.if-is_lacking.false _ (count_many c.args.text.now c.args.cut c.requires.0) _ c.over.ensures _ c.fits_at.ensures c.if-fits_at.false _ c.over-2.ensures _ c.part_fits.ensures c.if-part_fits.true
+returns-then-part_fits c = at-missing c.args.kind.now c.args.text.now c.args.f _ c.seen_of-m.ensures c.if-m-f.false _ c.seen_of.ensures c.if-seen_of-f.false _ _ c.piece_at-w.ensures c.piece_at-c.ensures _ c.is_lacking.ensures c.if-is_lacking.false _ (count_many c.args.text.now c.args.cut c.requires.0) _ c.saturating_sub.ensures _ c.fits_at.ensures c.if-fits_at.false _ c.saturating_sub-2.ensures _ c.part_fits.ensures c.if-part_fits.true
 
 pub returns : goal.returns
-returns c = at_part c.args.kind.now c.args.text.now c.args.f _ c.seen_of-m.ensures c.if-m-f.false _ c.seen_of.ensures c.if-seen_of-f.false _ _ c.piece_at-w.ensures c.piece_at-c.ensures _ c.is_lacking.ensures c.if-is_lacking.false _ (count_many c.args.text.now c.args.cut c.requires.0) _ c.over.ensures _ c.fits_at.ensures c.if-fits_at.false _ c.over-2.ensures _ c.part_fits.ensures c.if-part_fits.false _ c.part_why.ensures
+returns c = at_part c.args.kind.now c.args.text.now c.args.f _ c.seen_of-m.ensures c.if-m-f.false _ c.seen_of.ensures c.if-seen_of-f.false _ _ c.piece_at-w.ensures c.piece_at-c.ensures _ c.is_lacking.ensures c.if-is_lacking.false _ (count_many c.args.text.now c.args.cut c.requires.0) _ c.saturating_sub.ensures _ c.fits_at.ensures c.if-fits_at.false _ c.saturating_sub-2.ensures _ c.part_fits.ensures c.if-part_fits.false _ c.part_why.ensures

@@ -1,5 +1,5 @@
 -- `identifiers::write_accepted` meets its contract.
-use borrow.Author.Tests.{eq-eqb, ne_eqb}
+use borrow.Author.Tests.{ne_eqb}
 use Rattle.text.specs.Put.{answer, left}
 use Rattle.identifiers.proofs.write_accepted.Goals as goal
 
@@ -9,12 +9,4 @@ returns-then-refusal-ne0 c = let e = ne_eqb _ 0 c.if-refusal-ne0.true in
     record {
       value = rw e;
       out_after = rw e;
-    }
-
-pub returns : goal.returns
-returns c =
-    let e = eq-eqb _ 0 c.if-refusal-ne0.false in
-    record {
-      value = rw e c.give.ensures.value;
-      out_after = rw e c.give.ensures.out_after;
     }

@@ -4,7 +4,6 @@ use mathlib.Core.List.{[], ◌∷◌}
 use Prim.Native.Nat.{◌+◌}
 use native.Mathlib.Omega.{arith}
 use lib.ListN.{length}
-use borrow.Author.Rules.{rules}
 use borrow.Author.Tests.{ltb-true, ltb-false}
 use Rattle.text.specs.Number.{width}
 use Rattle.text.specs.NumberLaws.{length-decimal}
@@ -21,16 +20,6 @@ returns-then-not-has_room c =
       value = sym (answer-short _ _ (omega arith));
       out_after = sym (left-short _ _ (omega arith));
     }
-
-pub write_text-dash-requires : goal.write_text-dash-requires
-write_text-dash-requires c =
-    let room = ltb-true (length c.args.name.now + width c.args.counter) (length c.args.out.now) (sym c.has_room.ensures ∙ c.if-not-has_room.false) in
-    search rules
-
-pub write_byte-index-requires : goal.write_byte-index-requires
-write_byte-index-requires c =
-    let room = ltb-true (length c.args.name.now + width c.args.counter) (length c.args.out.now) (sym c.has_room.ensures ∙ c.if-not-has_room.false) in
-    search rules
 
 pub write_index-end-requires : goal.write_index-end-requires
 write_index-end-requires c =

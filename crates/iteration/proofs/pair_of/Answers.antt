@@ -3,8 +3,8 @@ use mathlib.Core.Path.{sym, ap}
 use Rattle.iteration.specs.Key.{pair_of}
 use Rattle.iteration.proofs.pair_of.Goals as goal
 
-pub returns-in-Key : goal.returns-in-Key
-returns-in-Key c = sym (ap pair_of c.in-Key.is)
+pub returns-in-Ok : goal.returns-in-Ok
+returns-in-Ok c = sym (ap pair_of c.in-Ok.is)
 
-pub returns-in-Refused : goal.returns-in-Refused
-returns-in-Refused c = sym (ap pair_of c.in-Refused.is)
+pub returns-in-Err : goal.returns-in-Err
+returns-in-Err c = sym (ap pair_of c.in-Err.is)

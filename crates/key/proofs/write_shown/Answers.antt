@@ -13,5 +13,5 @@ write_seen-requires c = view_range _ _ _ c.view.ensures
 
 pub returns : goal.returns
 returns c =
-    let e = shown-seen c.args.text.now c.args.reading _ _ c.in-Read.is _ c.view.ensures in
+    let e = shown-seen c.args.text.now c.args.reading _ _ c.in-Ok.is _ c.view.ensures in
     let p = gives_same (shown_by c.args.text.now c.args.reading) c.args.out.now (sym e) (c.write_seen.ensures.value, c.write_seen.ensures.out_after) in record { value = p.0; out_after = p.1 }

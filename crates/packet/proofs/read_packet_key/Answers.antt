@@ -11,8 +11,8 @@ returns-in_default c =
 
 pub returns-then-refusal-ne0 : goal.returns-then-refusal-ne0
 returns-then-refusal-ne0 c =
-    read-refused c.args.key.now c.if-key-lt9.false _ c.kind_marked.ensures _ c.in-Kind.is _ c.validate_client_identifier-refusal.ensures c.if-refusal-ne0.true
+    read-refused c.args.key.now c.if-key-lt9.false _ c.kind_marked.ensures _ c.in-Some.is _ c.validate_client_identifier-refusal.ensures c.if-refusal-ne0.true
 
 pub returns : goal.returns
 returns c =
-    read-key c.args.key.now c.if-key-lt9.false _ c.kind_marked.ensures _ c.in-Kind.is _ c.validate_client_identifier-refusal.ensures c.if-refusal-ne0.false _ c.read_big_endian.ensures
+    read-key c.args.key.now c.if-key-lt9.false _ c.kind_marked.ensures _ c.in-Some.is _ c.validate_client_identifier-refusal.ensures c.if-refusal-ne0.false _ c.read_big_endian.ensures

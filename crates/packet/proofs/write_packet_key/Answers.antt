@@ -10,5 +10,5 @@ returns-in_default c =
 
 pub returns : goal.returns
 returns c =
-    let w = write_known c.args.kind c.args.client.now c.args.sequence.0 _ c.kind_marked.ensures _ c.in-Kind.is in
+    let w = write_known c.args.kind c.args.client.now c.args.sequence.0 _ c.kind_marked.ensures _ c.in-Some.is in
     let p = gives_same (packet_wanted c.args.kind c.args.client.now c.args.sequence.0) c.args.out.now w (c.write_kind.ensures.value, c.write_kind.ensures.out_after) in record { value = p.0; out_after = p.1 }

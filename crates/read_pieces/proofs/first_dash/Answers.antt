@@ -1,15 +1,12 @@
-use Rattle.read_pieces.specs.PairLaws.{dash-end, dash-here, dash-later}
-use native.Mathlib.Omega.{arith}
+-- `read_pieces::first_dash` meets its contract.
+use Rattle.std.specs.Prelude.{◌≡◌, position, eqb}
+use Rattle.std.proofs.Common.{◌∙◌, rules, tests}
+use Rattle.std.proofs.lemmas.Iterator.{YieldsList-from_slice}
+use Rattle.std.proofs.lemmas.Iterator.Search.{position_from_yields_List}
+use Rattle.read_pieces.specs.PairLaws.{dash-found}
 use Rattle.read_pieces.proofs.first_dash.Goals as goal
-
-pub returns-then-s-i-eq45 : goal.returns-then-s-i-eq45
-returns-then-s-i-eq45 c =
-    omega (arith, dash-here c.args.s.now c.loop-i.i (omega arith) c.if-s-i-eq45.true)
-
-pub loop-i-preserved : goal.loop-i-preserved
-loop-i-preserved c =
-    (omega arith, omega (arith, dash-later c.args.s.now c.loop-i.i (omega arith) c.if-s-i-eq45.false))
 
 pub returns : goal.returns
 returns c =
-    omega (arith, dash-end c.args.s.now c.loop-i.i (omega arith))
+    let found : c.position.result ≡ position (λ b. eqb b 45) c.args.s.now = position_from_yields_List (λ b. eqb b 45) _ _ c.position.result c.position.ensures.ran (YieldsList-from_slice _ c.iter.ensures.rest) (λ x b q k. search (rules, tests)) in
+    c.unwrap_or.ensures ∙ dash-found _ _ found

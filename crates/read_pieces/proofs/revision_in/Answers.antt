@@ -1,29 +1,33 @@
 -- `read_pieces::revision_in` meets its contract.
 use Rattle.read_pieces.specs.PairLaws.{dash-inside, revision-none, revision-no_number, revision-no-height, revision-some}
-use Rattle.read_pieces.proofs.Steps.{no_value}
+use Rattle.read_pieces.proofs.Steps.{no_value, its_value}
+use mathlib.Core.Path.{◌∙◌}
 use native.Mathlib.Omega.{arith}
+use Rattle.std.proofs.Common.{length-take}
 use Rattle.read_pieces.proofs.revision_in.Goals as goal
 
 pub returns-then-dash-s : goal.returns-then-dash-s
 returns-then-dash-s c = revision-none _ _ c.first_dash-dash.ensures c.if-dash-s.true
 
 pub slice_bounds-read_number-end : goal.slice_bounds-read_number-end
-slice_bounds-read_number-end c = omega (arith, dash-inside _ _ c.first_dash-dash.ensures c.if-dash-s.false)
+slice_bounds-read_number-end c = omega (arith, length-take c.first_dash-dash.result c.args.s.now, dash-inside _ _ c.first_dash-dash.ensures c.if-dash-s.false)
 
-pub returns-in_default : goal.returns-in_default
-returns-in_default c = revision-no_number _ _ c.first_dash-dash.ensures c.if-dash-s.false _ c.read_number.ensures (no_value c.read_number.result c.in_default.not-Value)
+pub returns-in_err-number : goal.returns-in_err-number
+returns-in_err-number c =
+    c.from_residual.ensures ∙ revision-no_number _ _ c.first_dash-dash.ensures c.if-dash-s.false _ c.read_number.ensures (no_value _ _ c.ok.ensures.value c.in_err-number.was)
 
 pub overflow_add-after : goal.overflow_add-after
 overflow_add-after c = omega (arith, dash-inside _ _ c.first_dash-dash.ensures c.if-dash-s.false)
 
-pub slice_bounds-read_number-count-2 : goal.slice_bounds-read_number-count-2
-slice_bounds-read_number-count-2 c = omega (arith, dash-inside _ _ c.first_dash-dash.ensures c.if-dash-s.false)
+pub slice_bounds-read_number-count : goal.slice_bounds-read_number-count
+slice_bounds-read_number-count c = omega (arith, dash-inside _ _ c.first_dash-dash.ensures c.if-dash-s.false)
 
-pub slice_bounds-read_number-start-2 : goal.slice_bounds-read_number-start-2
-slice_bounds-read_number-start-2 c = omega (arith, dash-inside _ _ c.first_dash-dash.ensures c.if-dash-s.false)
+pub slice_bounds-read_number-start : goal.slice_bounds-read_number-start
+slice_bounds-read_number-start c = omega (arith, dash-inside _ _ c.first_dash-dash.ensures c.if-dash-s.false)
 
-pub returns-in_default-read_number : goal.returns-in_default-read_number
-returns-in_default-read_number c = revision-no-height _ _ c.first_dash-dash.ensures c.if-dash-s.false _ c.read_number.ensures _ c.read_number-2.ensures (no_value c.read_number-2.result c.in_default-read_number.not-Value)
+pub returns-in_err-height : goal.returns-in_err-height
+returns-in_err-height c =
+    c.from_residual-in_err-height.ensures ∙ revision-no-height _ _ c.first_dash-dash.ensures c.if-dash-s.false _ c.read_number.ensures _ c.read_number-2.ensures (no_value _ _ c.ok-2.ensures.value c.in_err-height.was)
 
 pub returns : goal.returns
-returns c = revision-some _ _ c.first_dash-dash.ensures c.if-dash-s.false _ c.read_number.ensures _ c.read_number-2.ensures _ _ c.in-Value.is c.in-Value-read_number.is
+returns c = revision-some _ _ c.first_dash-dash.ensures c.if-dash-s.false _ c.read_number.ensures _ c.read_number-2.ensures _ _ (its_value _ _ c.ok.ensures.value _ c.in_ok-number.was) (its_value _ _ c.ok-2.ensures.value _ c.in_ok-height.was)

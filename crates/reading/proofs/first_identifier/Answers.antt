@@ -8,4 +8,4 @@ pub returns-in_default : goal.returns-in_default
 returns-in_default c = shows-at _ _ _ _ (sym (ap first_place c.in_default.is)) c.part.ensures
 
 pub returns : goal.returns
-returns c = shows-at _ _ _ _ (view_first _ _ _ c.view-v.ensures ∙ sym (ap first_place c.in-Read.is)) c.part-2.ensures
+returns c = shows-at _ _ _ _ (view_first _ _ _ c.view-v.ensures ∙ sym (ap first_place c.in-Ok.is)) c.part-2.ensures

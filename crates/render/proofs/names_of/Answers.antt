@@ -1,23 +1,25 @@
+-- `names_of` meets its contract.
 use borrow.Author.Tests.{lt-ltb, le-ltb}
+use native.Mathlib.Omega.{arith}
 use Rattle.render.specs.Render.{names_of}
 use Rattle.render.proofs.names_of.Goals as goal
 
-pub returns-then-kind-lt9 : goal.returns-then-kind-lt9
+pub returns-in-0-to-8 : goal.returns-in-0-to-8
 unfolding names_of
-returns-then-kind-lt9 c = rw (lt-ltb _ 9 c.if-kind-lt9.true)
+returns-in-0-to-8 c = rw (lt-ltb c.args.kind 9 (omega arith))
 
-pub returns-then-kind-lt10 : goal.returns-then-kind-lt10
+pub returns-in-9 : goal.returns-in-9
 unfolding names_of
-returns-then-kind-lt10 c = rw (le-ltb _ 9 c.if-kind-lt9.false, lt-ltb _ 10 c.if-kind-lt10.true)
+returns-in-9 c = rw c.in-9.is
 
-pub returns-then-kind-gt17 : goal.returns-then-kind-gt17
+pub returns-in-10 : goal.returns-in-10
 unfolding names_of
-returns-then-kind-gt17 c = rw (le-ltb _ 9 c.if-kind-lt9.false, le-ltb _ 10 c.if-kind-lt10.false, lt-ltb 17 _ c.if-kind-gt17.true)
+returns-in-10 c = rw c.in-10.is
 
-pub returns-then-kind-lt11 : goal.returns-then-kind-lt11
+pub returns-in-11-to-17 : goal.returns-in-11-to-17
 unfolding names_of
-returns-then-kind-lt11 c = rw (le-ltb _ 9 c.if-kind-lt9.false, le-ltb _ 10 c.if-kind-lt10.false, le-ltb 17 _ c.if-kind-gt17.false, lt-ltb _ 11 c.if-kind-lt11.true)
+returns-in-11-to-17 c = rw (le-ltb c.args.kind 9 (omega arith), le-ltb c.args.kind 10 (omega arith), le-ltb 17 c.args.kind (omega arith), le-ltb c.args.kind 11 (omega arith))
 
-pub returns : goal.returns
+pub returns-in_default : goal.returns-in_default
 unfolding names_of
-returns c = rw (le-ltb _ 9 c.if-kind-lt9.false, le-ltb _ 10 c.if-kind-lt10.false, le-ltb 17 _ c.if-kind-gt17.false, le-ltb _ 11 c.if-kind-lt11.false)
+returns-in_default c = rw (le-ltb c.args.kind 9 (omega arith), le-ltb c.args.kind 10 (omega arith), lt-ltb 17 c.args.kind (omega arith))

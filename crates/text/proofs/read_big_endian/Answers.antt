@@ -1,34 +1,19 @@
-use mathlib.Core.Path.{◌≡◌, sym, ◌∙◌}
-use Prim.Native.Nat.{◌+◌, ◌-◌}
-use native.Mathlib.Nat.{add-zero, pow-suc}
-use native.Mathlib.Numerals.{add-one}
-use native.Mathlib.Omega.{arith}
-use borrow.Author.Rules.{rules}
-use Rattle.text.specs.NumberLaws.{big-none, big-more}
+use Rattle.std.proofs.Common.{◌≡◌, ◌∙◌, ◌+◌, ◌-◌, ℕ, arith, add-one, sym, pow-suc, length-take}
 use Rattle.text.specs.WordLaws.{byte-room}
+use Rattle.text.proofs.Steps.{big-next, big-end}
 use Rattle.text.proofs.read_big_endian.Goals as goal
 
-pub loop-i-init : goal.loop-i-init
-loop-i-init c =
-    let whole : c.args.width - 0 ≡ c.args.width = omega arith in
-    (search rules, rw (add-zero, whole))
-
 pub overflow_mul-v : goal.overflow_mul-v
-overflow_mul-v c = let small = byte-room c.loop-i.i c.loop-i.v (omega arith) c.loop-i.invariant.0.1 in search rules
+overflow_mul-v c = omega (arith, byte-room _ c.loop-b.v (omega (arith, length-take {A = ℕ})) c.loop-b.invariant.0)
 
 pub overflow_add-v : goal.overflow_add-v
-overflow_add-v c =
-    let small = byte-room c.loop-i.i c.loop-i.v (omega arith) c.loop-i.invariant.0.1 in
-    omega (arith, c.shared_slice_known-in-loop-i-1.given (c.args.at + c.loop-i.i))
+overflow_add-v c = omega (arith, byte-room _ c.loop-b.v (omega (arith, length-take {A = ℕ})) c.loop-b.invariant.0)
 
-pub loop-i-preserved : goal.loop-i-preserved
-loop-i-preserved c =
-    let byte = c.shared_slice_known-in-loop-i-1.given (c.args.at + c.loop-i.i) in
-    let next : c.args.at + c.loop-i.i + 1 ≡ c.args.at + (c.loop-i.i + 1) = omega arith in (
-      (omega arith, rw (add-one, pow-suc) (omega arith)),
-      c.loop-i.invariant.1 ∙ rw (c.wide.ensures, ← next) (big-more c.loop-i.v (c.args.width - c.loop-i.i) (c.args.width - (c.loop-i.i + 1)) (c.args.at + c.loop-i.i) c.args.s.now (omega arith) (omega arith)),
-    )
+pub loop-b-preserved : goal.loop-b-preserved
+loop-b-preserved c =
+    (rw (add-one, pow-suc) (omega arith), c.loop-b.invariant.1 ∙ rw c.from.ensures (big-next c.loop-b.v c.loop-b.b-index _ c.loop-b-test.true))
 
 pub returns : goal.returns
 returns c =
-    sym (c.loop-i.invariant.1 ∙ big-none c.loop-i.v (c.args.width - c.loop-i.i) (c.args.at + c.loop-i.i) c.args.s.now (omega arith))
+    let n : c.args.at + c.args.width - c.args.at ≡ c.args.width = omega arith in
+    sym (rw n at (c.loop-b.invariant.1 ∙ big-end c.loop-b.v c.loop-b.b-index _ (omega arith)))

@@ -2,43 +2,25 @@
 use mathlib.Core.Path.{sym, ◌∙◌}
 use Rattle.book_form.specs.Version.{form_of}
 use Rattle.book_form.specs.VersionLaws.{version_lawful}
-use Rattle.book.specs.CheckLaws.{framed, frame-room, frame-head, no_good, no-rising, no-rest, to-book}
+use Rattle.book.specs.CheckLaws.{no_good, no-rising, no-rest, to-book}
 use Rattle.book.specs.ShareLaws.{no_shares, within_shares}
 use Rattle.book.proofs.check.check_book.Goals as goal
 
-pub returns-in_default : goal.returns-in_default
-returns-in_default c = rw c.in_default.is at c.frame.ensures
-
-pub slots_good-requires : goal.slots_good-requires
-slots_good-requires c = frame-room (form_of c.args.version) (version_lawful c.args.version) _ _ (framed c.frame.ensures c.in-Count.is)
+pub returns-in_err-n : goal.returns-in_err-n
+returns-in_err-n c = rw c.from_residual.ensures c.in_err-n.ensures
 
 pub returns-then-not-slots_good : goal.returns-then-not-slots_good
-returns-then-not-slots_good c = no_good (form_of c.args.version) (version_lawful c.args.version) _ _ (framed c.frame.ensures c.in-Count.is) _ c.slots_good.ensures (c.if-not-slots_good.true)
-
-pub rising-requires : goal.rising-requires
-rising-requires c = frame-room (form_of c.args.version) (version_lawful c.args.version) _ _ (framed c.frame.ensures c.in-Count.is)
+returns-then-not-slots_good c = no_good (form_of c.args.version) (version_lawful c.args.version) _ _ c.in_ok-n.ensures _ c.slots_good.ensures (c.if-not-slots_good.true)
 
 pub returns-then-not-rising : goal.returns-then-not-rising
-returns-then-not-rising c = no-rising (form_of c.args.version) (version_lawful c.args.version) _ _ (framed c.frame.ensures c.in-Count.is) _ c.rising.ensures (c.if-not-rising.true)
-
-pub first_of-first-requires : goal.first_of-first-requires
-first_of-first-requires c = record {
-  n_bound = frame-room (form_of c.args.version) (version_lawful c.args.version) _ _ (framed c.frame.ensures c.in-Count.is);
-  slots_good = ((c.slots_good.ensures.holds (c.if-not-slots_good.false)), (c.rising.ensures.holds (c.if-not-rising.false)));
-}
-
-pub shares_ok-requires : goal.shares_ok-requires
-shares_ok-requires c = (c.first_of-first.ensures.few, frame-head (form_of c.args.version) (version_lawful c.args.version) _ _ (framed c.frame.ensures c.in-Count.is))
+returns-then-not-rising c = no-rising (form_of c.args.version) (version_lawful c.args.version) _ _ c.in_ok-n.ensures _ c.rising.ensures (c.if-not-rising.true)
 
 pub returns-then-not-shares_ok : goal.returns-then-not-shares_ok
-returns-then-not-shares_ok c = no_shares c.args.version _ _ _ (framed c.frame.ensures c.in-Count.is) c.first_of-first.ensures _ c.shares_ok.ensures (c.if-not-shares_ok.true)
-
-pub blank_after-requires : goal.blank_after-requires
-blank_after-requires c = frame-room (form_of c.args.version) (version_lawful c.args.version) _ _ (framed c.frame.ensures c.in-Count.is)
+returns-then-not-shares_ok c = no_shares c.args.version _ _ _ c.in_ok-n.ensures c.first_of-first.ensures _ c.shares_ok.ensures (c.if-not-shares_ok.true)
 
 pub returns-then-not-blank_after : goal.returns-then-not-blank_after
-returns-then-not-blank_after c = no-rest (form_of c.args.version) (version_lawful c.args.version) _ _ (framed c.frame.ensures c.in-Count.is) _ c.blank_after.ensures (c.if-not-blank_after.true)
+returns-then-not-blank_after c = no-rest (form_of c.args.version) (version_lawful c.args.version) _ _ c.in_ok-n.ensures _ c.blank_after.ensures (c.if-not-blank_after.true)
 
 pub returns : goal.returns
-returns c = let f = framed c.frame.ensures c.in-Count.is in
+returns c = let f = c.in_ok-n.ensures in
     to-book (form_of c.args.version) _ _ f (c.slots_good.ensures.holds (c.if-not-slots_good.false)) (c.rising.ensures.holds (c.if-not-rising.false)) (within_shares c.args.version _ _ _ f c.first_of-first.ensures (c.shares_ok.ensures.holds (c.if-not-shares_ok.false))) (sym c.blank_after.ensures ∙ c.if-not-blank_after.false)

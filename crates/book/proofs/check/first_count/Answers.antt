@@ -5,17 +5,8 @@ use Rattle.book.proofs.check.first_count.Goals as goal
 pub loop-lo-init : goal.loop-lo-init
 loop-lo-init c = (omega arith, halved-start _ _ c.requires.n_bound.1 c.requires.slots_good.0 c.requires.slots_good.1)
 
-pub bounds-book-mid : goal.bounds-book-mid
-bounds-book-mid c = omega (arith, c.loop-lo.invariant.1.within, c.loop-lo.invariant.1.size)
-
-pub loop-lo-smaller-then-book-mid-lt2 : goal.loop-lo-smaller-then-book-mid-lt2
-loop-lo-smaller-then-book-mid-lt2 c = omega arith
-
 pub loop-lo-preserved-then-book-mid-lt2 : goal.loop-lo-preserved-then-book-mid-lt2
 loop-lo-preserved-then-book-mid-lt2 c = (omega arith, halved_up _ _ c.requires.n_bound.1 c.requires.slots_good.0 c.requires.slots_good.1 c.loop-lo.lo c.loop-lo.hi _ c.loop-lo.invariant.1 (omega arith) (omega arith) c.if-book-mid-lt2.true)
-
-pub loop-lo-smaller : goal.loop-lo-smaller
-loop-lo-smaller c = omega arith
 
 pub loop-lo-preserved : goal.loop-lo-preserved
 loop-lo-preserved c = (omega arith, halved_down _ _ c.requires.n_bound.1 c.requires.slots_good.0 c.requires.slots_good.1 c.loop-lo.lo c.loop-lo.hi _ c.loop-lo.invariant.1 (omega arith) (omega arith) c.if-book-mid-lt2.false)

@@ -1,26 +1,17 @@
 -- `book::check::frame` meets its contract.
 use mathlib.Core.Path.{sym, ◌∙◌}
-use Rattle.book.specs.CheckWayLaws.{no_size, no_front, no-quotas, no_room_when, head-room, frame_of}
+use Rattle.book.specs.CheckWayLaws.{no_size, no_front, no-quotas, no_room_when, frame_of}
 use native.Mathlib.Omega.{arith}
 use Rattle.book.proofs.check.frame.Goals as goal
 
 pub returns-then-slots-eq0 : goal.returns-then-slots-eq0
 returns-then-slots-eq0 c = no_size c.args.version _ _ c.slots_of-slots.ensures c.if-slots-eq0.true
 
-pub header_ok-requires : goal.header_ok-requires
-header_ok-requires c = omega (arith, head-room c.args.version _ _ c.slots_of-slots.ensures c.if-slots-eq0.false)
-
 pub returns-then-not-header_ok : goal.returns-then-not-header_ok
 returns-then-not-header_ok c = no_front c.args.version _ (sym c.header_ok.ensures ∙ c.if-not-header_ok.true)
 
-pub quotas_fit-requires : goal.quotas_fit-requires
-quotas_fit-requires c = head-room c.args.version _ _ c.slots_of-slots.ensures c.if-slots-eq0.false
-
 pub returns-then-not-quotas_fit : goal.returns-then-not-quotas_fit
 returns-then-not-quotas_fit c = no-quotas c.args.version _ _ c.slots_of-slots.ensures _ c.quotas_fit.ensures (c.if-not-quotas_fit.true)
-
-pub count_of-n-requires : goal.count_of-n-requires
-count_of-n-requires c = omega (arith, head-room c.args.version _ _ c.slots_of-slots.ensures c.if-slots-eq0.false)
 
 pub returns-then-slots-n : goal.returns-then-slots-n
 returns-then-slots-n c = no_room_when c.args.version _ _ c.slots_of-slots.ensures _ c.count_of-n.ensures c.if-slots-n.true

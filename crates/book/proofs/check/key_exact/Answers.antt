@@ -9,5 +9,5 @@ returns-in_default c = tells-refused _ _ _ _ (is-unread _ _ (sym c.in_default.is
 
 pub returns : goal.returns
 returns c =
-    let q = is_seen _ _ (sym c.in-Seen.is ∙ c.walk_view.ensures) in
+    let q = is_seen _ _ (sym c.in-Ok.is ∙ c.walk_view.ensures) in
     rw (view-exact _ _ _ q.shows) (tells-exact _ _ _ _ _ q.read refl c.key_at.ensures.bytes)

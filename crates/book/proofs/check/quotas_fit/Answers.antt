@@ -2,9 +2,6 @@
 use Rattle.book.specs.CheckWayLaws.{fits_one, fits-two, fits-three}
 use Rattle.book.proofs.check.quotas_fit.Goals as goal
 
-pub quotas_of-requires : goal.quotas_of-requires
-quotas_of-requires c = rw c.in-Three.is at c.requires
-
 pub returns-in-One : goal.returns-in-One
 returns-in-One c = fits_one c.args.version c.args.book.now c.in-One.is c.args.slots
 

@@ -2,9 +2,6 @@
 use Rattle.book.specs.CheckWayLaws.{shares-one, shares-two, shares-three}
 use Rattle.book.proofs.check.shares_ok.Goals as goal
 
-pub quotas_of-requires : goal.quotas_of-requires
-quotas_of-requires c = rw c.in-Three.is at c.requires.1
-
 pub returns-in-One : goal.returns-in-One
 returns-in-One c = shares-one c.args.version c.args.book.now c.in-One.is c.args.n c.args.first
 

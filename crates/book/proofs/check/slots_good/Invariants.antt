@@ -1,11 +1,8 @@
 -- `book::check::slots_good` meets its contract.
-use Prim.Native.Nat.{ℕ, ◌-◌, ◌<◌, ◌≤◌}
+use Rattle.std.specs.Prelude.{ℕ, ◌<◌}
 use Rattle.book_form.specs.Version.{form_of}
 use Rattle.book.specs.Check.{SlotGood}
 use Rattle.book.proofs.check.slots_good.Given as goal
 
 abbrev pub invariant-loop-i : goal.invariant-loop-i
-invariant-loop-i l = (l.i ≤ l.n) × ((j : ℕ) → j < l.i → SlotGood (form_of l.version) l.book j)
-
-abbrev pub decreases-loop-i : goal.decreases-loop-i
-decreases-loop-i l = l.n - l.i
+invariant-loop-i l = (j : ℕ) → j < l.i → SlotGood (form_of l.version) l.book j

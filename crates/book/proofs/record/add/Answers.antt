@@ -3,9 +3,6 @@ use Rattle.book.specs.RecordLaws.{write-no_room, room-left, free-place, write-ro
 use native.Mathlib.Omega.{arith}
 use Rattle.book.proofs.record.add.Goals as goal
 
-pub is_full-requires : goal.is_full-requires
-is_full-requires c = (c.requires.counts.0, c.requires.counts.2)
-
 pub returns-then-is_full : goal.returns-then-is_full
 returns-then-is_full c = write-no_room _ _ _ _ _ c.requires.counts.0 c.requires.counts.1 _ c.is_full.ensures _ c.if-is_full.true
 

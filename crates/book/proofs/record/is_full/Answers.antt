@@ -18,8 +18,5 @@ first_count-first-requires c =
 pub returns-then-owner-eq1 : goal.returns-then-owner-eq1
 returns-then-owner-eq1 c = full-one _ _ _ c.args.owner c.requires.0 c.first_count-first.ensures c.if-owner-eq1.true _ (ap (λ (q : Quotas). eqb c.first_count-first.result q.one) c.quotas_of-quotas.ensures.0)
 
-pub overflow_sub-result : goal.overflow_sub-result
-overflow_sub-result c = omega (arith, c.first_count-first.ensures.few)
-
 pub returns : goal.returns
 returns c = full-two _ _ _ c.args.owner c.requires.0 c.first_count-first.ensures c.requires.1 c.if-owner-eq1.false _ (ap (λ (q : Quotas). eqb (c.args.n - c.first_count-first.result) q.two) c.quotas_of-quotas.ensures.0)

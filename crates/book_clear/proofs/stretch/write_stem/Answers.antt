@@ -4,17 +4,7 @@ use Rattle.text.specs.PutLaws.{both, length-put}
 use lib.ListN.{length}
 use mathlib.Core.Path.{ap, ◌∙◌}
 use native.Mathlib.Omega.{arith}
-use borrow.Author.Rules.{rules}
 use Rattle.book_clear.proofs.stretch.write_stem.Goals as goal
-
-pub write_consensus_parent-end-requires : goal.write_consensus_parent-end-requires
-write_consensus_parent-end-requires c = search rules
-
-pub write_byte-requires : goal.write_byte-requires
-write_byte-requires c = search rules
-
-pub shape_of-out : goal.shape_of-out
-shape_of-out c = search rules
 
 pub returns : goal.returns
 returns c = both c.write_consensus_parent-end.ensures (record { next = c.write_byte.ensures.value; after = c.write_byte.ensures.out_after; room = omega (arith, c.requires, c.write_consensus_parent-end.ensures.next, ap length c.write_consensus_parent-end.ensures.after ∙ length-put c.args.out.now 0 (parent_text c.args.client.now) c.write_consensus_parent-end.ensures.room) })

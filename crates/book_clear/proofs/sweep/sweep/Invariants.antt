@@ -1,10 +1,7 @@
 -- `book_clear::sweep::sweep` meets its contract.
-use Prim.Native.Nat.{◌≤◌, ◌-◌}
+use Prim.Native.Nat.{◌≤◌}
 use Rattle.book_clear.specs.SweepLaws.{SweptTo}
 use Rattle.book_clear.proofs.sweep.sweep.Given as goal
 
 abbrev pub invariant-loop-i : goal.invariant-loop-i
-invariant-loop-i l = (l.kept ≤ l.i) × (l.i ≤ l.n) × SweptTo l.initial.book l.kinds l.numbers l.heights l.stay l.book l.i l.kept
-
-abbrev pub decreases-loop-i : goal.decreases-loop-i
-decreases-loop-i l = l.n - l.i
+invariant-loop-i l = (l.kept ≤ l.i) × SweptTo l.initial.book l.kinds l.numbers l.heights l.stay l.book l.i l.kept

@@ -9,24 +9,24 @@ pub returns-in_default : goal.returns-in_default
 returns-in_default c = told-nowhere _ _ _ _ c.requires.counts.0 _ c.probe.ensures c.in_default.is _
 
 pub overflow_mul-p : goal.overflow_mul-p
-overflow_mul-p c = omega (arith, room _ _ _ _ _ c.requires.counts.0 (told-taken _ _ _ c.requires.counts.0 _ _ c.probe.ensures c.in-At.is))
+overflow_mul-p c = omega (arith, room _ _ _ _ _ c.requires.counts.0 (told-taken _ _ _ c.requires.counts.0 _ _ c.probe.ensures c.in-Some.is))
 
 pub overflow_add-p : goal.overflow_add-p
-overflow_add-p c = omega (arith, room _ _ _ _ _ c.requires.counts.0 (told-taken _ _ _ c.requires.counts.0 _ _ c.probe.ensures c.in-At.is))
+overflow_add-p c = omega (arith, room _ _ _ _ _ c.requires.counts.0 (told-taken _ _ _ c.requires.counts.0 _ _ c.probe.ensures c.in-Some.is))
 
 pub overflow_add-p-2 : goal.overflow_add-p-2
-overflow_add-p-2 c = omega (arith, room _ _ _ _ _ c.requires.counts.0 (told-taken _ _ _ c.requires.counts.0 _ _ c.probe.ensures c.in-At.is))
+overflow_add-p-2 c = omega (arith, room _ _ _ _ _ c.requires.counts.0 (told-taken _ _ _ c.requires.counts.0 _ _ c.probe.ensures c.in-Some.is))
 
 pub overflow_add-p-3 : goal.overflow_add-p-3
-overflow_add-p-3 c = omega (arith, room _ _ _ _ _ c.requires.counts.0 (told-taken _ _ _ c.requires.counts.0 _ _ c.probe.ensures c.in-At.is))
+overflow_add-p-3 c = omega (arith, room _ _ _ _ _ c.requires.counts.0 (told-taken _ _ _ c.requires.counts.0 _ _ c.probe.ensures c.in-Some.is))
 
 pub text_at-requires : goal.text_at-requires
-text_at-requires c = omega (arith, room _ _ _ _ _ c.requires.counts.0 (told-taken _ _ _ c.requires.counts.0 _ _ c.probe.ensures c.in-At.is))
+text_at-requires c = omega (arith, room _ _ _ _ _ c.requires.counts.0 (told-taken _ _ _ c.requires.counts.0 _ _ c.probe.ensures c.in-Some.is))
 
 pub write_text-n-requires : goal.write_text-n-requires
-write_text-n-requires c = omega (arith, ap length c.text_at.ensures.bytes, room _ _ _ _ _ c.requires.counts.0 (told-taken _ _ _ c.requires.counts.0 _ _ c.probe.ensures c.in-At.is), c.requires.in_bounds)
+write_text-n-requires c = omega (arith, ap length c.text_at.ensures.bytes, room _ _ _ _ _ c.requires.counts.0 (told-taken _ _ _ c.requires.counts.0 _ _ c.probe.ensures c.in-Some.is), c.requires.in_bounds)
 
 pub returns : goal.returns
 returns c =
     let q : c.write_text-n.result ≡ length c.text_at.result.now = omega (arith, c.write_text-n.ensures.value) in
-    look-taken _ _ _ _ _ c.requires.counts.0 (told-taken _ _ _ c.requires.counts.0 _ _ c.probe.ensures c.in-At.is) _ _ _ c.write_text-n.result c.text_at.ensures.bytes q c.write_text-n.ensures.out_after
+    look-taken _ _ _ _ _ c.requires.counts.0 (told-taken _ _ _ c.requires.counts.0 _ _ c.probe.ensures c.in-Some.is) _ _ _ c.write_text-n.result c.text_at.ensures.bytes q c.write_text-n.ensures.out_after

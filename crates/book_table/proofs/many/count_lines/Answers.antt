@@ -5,12 +5,6 @@ use Rattle.book_table.proofs.many.count_lines.Goals as goal
 pub loop-i-init : goal.loop-i-init
 loop-i-init c = (omega arith, omega arith, counting-start c.args.s.now)
 
-pub overflow_add-count : goal.overflow_add-count
-overflow_add-count c = omega arith
-
-pub loop-i-smaller : goal.loop-i-smaller
-loop-i-smaller c = let w = next-within _ _ _ c.line_end.ensures _ c.line_next-i.ensures in omega (arith, w.0, w.1 (omega arith))
-
 pub loop-i-preserved : goal.loop-i-preserved
 loop-i-preserved c =
     let w = next-within _ _ _ c.line_end.ensures _ c.line_next-i.ensures in

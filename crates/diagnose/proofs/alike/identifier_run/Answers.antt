@@ -6,12 +6,12 @@ use Rattle.diagnose.proofs.alike.identifier_run.Goals as goal
 
 pub returns-then-not-is_identifier_byte : goal.returns-then-not-is_identifier_byte
 returns-then-not-is_identifier_byte c =
-    omega (arith, until_stop identifier_byte c.args.c.now c.loop-i.i (omega arith) (sym c.is_identifier_byte.ensures ∙ c.if-not-is_identifier_byte.true))
+    omega (arith, c.loop-i.invariant, until_stop identifier_byte c.args.c.now c.loop-i.i (omega arith) (sym c.is_identifier_byte.ensures ∙ c.if-not-is_identifier_byte.true))
 
 pub loop-i-preserved : goal.loop-i-preserved
 loop-i-preserved c =
-    (omega arith, omega (arith, until-more identifier_byte c.args.c.now c.loop-i.i (omega arith) (sym c.is_identifier_byte.ensures ∙ c.if-not-is_identifier_byte.false)))
+    omega (arith, c.loop-i.invariant, until-more identifier_byte c.args.c.now c.loop-i.i (omega arith) (sym c.is_identifier_byte.ensures ∙ c.if-not-is_identifier_byte.false))
 
 pub returns : goal.returns
 returns c =
-    omega (arith, until_end identifier_byte c.args.c.now c.loop-i.i (omega arith))
+    omega (arith, c.loop-i.invariant, until_end identifier_byte c.args.c.now c.loop-i.i (omega arith))

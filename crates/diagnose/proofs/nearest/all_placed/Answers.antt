@@ -1,24 +1,20 @@
 use native.Mathlib.Omega.{arith}
-use borrow.Author.Rules.{rules}
-use Rattle.diagnose.specs.NearestLaws.{placed-at_end, placed-at-short, placed-at-stop, placed-at-next}
-use mathlib.Core.Path.{ap}
-use mathlib.Core.Bool.{not}
+use Rattle.diagnose.specs.NearestLaws.{placed-at_end, placed-at-stop, placed-at-next}
 use Rattle.diagnose.proofs.nearest.all_placed.Goals as goal
 
-pub loop-i-init : goal.loop-i-init
-loop-i-init c = (search rules, c.seen_of-parts.ensures, c.seen_of-seen.ensures, search rules)
+pub piece_at-requires : goal.piece_at-requires
+piece_at-requires c = (c.requires.1, omega (arith, c.seen_of.ensures))
 
-pub returns-then-seen-i : goal.returns-then-seen-i
-returns-then-seen-i c =
-    placed-at-short _ _ c.loop-i.i _ _ c.loop-i.invariant.3 c.loop-i.invariant.1 c.loop-i.invariant.2 (omega arith) (omega arith)
+pub piece_at-requires-in-loop-i : goal.piece_at-requires-in-loop-i
+piece_at-requires-in-loop-i c = (c.requires.0, omega (arith, c.seen_of-2.ensures))
 
 pub returns-then-not-word_stands : goal.returns-then-not-word_stands
 returns-then-not-word_stands c =
-    placed-at-stop _ _ c.loop-i.i _ _ c.loop-i.invariant.3 c.loop-i.invariant.1 c.loop-i.invariant.2 (omega arith) (omega arith) _ _ c.piece_at.ensures c.piece_at-in-loop-i.ensures _ c.word_stands.ensures (ap not c.if-not-word_stands.true)
+    placed-at-stop _ _ c.loop-i.i c.loop-i.invariant (omega (arith, c.seen_of.ensures)) (omega (arith, c.seen_of-2.ensures)) _ _ c.piece_at.ensures c.piece_at-in-loop-i.ensures _ c.word_stands.ensures c.if-not-word_stands.true
 
 pub loop-i-preserved : goal.loop-i-preserved
 loop-i-preserved c =
-    (omega arith, c.loop-i.invariant.1, c.loop-i.invariant.2, placed-at-next _ _ c.loop-i.i _ _ c.loop-i.invariant.3 c.loop-i.invariant.1 c.loop-i.invariant.2 (omega arith) (omega arith) _ _ c.piece_at.ensures c.piece_at-in-loop-i.ensures _ c.word_stands.ensures (ap not c.if-not-word_stands.false))
+    placed-at-next _ _ c.loop-i.i c.loop-i.invariant (omega (arith, c.seen_of.ensures)) (omega (arith, c.seen_of-2.ensures)) _ _ c.piece_at.ensures c.piece_at-in-loop-i.ensures _ c.word_stands.ensures c.if-not-word_stands.false
 
 pub returns : goal.returns
-returns c = placed-at_end _ _ c.loop-i.i _ _ c.loop-i.invariant.3 c.loop-i.invariant.1 c.loop-i.invariant.2 (omega arith)
+returns c = placed-at_end _ _ c.loop-i.i c.loop-i.invariant (omega (arith, c.seen_of.ensures, c.seen_of-2.ensures))

@@ -1,13 +1,9 @@
 -- `nearest::all_placed` meets its contract. The invariant: what is left of parts and components decides.
-use Prim.Native.Nat.{◌-◌, ◌≤◌}
 use mathlib.Core.Path.{◌≡◌}
-use lib.ListN.{length, drop}
+use lib.ListN.{drop}
 use Rattle.diagnose.specs.Diagnosis.{placed, seven}
 use Rattle.diagnose.specs.Table.{parts_in}
 use Rattle.diagnose.proofs.nearest.all_placed.Given as goal
 
 abbrev pub invariant-loop-i : goal.invariant-loop-i
-invariant-loop-i l = (l.i ≤ l.parts) × (l.parts ≡ length (seven l.kind)) × (l.seen ≡ length (seven l.text)) × (placed (parts_in l.kind) (seven l.text) ≡ placed (drop l.i (parts_in l.kind)) (drop l.i (seven l.text)))
-
-abbrev pub decreases-loop-i : goal.decreases-loop-i
-decreases-loop-i l = l.parts - l.i
+invariant-loop-i l = placed (parts_in l.kind) (seven l.text) ≡ placed (drop l.i (parts_in l.kind)) (drop l.i (seven l.text))

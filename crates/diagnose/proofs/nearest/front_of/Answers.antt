@@ -1,24 +1,20 @@
 use native.Mathlib.Omega.{arith}
-use borrow.Author.Rules.{rules}
-use Rattle.diagnose.specs.NearestLaws.{front-at_end, front-at-short, front-at-stop, front-at-next}
-use mathlib.Core.Path.{ap}
-use mathlib.Core.Bool.{not}
+use Rattle.diagnose.specs.NearestLaws.{front-at_end, front-at-stop, front-at-next}
 use Rattle.diagnose.proofs.nearest.front_of.Goals as goal
 
-pub loop-i-init : goal.loop-i-init
-loop-i-init c = (search rules, c.seen_of-parts.ensures, c.seen_of-seen.ensures, search rules)
+pub piece_at-requires : goal.piece_at-requires
+piece_at-requires c = (c.requires.1, omega (arith, c.seen_of.ensures))
 
-pub returns-then-seen-i : goal.returns-then-seen-i
-returns-then-seen-i c =
-    front-at-short _ _ c.loop-i.i _ _ c.loop-i.invariant.3 c.loop-i.invariant.1 c.loop-i.invariant.2 (omega arith) (omega arith)
+pub piece_at-requires-in-loop-i : goal.piece_at-requires-in-loop-i
+piece_at-requires-in-loop-i c = (c.requires.0, omega (arith, c.seen_of-2.ensures))
 
 pub returns-then-not-fits_part : goal.returns-then-not-fits_part
 returns-then-not-fits_part c =
-    front-at-stop _ _ c.loop-i.i _ _ c.loop-i.invariant.3 c.loop-i.invariant.1 c.loop-i.invariant.2 (omega arith) (omega arith) _ _ c.piece_at.ensures c.piece_at-in-loop-i.ensures _ c.fits_part.ensures (ap not c.if-not-fits_part.true)
+    front-at-stop _ _ c.loop-i.i c.loop-i.invariant (omega (arith, c.seen_of.ensures)) (omega (arith, c.seen_of-2.ensures)) _ _ c.piece_at.ensures c.piece_at-in-loop-i.ensures _ c.fits_part.ensures c.if-not-fits_part.true
 
 pub loop-i-preserved : goal.loop-i-preserved
 loop-i-preserved c =
-    (omega arith, c.loop-i.invariant.1, c.loop-i.invariant.2, front-at-next _ _ c.loop-i.i _ _ c.loop-i.invariant.3 c.loop-i.invariant.1 c.loop-i.invariant.2 (omega arith) (omega arith) _ _ c.piece_at.ensures c.piece_at-in-loop-i.ensures _ c.fits_part.ensures (ap not c.if-not-fits_part.false))
+    front-at-next _ _ c.loop-i.i c.loop-i.invariant (omega (arith, c.seen_of.ensures)) (omega (arith, c.seen_of-2.ensures)) _ _ c.piece_at.ensures c.piece_at-in-loop-i.ensures _ c.fits_part.ensures c.if-not-fits_part.false
 
 pub returns : goal.returns
-returns c = front-at_end _ _ c.loop-i.i _ _ c.loop-i.invariant.3 c.loop-i.invariant.1 c.loop-i.invariant.2 (omega arith)
+returns c = omega (arith, front-at_end _ _ c.loop-i.i c.loop-i.invariant (omega (arith, c.seen_of.ensures, c.seen_of-2.ensures)))

@@ -1,13 +1,10 @@
 -- `nearest::front_of` meets its contract. The invariant: i components fit, and those that fit from there on are the rest.
-use Prim.Native.Nat.{◌+◌, ◌-◌, ◌≤◌}
+use Prim.Native.Nat.{◌+◌}
 use mathlib.Core.Path.{◌≡◌}
-use lib.ListN.{length, drop}
+use lib.ListN.{drop}
 use Rattle.diagnose.specs.Diagnosis.{front, seven}
 use Rattle.diagnose.specs.Table.{parts_in}
 use Rattle.diagnose.proofs.nearest.front_of.Given as goal
 
 abbrev pub invariant-loop-i : goal.invariant-loop-i
-invariant-loop-i l = (l.i ≤ l.parts) × (l.parts ≡ length (seven l.kind)) × (l.seen ≡ length (seven l.text)) × (front (parts_in l.kind) (seven l.text) ≡ l.i + front (drop l.i (parts_in l.kind)) (drop l.i (seven l.text)))
-
-abbrev pub decreases-loop-i : goal.decreases-loop-i
-decreases-loop-i l = l.parts - l.i
+invariant-loop-i l = front (parts_in l.kind) (seven l.text) ≡ l.i + front (drop l.i (parts_in l.kind)) (drop l.i (seven l.text))

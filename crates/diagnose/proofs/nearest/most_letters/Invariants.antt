@@ -1,12 +1,8 @@
 -- `nearest::most_letters` meets its contract. The invariant: the most letters of the first d ways.
-use Prim.Native.Nat.{◌-◌, ◌≤◌}
 use mathlib.Core.Path.{◌≡◌}
 use Rattle.diagnose.specs.Diagnosis.{most, letters_but, seven}
 use Rattle.diagnose.specs.Table.{parts_in}
 use Rattle.diagnose.proofs.nearest.most_letters.Given as goal
 
 abbrev pub invariant-loop-d : goal.invariant-loop-d
-invariant-loop-d l = (l.d ≤ 7) × (l.best ≡ most (letters_but (parts_in l.kind) (seven l.text)) l.d)
-
-abbrev pub decreases-loop-d : goal.decreases-loop-d
-decreases-loop-d l = 7 - l.d
+invariant-loop-d l = l.best ≡ most (letters_but (parts_in l.kind) (seven l.text)) l.d

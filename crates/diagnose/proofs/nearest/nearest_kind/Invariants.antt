@@ -1,5 +1,5 @@
 -- `nearest::nearest_kind` meets its contract. The invariant: the best so far, against the kinds from the k-th on.
-use Prim.Native.Nat.{◌-◌, ◌≤◌}
+use Prim.Native.Nat.{◌-◌}
 use mathlib.Core.Path.{◌≡◌}
 use lib.ListN.{drop}
 use Rattle.path.specs.Kinds.{kinds}
@@ -7,7 +7,4 @@ use Rattle.diagnose.specs.Diagnosis.{nearest_from, nearest, seven, how_many}
 use Rattle.diagnose.proofs.nearest.nearest_kind.Given as goal
 
 abbrev pub invariant-loop-k : goal.invariant-loop-k
-invariant-loop-k l = (1 ≤ l.k) × (l.k ≤ 20) × (nearest_from l.k l.kind l.best (how_many l.text) (drop (l.k - 1) kinds) (seven l.text) ≡ nearest (how_many l.text) (seven l.text))
-
-abbrev pub decreases-loop-k : goal.decreases-loop-k
-decreases-loop-k l = 20 - l.k
+invariant-loop-k l = nearest_from l.k l.kind l.best (how_many l.text) (drop (l.k - 1) kinds) (seven l.text) ≡ nearest (how_many l.text) (seven l.text)

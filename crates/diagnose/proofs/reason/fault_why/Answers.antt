@@ -12,4 +12,4 @@ pub returns-then-refusal-eq-BAD_PREFIX : goal.returns-then-refusal-eq-BAD_PREFIX
 returns-then-refusal-eq-BAD_PREFIX c = fault-prefix _ _ _ _ _ c.if-refusal-eq-BAD_CHAR.false c.if-refusal-eq-BAD_LENGTH.false c.if-refusal-eq-BAD_PREFIX.true _ c.prefix_why.ensures
 
 pub returns : goal.returns
-returns c = fault-number _ _ _ _ _ c.if-refusal-eq-BAD_CHAR.false c.if-refusal-eq-BAD_LENGTH.false c.if-refusal-eq-BAD_PREFIX.false _ c.number_reason.ensures
+returns c = fault-number _ _ _ _ _ c.if-refusal-eq-BAD_CHAR.false c.if-refusal-eq-BAD_LENGTH.false c.if-refusal-eq-BAD_PREFIX.false _ c.saturating_sub.ensures

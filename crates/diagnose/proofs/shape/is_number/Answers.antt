@@ -1,11 +1,10 @@
 -- `shape::is_number` meets its contract.
-use mathlib.Core.Path.{refl, sym}
-use Rattle.read_pieces.specs.FitLaws.{number-no, number_yes}
-use Rattle.diagnose.proofs.Steps.{no_value}
+use mathlib.Core.Path.{sym, ap, ◌∙◌}
+use Rattle.identifiers.specs.Check.{is_value}
+use Rattle.path.specs.Read.{fits}
+use Rattle.diagnose.proofs.Steps.{ok-value}
 use Rattle.diagnose.proofs.shape.is_number.Goals as goal
 
-pub returns-in_default : goal.returns-in_default
-returns-in_default c = sym (number-no _ _ _ c.read_number.ensures refl (no_value c.read_number.result c.in_default.not-Value))
-
 pub returns : goal.returns
-returns c = sym (number_yes _ _ _ c.read_number.ensures refl _ c.in-Value.is).0
+unfolding fits
+returns c = c.is_ok.ensures.value ∙ sym (ok-value _) ∙ ap is_value c.read_number.ensures

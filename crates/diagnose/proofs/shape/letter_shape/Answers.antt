@@ -1,32 +1,33 @@
 -- `shape::letter_shape` meets its contract.
-use borrow.Author.Tests.{eq-eqb, ne_eqb}
+use borrow.Author.Tests.{ne_eqb}
+use native.Mathlib.Omega.{arith}
 use Rattle.diagnose.specs.Table.{letter_shape}
 use Rattle.diagnose.proofs.shape.letter_shape.Goals as goal
 
-pub returns-then-b-eq67 : goal.returns-then-b-eq67
+pub returns-in-67 : goal.returns-in-67
 unfolding letter_shape
-returns-then-b-eq67 c = rw (eq-eqb _ _ c.if-b-eq67.true)
+returns-in-67 c = rw c.in-67.is
 
-pub returns-then-b-eq75 : goal.returns-then-b-eq75
+pub returns-in-75 : goal.returns-in-75
 unfolding letter_shape
-returns-then-b-eq75 c = rw (ne_eqb _ _ c.if-b-eq67.false, eq-eqb _ _ c.if-b-eq75.true)
+returns-in-75 c = rw c.in-75.is
 
-pub returns-then-b-eq80 : goal.returns-then-b-eq80
+pub returns-in-80 : goal.returns-in-80
 unfolding letter_shape
-returns-then-b-eq80 c = rw (ne_eqb _ _ c.if-b-eq67.false, ne_eqb _ _ c.if-b-eq75.false, eq-eqb _ _ c.if-b-eq80.true)
+returns-in-80 c = rw c.in-80.is
 
-pub returns-then-b-eq72 : goal.returns-then-b-eq72
+pub returns-in-72 : goal.returns-in-72
 unfolding letter_shape
-returns-then-b-eq72 c = rw (ne_eqb _ _ c.if-b-eq67.false, ne_eqb _ _ c.if-b-eq75.false, ne_eqb _ _ c.if-b-eq80.false, eq-eqb _ _ c.if-b-eq72.true)
+returns-in-72 c = rw c.in-72.is
 
-pub returns-then-b-eq85 : goal.returns-then-b-eq85
+pub returns-in-85 : goal.returns-in-85
 unfolding letter_shape
-returns-then-b-eq85 c = rw (ne_eqb _ _ c.if-b-eq67.false, ne_eqb _ _ c.if-b-eq75.false, ne_eqb _ _ c.if-b-eq80.false, ne_eqb _ _ c.if-b-eq72.false, eq-eqb _ _ c.if-b-eq85.true)
+returns-in-85 c = rw c.in-85.is
 
-pub returns-then-b-eq82 : goal.returns-then-b-eq82
+pub returns-in-82 : goal.returns-in-82
 unfolding letter_shape
-returns-then-b-eq82 c = rw (ne_eqb _ _ c.if-b-eq67.false, ne_eqb _ _ c.if-b-eq75.false, ne_eqb _ _ c.if-b-eq80.false, ne_eqb _ _ c.if-b-eq72.false, ne_eqb _ _ c.if-b-eq85.false, eq-eqb _ _ c.if-b-eq82.true)
+returns-in-82 c = rw c.in-82.is
 
-pub returns : goal.returns
+pub returns-in_default : goal.returns-in_default
 unfolding letter_shape
-returns c = rw (ne_eqb _ _ c.if-b-eq67.false, ne_eqb _ _ c.if-b-eq75.false, ne_eqb _ _ c.if-b-eq80.false, ne_eqb _ _ c.if-b-eq72.false, ne_eqb _ _ c.if-b-eq85.false, ne_eqb _ _ c.if-b-eq82.false)
+returns-in_default c = rw (ne_eqb c.args.b 67 (λ z. omega (arith, z)), ne_eqb c.args.b 75 (λ z. omega (arith, z)), ne_eqb c.args.b 80 (λ z. omega (arith, z)), ne_eqb c.args.b 72 (λ z. omega (arith, z)), ne_eqb c.args.b 85 (λ z. omega (arith, z)), ne_eqb c.args.b 82 (λ z. omega (arith, z)))

@@ -3,7 +3,7 @@ use mathlib.Core.Bool.{false}
 use mathlib.Core.List.{reverse}
 use native.Mathlib.Omega.{arith}
 use Rattle.diagnose.specs.AgreeLaws.{agree-first, back-length}
-use Rattle.diagnose.specs.ShapeLaws.{letters-word, letters-name, letters-count, letters-pair}
+use Rattle.diagnose.specs.ShapeLaws.{letters-word, letters-other}
 use Rattle.diagnose.proofs.shape.letters_of.Goals as goal
 
 pub overflow_add-result : goal.overflow_add-result
@@ -12,11 +12,5 @@ overflow_add-result c = omega (arith, c.agree_front.ensures, c.agree_back.ensure
 pub returns-in-Word : goal.returns-in-Word
 returns-in-Word c = letters-word _ _ _ c.shape_of.ensures c.in-Word.is _ _ c.agree_front.ensures c.agree_back.ensures
 
-pub returns-in-Named : goal.returns-in-Named
-returns-in-Named c = letters-name _ _ _ c.shape_of.ensures _ c.in-Named.is
-
-pub returns-in-Count : goal.returns-in-Count
-returns-in-Count c = letters-count _ _ _ c.shape_of.ensures c.in-Count.is
-
-pub returns-in-Pair : goal.returns-in-Pair
-returns-in-Pair c = letters-pair _ _ _ c.shape_of.ensures c.in-Pair.is
+pub returns-in_default : goal.returns-in_default
+returns-in_default c = letters-other _ _ _ c.shape_of.ensures c.in_default.not-Word

@@ -1,22 +1,28 @@
-use mathlib.Core.Path.{refl, ◌∙◌}
-use mathlib.Core.Bool.{false≢true}
-use native.Mathlib.Omega.{arith}
+use Rattle.std.proofs.Common.{◌≡◌, refl, ◌∙◌, ◌+◌, ◌-◌, arith, length}
 use Rattle.text.specs.Part.{every}
 use Rattle.text.specs.PartLaws.{run_more, run-last}
 use Rattle.identifiers.specs.Check.{identifier_byte}
 use Rattle.identifiers.proofs.validate.long_common.Goals as goal
+use Rattle.identifiers.proofs.validate.long_common.Goals.{else-loop-i-test, then-loop-i-test+else-not-none_rare+else-last-i-gt16}
 
 pub loop-i-init : goal.loop-i-init
 unfolding every
-loop-i-init c = (omega arith, refl)
-
-pub returns-then-not-none_rare : goal.returns-then-not-none_rare
-returns-then-not-none_rare c = λ z. absurd (false≢true z)
+loop-i-init c = refl
 
 pub loop-i-preserved : goal.loop-i-preserved
 loop-i-preserved c =
-    (c.loop-i.invariant.0, run_more identifier_byte _ c.loop-i.i 16 c.loop-i.invariant.1 (c.none_rare.ensures (c.if-not-none_rare.false)))
+    let n : c.loop-i.i + 16 - c.loop-i.i ≡ 16 = omega arith in
+    run_more identifier_byte _ c.loop-i.i 16 c.loop-i.invariant (rw n at (c.none_rare.ensures c.if-not-none_rare.false))
 
 pub returns : goal.returns
 returns c =
-    λ z. run-last identifier_byte _ _ 16 c.loop-i.i c.loop-i.invariant.0 c.loop-i-test.false c.loop-i.invariant.1 ∙ c.none_rare-2.ensures z
+    let last = length c.args.id.now - 16 in
+    let rest = length c.args.id.now - last in
+    λ z.
+    (elim c.loop-i-test.branch [
+      | else-loop-i-test w ↦ run-last identifier_byte _ last rest c.loop-i.i (omega arith) w.loop-i-test.false c.loop-i.invariant
+      | then-loop-i-test+else-not-none_rare+else-last-i-gt16 w ↦
+          let n : c.loop-i.i + 16 - c.loop-i.i ≡ 16 = omega arith in
+          run-last identifier_byte _ last rest (c.loop-i.i + 16) (omega arith) (omega arith) (run_more identifier_byte _ c.loop-i.i 16 c.loop-i.invariant (rw n at (w.none_rare.ensures w.if-not-none_rare.false)))
+    ])
+    ∙ c.none_rare-2.ensures z

@@ -1,6 +1,7 @@
 -- `iteration::block::first_above` meets its contract.
 use mathlib.Core.Path.{sym, ap, ◌∙◌}
-use Rattle.iteration.specs.declared.KeyAnswer.TheVariants.{Key}
+use Rattle.std.specs.Prelude.{Ok}
+use Rattle.path.specs.declared.Revision.{Revision}
 use Rattle.iteration.specs.Block.{first_above}
 use Rattle.iteration.specs.SearchLaws.{no_block, above-none, above-found}
 use Rattle.iteration.proofs.block.first_above.Goals as goal
@@ -17,5 +18,5 @@ returns-then-p-block c =
 
 pub returns : goal.returns
 returns c =
-    ap Key c.revision_at.ensures
+    ap (λ (p : Revision). Ok p) c.revision_at.ensures
     ∙ above-found c.args.pair c.args.block.now (sym c.check_block.ensures ∙ c.if-not-check_block.false) _ c.place-p.ensures c.if-p-block.false

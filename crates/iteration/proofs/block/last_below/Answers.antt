@@ -1,6 +1,7 @@
 -- `iteration::block::last_below` meets its contract.
 use mathlib.Core.Path.{sym, ap, ◌∙◌}
-use Rattle.iteration.specs.declared.KeyAnswer.TheVariants.{Key}
+use Rattle.std.specs.Prelude.{Ok}
+use Rattle.path.specs.declared.Revision.{Revision}
 use Rattle.iteration.specs.Block.{last_below}
 use Rattle.iteration.specs.SearchLaws.{no_block, below_none, below-found}
 use Rattle.iteration.proofs.block.last_below.Goals as goal
@@ -17,5 +18,5 @@ returns-then-p-eq0 c =
 
 pub returns : goal.returns
 returns c =
-    ap Key c.revision_at.ensures
+    ap (λ (p : Revision). Ok p) c.revision_at.ensures
     ∙ below-found c.args.pair c.args.block.now (sym c.check_block.ensures ∙ c.if-not-check_block.false) _ c.place-p.ensures c.if-p-eq0.false

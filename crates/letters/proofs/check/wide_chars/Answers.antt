@@ -20,11 +20,11 @@ returns-then-not-is_whole c =
 pub returns-then-is_utf8 : goal.returns-then-is_utf8
 returns-then-is_utf8 c =
     let x = turn c.args.s.now c.loop-i.i (omega arith) c.character_at-c.ensures refl in
-    let other = sym (ap identifier_byte c.seen_as.ensures) ∙ sym c.is_allowed.ensures ∙ c.if-not-is_allowed.true in
+    let other = sym (ap identifier_byte c.seen_as.ensures) ∙ sym c.is_identifier_byte.ensures ∙ c.if-not-is_identifier_byte.true in
     sym (chars-bad _ (sym c.is_utf8.ensures ∙ c.if-is_utf8.true) (c.loop-i.invariant.2 ∙ every-next x identifier_byte ∙ rw other))
 
-pub returns-then-not-is_allowed : goal.returns-then-not-is_allowed
-returns-then-not-is_allowed c = sym (chars_broken c.args.s.now (sym c.is_utf8.ensures ∙ c.if-is_utf8.false))
+pub returns-then-not-is_identifier_byte : goal.returns-then-not-is_identifier_byte
+returns-then-not-is_identifier_byte c = sym (chars_broken c.args.s.now (sym c.is_utf8.ensures ∙ c.if-is_utf8.false))
 
 pub overflow_add-i : goal.overflow_add-i
 overflow_add-i c =
@@ -40,7 +40,7 @@ pub loop-i-preserved : goal.loop-i-preserved
 loop-i-preserved c =
     let x = turn c.args.s.now c.loop-i.i (omega arith) c.character_at-c.ensures c.size_of-i.ensures in
     let all = sym c.is_whole.ensures ∙ c.if-not-is_whole.false in
-    let fits = sym (ap identifier_byte c.seen_as.ensures) ∙ sym c.is_allowed.ensures ∙ c.if-not-is_allowed.false in
+    let fits = sym (ap identifier_byte c.seen_as.ensures) ∙ sym c.is_identifier_byte.ensures ∙ c.if-not-is_identifier_byte.false in
     (omega arith, c.loop-i.invariant.1 ∙ utf8-next x ∙ rw all, c.loop-i.invariant.2 ∙ every-next x identifier_byte ∙ rw fits)
 
 pub returns : goal.returns

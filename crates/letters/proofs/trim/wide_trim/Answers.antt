@@ -1,7 +1,6 @@
 -- `letters::trim::wide_trim` meets its contract.
 use native.Mathlib.Omega.{arith}
 use mathlib.Core.Path.{refl}
-use borrow.Author.Rules.{rules}
 use Rattle.text.specs.PartLaws.{part-rest}
 use Rattle.letters.specs.TextLaws.{leading_narrow, end-within, trimmed-part}
 use Rattle.letters.proofs.trim.wide_trim.Goals as goal
@@ -11,15 +10,6 @@ slice_bounds-body-count c = omega (arith, c.white_end-start.ensures, (leading_na
 
 pub slice_bounds-body-start : goal.slice_bounds-body-start
 slice_bounds-body-start c = omega (arith, c.white_end-start.ensures, (leading_narrow c.args.s.now).0)
-
-pub slice_bounds-body-end : goal.slice_bounds-body-end
-slice_bounds-body-end c = search rules
-
-pub slice_bounds-result-count : goal.slice_bounds-result-count
-slice_bounds-result-count c = search rules
-
-pub slice_bounds-result-start : goal.slice_bounds-result-start
-slice_bounds-result-start c = search rules
 
 pub slice_bounds-result-end : goal.slice_bounds-result-end
 slice_bounds-result-end c = omega (arith, end-within _ _ c.text_end-end.ensures)

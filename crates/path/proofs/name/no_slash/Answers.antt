@@ -1,16 +1,19 @@
-use mathlib.Core.Path.{sym, ap, ◌∙◌}
-use mathlib.Core.Bool.{not}
-use borrow.Author.Tests.{eq-eqb, ne_eqb}
-use Rattle.text.specs.PartLaws.{every-none, every-stop, every_more}
-use borrow.Author.Rules.{rules}
-use native.Mathlib.Omega.{arith}
+-- `name::no_slash` meets its contract.
+use Rattle.std.specs.Prelude.{◌≡◌, refl, ℕ, Bool, true, false, not, ◌&&◌, ◌||◌, List, [], ◌∷◌, eqb}
+use Rattle.std.specs.List.{list_any}
+use Rattle.std.proofs.Common.{ap, ◌∙◌}
+use Rattle.text.specs.Part.{every}
 use Rattle.path.proofs.name.no_slash.Goals as goal
 
-pub returns-then-s-i-eq47 : goal.returns-then-s-i-eq47
-returns-then-s-i-eq47 c = sym (c.loop-i.invariant.1 ∙ every-stop _ c.args.s.now c.loop-i.i (omega arith) (ap not (eq-eqb _ _ c.if-s-i-eq47.true)))
-
-pub loop-i-preserved : goal.loop-i-preserved
-loop-i-preserved c = (search rules, c.loop-i.invariant.1 ∙ every_more _ c.args.s.now c.loop-i.i (omega arith) (ap not (ne_eqb _ _ c.if-s-i-eq47.false)))
+-- none is a slash where each is something else
+none-every : (s : List ℕ) → not (list_any (λ b. eqb b 47) s) ≡ every (λ b. not (eqb b 47)) s
+unfolding every
+none-every [] = refl
+none-every (b ∷ s) = go (eqb b 47) (none-every s)
+  where
+    go : (v : Bool) → not (list_any (λ b. eqb b 47) s) ≡ every (λ b. not (eqb b 47)) s → not (v || list_any (λ b. eqb b 47) s) ≡ (not v && every (λ b. not (eqb b 47)) s)
+    go true h = refl
+    go false h = h
 
 pub returns : goal.returns
-returns c = sym (c.loop-i.invariant.1 ∙ every-none _ c.args.s.now c.loop-i.i (omega arith))
+returns c = ap not c.contains.ensures.value ∙ none-every c.args.s.now

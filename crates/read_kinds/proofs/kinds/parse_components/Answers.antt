@@ -5,7 +5,7 @@ use lib.Dec.{lit<}
 use Rattle.read_pieces.specs.CutLaws.{cut-components}
 use Rattle.path.specs.AsciiLaws.{none-high, upgrades-low}
 use Rattle.path.specs.Kinds.{kind4, kind6, kind7, kind8, kind9, kind10, kind11, kind12, kind13, kind14, kind18, kind19}
-use Rattle.read_pieces.specs.CountLaws.{groups, read_all, read_only, read-first, read-second, read_none, no-port, no-connection, no-ends, no_update}
+use Rattle.read_pieces.specs.CountLaws.{groups, read_all, read_only, read-first, read-second, read_none, unfound, no-port, no-connection, no-ends, no_update}
 use Rattle.read_kinds.proofs.kinds.parse_components.Goals as goal
 
 pub returns-then-count-eq1 : goal.returns-then-count-eq1
@@ -23,16 +23,16 @@ returns-then-count-eq2 c =
     let n = cut-components c.args.text.now c.args.cut 2 c.requires c.if-count-eq2.true (lit< tt) in
     read-second _ 2 n (kind9 ∷ []) (kind10 ∷ []) groups.1 _ (no-connection _ (sym c.is_word.ensures ∙ c.if-is_word.false)) c.parse_ports.ensures
 
-pub returns-in-Found : goal.returns-in-Found
-returns-in-Found c =
+pub returns-then-is_some : goal.returns-then-is_some
+returns-then-is_some c =
     let n = cut-components c.args.text.now c.args.cut 3 c.requires c.if-count-eq3.true (lit< tt) in
-    read-first _ 3 n (kind4 ∷ kind8 ∷ []) (kind18 ∷ kind19 ∷ []) groups.2 _ _ c.in-Found.is c.parse_clients-client.ensures
+    read-first _ 3 n (kind4 ∷ kind8 ∷ []) (kind18 ∷ kind19 ∷ []) groups.2 _ (sym c.is_some.ensures ∙ c.if-is_some.true) c.parse_clients-client.ensures
 
 pub returns-then-not-all_ascii : goal.returns-then-not-all_ascii
 returns-then-not-all_ascii c =
     let n = cut-components c.args.text.now c.args.cut 3 c.requires c.if-count-eq3.true (lit< tt) in
     let high = none-high (kind18 ∷ kind19 ∷ []) c.args.text.now upgrades-low (sym c.all_ascii.ensures ∙ c.if-not-all_ascii.true) in
-    read-second _ 3 n (kind4 ∷ kind8 ∷ []) (kind18 ∷ kind19 ∷ []) groups.2 _ (sym c.in_default.is ∙ c.parse_clients-client.ensures) high
+    read-second _ 3 n (kind4 ∷ kind8 ∷ []) (kind18 ∷ kind19 ∷ []) groups.2 _ (unfound _ _ (sym c.is_some.ensures ∙ c.if-is_some.false) c.parse_clients-client.ensures) high
 
 pub parse_upgrades-requires : goal.parse_upgrades-requires
 parse_upgrades-requires c = (c.requires, c.if-count-eq3.true, sym c.all_ascii.ensures ∙ c.if-not-all_ascii.false)
@@ -40,7 +40,7 @@ parse_upgrades-requires c = (c.requires, c.if-count-eq3.true, sym c.all_ascii.en
 pub returns-then-count-eq3 : goal.returns-then-count-eq3
 returns-then-count-eq3 c =
     let n = cut-components c.args.text.now c.args.cut 3 c.requires c.if-count-eq3.true (lit< tt) in
-    read-second _ 3 n (kind4 ∷ kind8 ∷ []) (kind18 ∷ kind19 ∷ []) groups.2 _ (sym c.in_default.is ∙ c.parse_clients-client.ensures) c.parse_upgrades.ensures
+    read-second _ 3 n (kind4 ∷ kind8 ∷ []) (kind18 ∷ kind19 ∷ []) groups.2 _ (unfound _ _ (sym c.is_some.ensures ∙ c.if-is_some.false) c.parse_clients-client.ensures) c.parse_upgrades.ensures
 
 pub returns-then-count-eq4 : goal.returns-then-count-eq4
 returns-then-count-eq4 c =

@@ -7,16 +7,16 @@ use Rattle.read_pieces.specs.CutLaws.{cut-components}
 use Rattle.path.specs.declared.name.Name.TheVariants.{Connection as connection}
 use Rattle.path.specs.Read.{fits_kind, read_kind, read_first}
 use Rattle.read_pieces.specs.Pieces.{place_after, place_parts}
-use Rattle.read_pieces.specs.FitLaws.{no_run, is-run, place_answers}
+use Rattle.read_pieces.specs.FitLaws.{no_run, is-run}
 use Rattle.read_kinds.proofs.kinds.parse_connections.Goals as goal
 
-pub returns-in_default : goal.returns-in_default
+pub returns-in_err-connection : goal.returns-in_err-connection
 unfolding place_after fits_kind read_kind read_first
-returns-in_default c = simp (no_run place_answers 0 (place_parts (bytes "connections") connection) _ _ (sym c.in_default.is ∙ c.read_connection.ensures), and-false)
+returns-in_err-connection c = c.from_residual.ensures ∙ simp (no_run 0 (place_parts (bytes "connections") connection) _ _ (sym c.in_err-connection.was ∙ c.read_connection.ensures), and-false)
 
 pub returns : goal.returns
 unfolding place_after fits_kind read_kind read_first
 returns c =
     let n = cut-components c.args.text.now c.args.cut 2 c.requires.0 c.requires.1 (lit< tt) in
-    let r = is-run place_answers 0 (place_parts (bytes "connections") connection) _ _ _ (sym c.in-At.is ∙ c.read_connection.ensures) in
+    let r = is-run 0 (place_parts (bytes "connections") connection) _ _ _ (sym c.in_ok-connection.was ∙ c.read_connection.ensures) in
     simp (n, r.0, r.1)

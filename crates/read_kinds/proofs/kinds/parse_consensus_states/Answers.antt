@@ -5,16 +5,16 @@ use lib.Dec.{lit<}
 use Rattle.read_pieces.specs.CutLaws.{cut-components}
 use Rattle.path.specs.Read.{fits_kind, read_kind, read_first}
 use Rattle.read_pieces.specs.Pieces.{consensus_in, consensus_parts}
-use Rattle.read_pieces.specs.FitLaws.{no_run, is-run, consensus_answers}
+use Rattle.read_pieces.specs.FitLaws.{no_run, is-run}
 use Rattle.read_kinds.proofs.kinds.parse_consensus_states.Goals as goal
 
-pub returns-in_default : goal.returns-in_default
+pub returns-in_err-places : goal.returns-in_err-places
 unfolding consensus_in fits_kind read_kind read_first
-returns-in_default c = simp (no_run consensus_answers 0 consensus_parts _ _ (sym c.in_default.is ∙ c.read_consensus.ensures), and-false)
+returns-in_err-places c = c.from_residual.ensures ∙ simp (no_run 0 consensus_parts _ _ (sym c.in_err-places.was ∙ c.read_consensus.ensures), and-false)
 
 pub returns : goal.returns
 unfolding consensus_in fits_kind read_kind read_first
 returns c =
     let n = cut-components c.args.text.now c.args.cut 4 c.requires.0 c.requires.1 (lit< tt) in
-    let r = is-run consensus_answers 0 consensus_parts _ _ _ (sym c.in-Consensus.is ∙ c.read_consensus.ensures) in
+    let r = is-run 0 consensus_parts _ _ _ (sym c.in_ok-places.was ∙ c.read_consensus.ensures) in
     simp (n, r.0, r.1)

@@ -1,18 +1,13 @@
 use mathlib.Core.List.{[]}
-use mathlib.Core.Path.{◌∙◌}
-use Rattle.text.specs.PutLaws.{gives-refusal, gives_same}
+use Rattle.text.specs.PutLaws.{gives_same}
 use Rattle.path.specs.Kinds.{carried}
 use Rattle.path.specs.Parents.{text_of, consensus_parent}
-use Rattle.writers.specs.Texts.{parent_text}
-use Rattle.render.specs.ParentLaws.{parent-wanted, accepted-not, accepted-text}
+use Rattle.path.specs.Read.{name_fault}
+use Rattle.render.specs.ParentLaws.{parent-wanted}
 use Rattle.render.proofs.texts.consensus_state_parent.Goals as goal
 
-pub returns-then-refusal-ne0 : goal.returns-then-refusal-ne0
-returns-then-refusal-ne0 c =
-    let w = parent-wanted (carried c.args.client.now [] 0 0) in
-    let p = gives-refusal (text_of consensus_parent (carried c.args.client.now [] 0 0)) c.args.out.now _ (w ∙ accepted-not (parent_text c.args.client.now) c.validate_client_identifier-refusal.ensures c.if-refusal-ne0.true) in record { value = p.0; out_after = p.1 }
-
 pub returns : goal.returns
+unfolding name_fault
 returns c =
-    let w = parent-wanted (carried c.args.client.now [] 0 0) in
-    let p = gives_same (text_of consensus_parent (carried c.args.client.now [] 0 0)) c.args.out.now (w ∙ accepted-text (parent_text c.args.client.now) c.validate_client_identifier-refusal.ensures c.if-refusal-ne0.false) (c.fit_parent.ensures.value, c.fit_parent.ensures.out_after) in record { value = p.0; out_after = p.1 }
+    let v = carried c.args.client.now [] 0 0 in
+    let p = gives_same (text_of consensus_parent v) c.args.out.now (parent-wanted v) (c.checked_parent.ensures.value, c.checked_parent.ensures.out_after) in record { value = p.0; out_after = p.1 }

@@ -4,12 +4,12 @@ use Rattle.writers.specs.Texts.{packets_text}
 use native.Mathlib.Omega.{arith}
 use Rattle.render.proofs.texts.fit_packets_path.Goals as goal
 
-pub returns-then-out-first : goal.returns-then-out-first
-returns-then-out-first c =
-    let p = gives-short (packets_text c.args.first.now c.args.port.now c.args.channel.now) c.args.out.now (simp length-append (omega arith)) in record { value = p.0; out_after = p.1 }
+pub returns-then-not-fit : goal.returns-then-not-fit
+returns-then-not-fit c =
+    let p = gives-short (packets_text c.args.first.now c.args.port.now c.args.channel.now) c.args.out.now (simp length-append (omega (arith, c.fit.ensures.1 c.if-not-fit.true))) in record { value = p.0; out_after = p.1 }
 
 pub write_packets_path-length-requires : goal.write_packets_path-length-requires
-write_packets_path-length-requires c = simp length-append (omega arith)
+write_packets_path-length-requires c = simp length-append (omega (arith, c.fit.ensures.0 c.if-not-fit.false))
 
 pub returns : goal.returns
 returns c =

@@ -1,28 +1,17 @@
 -- `counter` meets its contract.
-use Rattle.walk.specs.ArmLaws.{no-counter}
+use Rattle.walk.specs.ArmLaws.{counts_1, counts_2, counts_3, no-counter}
+use mathlib.Core.Path.{refl}
 use native.Mathlib.Omega.{arith}
 use Rattle.walk.proofs.counter.counter.Goals as goal
 
-pub returns-then-n-gt22 : goal.returns-then-n-gt22
-returns-then-n-gt22 c = no-counter c.args.text.now c.no_path.result (λ e. omega (arith, c.if-n-gt22.true)) (λ e. omega (arith, c.if-n-gt22.true)) (λ e. omega (arith, c.if-n-gt22.true)) c.no_path.ensures
+pub returns-in-18 : goal.returns-in-18
+returns-in-18 c = counts_1 c.args.text.now _ c.in-18.is _ c.is_next_client_sequence.ensures _ c.bare.ensures c.then_some.ensures
 
-pub next_client-requires : goal.next_client-requires
-next_client-requires c = c.if-n-eq18.true
+pub returns-in-22 : goal.returns-in-22
+returns-in-22 c = counts_2 c.args.text.now _ c.in-22.is _ c.is_next_connection_sequence.ensures _ c.bare-in-22.ensures c.then_some-in-22.ensures
 
-pub returns-then-n-eq18 : goal.returns-then-n-eq18
-returns-then-n-eq18 c = c.next_client.ensures
+pub returns-in-19 : goal.returns-in-19
+returns-in-19 c = counts_3 c.args.text.now _ c.in-19.is _ c.is_next_channel_sequence.ensures _ c.bare-in-19.ensures c.then_some-in-19.ensures
 
-pub next_connection-requires : goal.next_connection-requires
-next_connection-requires c = c.if-n-eq22.true
-
-pub returns-then-n-eq22 : goal.returns-then-n-eq22
-returns-then-n-eq22 c = c.next_connection.ensures
-
-pub next_channel-requires : goal.next_channel-requires
-next_channel-requires c = c.if-n-eq19.true
-
-pub returns-then-n-eq19 : goal.returns-then-n-eq19
-returns-then-n-eq19 c = c.next_channel.ensures
-
-pub returns : goal.returns
-returns c = no-counter c.args.text.now c.no_path-2.result c.if-n-eq18.false c.if-n-eq22.false c.if-n-eq19.false c.no_path-2.ensures
+pub returns-in_default : goal.returns-in_default
+returns-in_default c = no-counter c.args.text.now _ (λ z. omega (arith, z)) (λ z. omega (arith, z)) (λ z. omega (arith, z)) refl

@@ -1,5 +1,5 @@
 -- `ports` meets its contract.
-use mathlib.Core.Path.{sym, ◌∙◌}
+use mathlib.Core.Path.{refl, sym, ◌∙◌}
 use Rattle.text.specs.Bytes.{bytes}
 use Rattle.walk_scan.specs.WordLaws.{starts-room}
 use Rattle.walk.specs.ArmLaws.{is_10, not_10}
@@ -12,4 +12,4 @@ pub returns-then-is_ports : goal.returns-then-is_ports
 returns-then-is_ports c = is_10 c.args.text.now c.port.result (sym c.is_ports.ensures ∙ c.if-is_ports.true) c.port.ensures
 
 pub returns : goal.returns
-returns c = not_10 c.args.text.now c.no_path.result (sym c.is_ports.ensures ∙ c.if-is_ports.false) c.no_path.ensures
+returns c = not_10 c.args.text.now _ (sym c.is_ports.ensures ∙ c.if-is_ports.false) refl

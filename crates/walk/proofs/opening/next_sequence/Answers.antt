@@ -13,4 +13,4 @@ pub returns : goal.returns
 returns c =
     let send = sym c.is_next_sequence_send.ensures ∙ c.if-is_next_sequence_send.false in
     let recv = sym c.is_next_sequence_recv.ensures ∙ c.if-is_next_sequence_recv.false in
-    opens_14 c.args.text.now c.requires send recv _ c.is_next_sequence_ack.ensures c.opened.result c.opened.ensures
+    opens_14 c.args.text.now c.requires send recv _ c.is_next_sequence_ack.ensures _ c.then_some.ensures

@@ -1,31 +1,28 @@
 -- `client` meets its contract.
 use Prim.Native.Nat.{◌+◌}
-use mathlib.Core.Path.{sym, ◌∙◌}
+use mathlib.Core.Path.{sym, ap, ◌∙◌}
+use Rattle.std.specs.Prelude.{Some}
+use Rattle.path.specs.declared.PathView.{PathView}
 use Rattle.text.specs.Bytes.{bytes}
 use Rattle.walk_scan.specs.WordLaws.{starts-room, word_room}
 use Rattle.walk_families.specs.ClientLaws.{client-none, client-word, client-other, client-states}
-use native.Mathlib.Omega.{arith}
 use Rattle.walk_families.proofs.client.client.Goals as goal
 
-pub plain_length-len-requires : goal.plain_length-len-requires
-plain_length-len-requires c = starts-room (bytes "clients/") c.args.text.now c.requires
+pub plain_length-requires : goal.plain_length-requires
+plain_length-requires c = starts-room (bytes "clients/") c.args.text.now c.requires
 
-pub returns-then-len-eq0 : goal.returns-then-len-eq0
-returns-then-len-eq0 c = c.no_path.ensures ∙ client-none c.args.text.now c.requires c.plain_length-len.result c.plain_length-len.ensures.1 c.if-len-eq0.true
+pub returns-in_err-len : goal.returns-in_err-len
+returns-in_err-len c = c.from_residual.ensures ∙ client-none c.args.text.now c.requires (sym c.in_err-len.was ∙ c.plain_length.ensures.1)
 
-pub returns-then-kind-ne0 : goal.returns-then-kind-ne0
-returns-then-kind-ne0 c = c.bare.ensures ∙ client-word c.args.text.now c.requires c.plain_length-len.result c.plain_length-len.ensures.1 c.if-len-eq0.false c.word_kind-kind.result c.word_kind-kind.ensures c.if-kind-ne0.true
+pub returns-in-Some : goal.returns-in-Some
+returns-in-Some c = ap (λ (v : PathView). Some v) c.bare.ensures ∙ client-word c.args.text.now c.requires c.in_ok-len.len c.in_ok-len.ensures.1 c.in-Some.kind c.in-Some.ensures
 
 pub returns-then-not-is_consensus_states : goal.returns-then-not-is_consensus_states
-returns-then-not-is_consensus_states c = c.no_path-then-not-is_consensus_states.ensures ∙ client-other c.args.text.now c.requires c.plain_length-len.result c.plain_length-len.ensures.1 c.if-len-eq0.false c.is_consensus_states.result c.is_consensus_states.ensures c.word_kind-kind.result c.word_kind-kind.ensures c.if-kind-ne0.false (c.if-not-is_consensus_states.true)
-
-pub overflow_add-e-2 : goal.overflow_add-e-2
-overflow_add-e-2 c =
-    omega (arith, word_room (bytes "/consensusStates/") c.args.text.now (8 + c.plain_length-len.result) (sym c.is_consensus_states.ensures ∙ c.if-not-is_consensus_states.false) c.plain_length-len.ensures.0)
+returns-then-not-is_consensus_states c = client-other c.args.text.now c.requires c.in_ok-len.len c.in_ok-len.ensures.1 c.is_consensus_states.result c.is_consensus_states.ensures c.in_default.ensures c.if-not-is_consensus_states.true
 
 pub consensus-requires : goal.consensus-requires
 consensus-requires c =
-    word_room (bytes "/consensusStates/") c.args.text.now (8 + c.plain_length-len.result) (sym c.is_consensus_states.ensures ∙ c.if-not-is_consensus_states.false) c.plain_length-len.ensures.0
+    word_room (bytes "/consensusStates/") c.args.text.now (8 + c.in_ok-len.len) (sym c.is_consensus_states.ensures ∙ c.if-not-is_consensus_states.false) c.in_ok-len.ensures.0
 
 pub returns : goal.returns
-returns c = client-states c.args.text.now c.requires c.plain_length-len.result c.plain_length-len.ensures.1 c.if-len-eq0.false c.is_consensus_states.result c.is_consensus_states.ensures c.word_kind-kind.result c.word_kind-kind.ensures c.if-kind-ne0.false (c.if-not-is_consensus_states.false) c.consensus.result c.consensus.ensures
+returns c = client-states c.args.text.now c.requires c.in_ok-len.len c.in_ok-len.ensures.1 c.is_consensus_states.result c.is_consensus_states.ensures c.in_default.ensures c.if-not-is_consensus_states.false c.consensus.result c.consensus.ensures

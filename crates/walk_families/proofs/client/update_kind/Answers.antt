@@ -1,22 +1,16 @@
 -- `update_kind` meets its contract.
-use mathlib.Core.Path.{sym, ◌∙◌}
-use Rattle.walk_families.specs.ClientLaws.{update-over, update-time, update-height, update-no-time, update-no-height, update_other}
+use Rattle.walk_families.specs.ClientLaws.{update-over, update-time, update-height, update_other}
+use native.Mathlib.Omega.{arith}
 use Rattle.walk_families.proofs.client.update_kind.Goals as goal
 
-pub returns-then-left-eq0 : goal.returns-then-left-eq0
-returns-then-left-eq0 c = update-over c.args.text.now c.args.q c.requires c.if-left-eq0.true
+pub returns-in-0 : goal.returns-in-0
+returns-in-0 c = update-over c.args.text.now c.args.q c.requires c.in-0.is
 
-pub returns-then-is_processed_time : goal.returns-then-is_processed_time
-returns-then-is_processed_time c = update-time c.args.text.now c.args.q c.requires c.if-left-eq14.true (sym c.is_processed_time.ensures ∙ c.if-is_processed_time.true)
+pub returns-in-14 : goal.returns-in-14
+returns-in-14 c = update-time c.args.text.now c.args.q c.requires c.in-14.is _ c.is_processed_time.ensures _ c.then_some.ensures
 
-pub returns-then-left-eq14 : goal.returns-then-left-eq14
-returns-then-left-eq14 c = update-no-time c.args.text.now c.args.q c.requires c.if-left-eq14.true (sym c.is_processed_time.ensures ∙ c.if-is_processed_time.false)
+pub returns-in-16 : goal.returns-in-16
+returns-in-16 c = update-height c.args.text.now c.args.q c.requires c.in-16.is _ c.is_processed_height.ensures _ c.then_some-in-16.ensures
 
-pub returns-then-is_processed_height : goal.returns-then-is_processed_height
-returns-then-is_processed_height c = update-height c.args.text.now c.args.q c.requires c.if-left-eq16.true (sym c.is_processed_height.ensures ∙ c.if-is_processed_height.true)
-
-pub returns-then-left-eq16 : goal.returns-then-left-eq16
-returns-then-left-eq16 c = update-no-height c.args.text.now c.args.q c.requires c.if-left-eq16.true (sym c.is_processed_height.ensures ∙ c.if-is_processed_height.false)
-
-pub returns : goal.returns
-returns c = update_other c.args.text.now c.args.q c.requires c.if-left-eq0.false c.if-left-eq14.false c.if-left-eq16.false
+pub returns-in_default : goal.returns-in_default
+returns-in_default c = update_other c.args.text.now c.args.q c.requires (λ z. omega (arith, z)) (λ z. omega (arith, z)) (λ z. omega (arith, z))

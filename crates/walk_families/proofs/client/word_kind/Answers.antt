@@ -1,6 +1,6 @@
 -- `word_kind` meets its contract.
 use mathlib.Core.Path.{sym, ◌∙◌}
-use Rattle.walk_families.specs.ClientLaws.{word-long, word-state, word-links, word-neither}
+use Rattle.walk_families.specs.ClientLaws.{word-long, word-state, word-links}
 use Rattle.walk_families.proofs.client.word_kind.Goals as goal
 
 pub returns-then-text-e-ne12 : goal.returns-then-text-e-ne12
@@ -9,8 +9,5 @@ returns-then-text-e-ne12 c = word-long c.args.text.now c.args.e c.requires c.if-
 pub returns-then-is_client_state : goal.returns-then-is_client_state
 returns-then-is_client_state c = word-state c.args.text.now c.args.e c.requires c.if-text-e-ne12.false (sym c.is_client_state.ensures ∙ c.if-is_client_state.true)
 
-pub returns-then-is_client_connections : goal.returns-then-is_client_connections
-returns-then-is_client_connections c = word-links c.args.text.now c.args.e c.requires c.if-text-e-ne12.false (sym c.is_client_connections.ensures ∙ c.if-is_client_connections.true)
-
 pub returns : goal.returns
-returns c = word-neither c.args.text.now c.args.e c.requires (sym c.is_client_state.ensures ∙ c.if-is_client_state.false) (sym c.is_client_connections.ensures ∙ c.if-is_client_connections.false)
+returns c = word-links c.args.text.now c.args.e c.requires c.if-text-e-ne12.false (sym c.is_client_state.ensures ∙ c.if-is_client_state.false) _ c.is_client_connections.ensures _ c.then_some.ensures

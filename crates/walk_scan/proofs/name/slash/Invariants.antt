@@ -1,13 +1,10 @@
 -- `slash` meets its contract.
-use Prim.Native.Nat.{◌+◌, ◌-◌, ◌≤◌}
+use Prim.Native.Nat.{◌+◌}
 use mathlib.Core.Path.{◌≡◌}
-use lib.ListN.{length, drop}
+use lib.ListN.{drop}
 use Rattle.walk_scan.specs.Number.{no_slash}
 use Rattle.walk_scan.specs.Run.{run}
 use Rattle.walk_scan.proofs.name.slash.Given as goal
 
 abbrev pub invariant-loop-i : goal.invariant-loop-i
-invariant-loop-i l = ((l.at ≤ l.i) × (l.i ≤ length l.s)) × (l.at + run no_slash (drop l.at l.s) ≡ l.i + run no_slash (drop l.i l.s))
-
-abbrev pub decreases-loop-i : goal.decreases-loop-i
-decreases-loop-i l = length l.s - l.i
+invariant-loop-i l = l.at + run no_slash (drop l.at l.s) ≡ l.i + run no_slash (drop l.i l.s)

@@ -6,7 +6,7 @@ use native.Mathlib.Omega.{arith}
 use Rattle.walk_scan.proofs.number.number.Goals as goal
 
 pub returns-then-at-s : goal.returns-then-at-s
-returns-then-at-s c = c.no_number.ensures ∙ count-end c.args.s.now c.args.at (omega arith)
+returns-then-at-s c = count-end c.args.s.now c.args.at (omega arith)
 
 pub signed-requires : goal.signed-requires
 signed-requires c = record {

@@ -1,16 +1,15 @@
 -- `unsigned` meets its contract.
-use mathlib.Core.Path.{◌∙◌}
+use mathlib.Core.Path.{sym, ◌∙◌}
 use lib.ListN.{drop}
-use borrow.Author.Tests.{not-true, not-false}
 use Rattle.walk_scan.specs.CountLaws.{free-none, free-empty, free-some, first-at}
 use native.Mathlib.Omega.{arith}
 use Rattle.walk_scan.proofs.number.unsigned.Goals as goal
 
-pub returns-then-not-f : goal.returns-then-not-f
-returns-then-not-f c = c.no_number.ensures ∙ free-none c.args.at (drop c.args.at c.args.s.now) c.requires.s_value c.digits-f.result c.digits-f.ensures (not-true _ c.if-not-f.true)
+pub returns-in_err-f : goal.returns-in_err-f
+returns-in_err-f c = c.from_residual.ensures ∙ free-none c.args.at (drop c.args.at c.args.s.now) c.requires.s_value (sym c.in_err-f.was ∙ c.digits.ensures)
 
 pub returns-then-f-at : goal.returns-then-f-at
-returns-then-f-at c = c.no_number-then-f-at.ensures ∙ free-empty c.args.at (drop c.args.at c.args.s.now) c.requires.s_value c.digits-f.result c.digits-f.ensures (not-false _ c.if-not-f.false) c.if-f-at.true
+returns-then-f-at c = free-empty c.args.at (drop c.args.at c.args.s.now) c.requires.s_value c.in_ok-f.f (sym c.in_ok-f.was ∙ c.digits.ensures) c.if-f-at.true
 
 pub returns : goal.returns
-returns c = free-some c.args.at (drop c.args.at c.args.s.now) c.requires.s_value c.digits-f.result c.digits-f.ensures (not-false _ c.if-not-f.false) (λ e. omega (arith, c.if-f-at.false)) _ (first-at c.args.s.now c.args.at) _ c.is_plain.ensures
+returns c = free-some c.args.at (drop c.args.at c.args.s.now) c.requires.s_value c.in_ok-f.f (sym c.in_ok-f.was ∙ c.digits.ensures) (λ e. omega (arith, c.if-f-at.false)) _ (first-at c.args.s.now c.args.at) _ c.is_plain.ensures

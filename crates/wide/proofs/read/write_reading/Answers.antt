@@ -6,14 +6,14 @@ use Rattle.text.specs.PutLaws.{left-refused}
 use Rattle.wide.specs.StepLaws.{other-bytes, other-fault, of-bytes, of-fault}
 use Rattle.wide.proofs.read.write_reading.Goals as goal
 
-pub returns-in-Of : goal.returns-in-Of
-returns-in-Of c = record {
-  value = c.write_answer.ensures.value ∙ of-fault c.args.text.now c.read_path.result c.read_path.ensures _ c.in-Of.is (length c.args.out.now);
-  out_after = c.write_answer.ensures.out_after ∙ ap (λ (z : Wanted). left z c.args.out.now) (of-bytes c.args.text.now c.read_path.result c.read_path.ensures _ c.in-Of.is);
+pub returns-in-Some : goal.returns-in-Some
+returns-in-Some c = record {
+  value = c.write_answer.ensures.value ∙ of-fault c.args.text.now c.read_path.result c.read_path.ensures _ c.in-Some.is (length c.args.out.now);
+  out_after = c.write_answer.ensures.out_after ∙ ap (λ (z : Wanted). left z c.args.out.now) (of-bytes c.args.text.now c.read_path.result c.read_path.ensures _ c.in-Some.is);
 }
 
-pub returns-in-NotTaken : goal.returns-in-NotTaken
-returns-in-NotTaken c = record {
-  value = other-fault c.args.text.now c.read_path.result c.read_path.ensures c.in-NotTaken.is (length c.args.out.now);
-  out_after = sym (left-refused 21 c.args.out.now) ∙ ap (λ (z : Wanted). left z c.args.out.now) (other-bytes c.args.text.now c.read_path.result c.read_path.ensures c.in-NotTaken.is);
+pub returns-in-None : goal.returns-in-None
+returns-in-None c = record {
+  value = other-fault c.args.text.now c.read_path.result c.read_path.ensures c.in-None.is (length c.args.out.now);
+  out_after = sym (left-refused 21 c.args.out.now) ∙ ap (λ (z : Wanted). left z c.args.out.now) (other-bytes c.args.text.now c.read_path.result c.read_path.ensures c.in-None.is);
 }

@@ -1,21 +1,24 @@
 -- `wide::rendering::render` meets its contract.
+use mathlib.Core.Path.{◌≡◌}
+use Rattle.text.specs.Put.{refused}
 use native.Mathlib.Omega.{arith}
+use mathlib.Core.Path.{◌∙◌}
 use Rattle.text.specs.PutLaws.{gives-refusal, gives_same}
 use Rattle.path.specs.Kinds.{carried}
 use Rattle.wide.specs.Mode.{wide}
 use Rattle.wide.specs.Render.{render_in}
-use Rattle.wide.specs.StepLaws.{render-low, render-high, render-word, render-kind}
+use Rattle.wide.specs.StepLaws.{render-low, render-high, render-word, render-kind, kind-checked}
+use Rattle.wide.proofs.rendering.render.Goals.{then-kind-lt1-via-then-kind-lt1, then-kind-lt1-via-else-kind-lt1+then-kind-gt19}
 use Rattle.wide.proofs.rendering.render.Goals as goal
 
 pub returns-then-kind-lt1 : goal.returns-then-kind-lt1
 returns-then-kind-lt1 c =
     let v = carried c.args.first.now c.args.second.now c.args.a c.args.b in
-    let p = gives-refusal (render_in wide c.args.kind v) c.args.out.now 14 (render-low wide c.args.kind v (omega arith)) in record { value = p.0; out_after = p.1 }
-
-pub returns-then-kind-gt19 : goal.returns-then-kind-gt19
-returns-then-kind-gt19 c =
-    let v = carried c.args.first.now c.args.second.now c.args.a c.args.b in
-    let p = gives-refusal (render_in wide c.args.kind v) c.args.out.now 14 (render-high wide c.args.kind v (omega arith)) in record { value = p.0; out_after = p.1 }
+    let low : render_in wide c.args.kind v ≡ refused 14 = elim c.then-kind-lt1.branch [
+      | then-kind-lt1-via-then-kind-lt1 w ↦ render-low wide c.args.kind v (omega (arith, w.if-kind-lt1.true))
+      | then-kind-lt1-via-else-kind-lt1+then-kind-gt19 w ↦ render-high wide c.args.kind v (omega (arith, w.if-kind-gt19.true))
+    ] in
+    let p = gives-refusal (render_in wide c.args.kind v) c.args.out.now 14 low in record { value = p.0; out_after = p.1 }
 
 pub returns-then-kind-lt4 : goal.returns-then-kind-lt4
 returns-then-kind-lt4 c =
@@ -25,4 +28,4 @@ returns-then-kind-lt4 c =
 pub returns : goal.returns
 returns c =
     let v = carried c.args.first.now c.args.second.now c.args.a c.args.b in
-    let p = gives_same (render_in wide c.args.kind v) c.args.out.now (render-kind wide c.args.kind v (omega arith) (omega arith)) (c.checked_kind.ensures.value, c.checked_kind.ensures.out_after) in record { value = p.0; out_after = p.1 }
+    let p = gives_same (render_in wide c.args.kind v) c.args.out.now (render-kind wide c.args.kind v (omega arith) (omega arith) ∙ kind-checked wide c.args.kind v (omega arith) (omega arith)) (c.checked_kind.ensures.value, c.checked_kind.ensures.out_after) in record { value = p.0; out_after = p.1 }

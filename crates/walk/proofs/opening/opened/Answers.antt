@@ -1,9 +1,0 @@
--- `opened` meets its contract.
-
-use Rattle.walk.proofs.opening.opened.Goals as goal
-
-pub returns-then-stands : goal.returns-then-stands
-returns-then-stands c = rw c.if-stands.true
-
-pub returns : goal.returns
-returns c = rw c.if-stands.false
