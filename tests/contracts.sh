@@ -26,7 +26,7 @@ sed 's/#.*//' crates.txt | awk -F: 'NF { gsub(/[ \t]/, "", $1); print $1 }' | wh
         [ "$module" = lib ] || prefix=$crate::$module
         awk -v prefix="$prefix" -v refusing="u8$refusing" -v free="$work/all-free" '
             BEGIN { count = split(refusing, types, " "); for (i = 1; i <= count; i++) answers[types[i]] = 1 }
-            /^impl / { type = $2 "::" }
+            /^impl[ <]/ { type = $0; sub(/^impl(<[^>]*>)? /, "", type); sub(/[ <].*/, "", type); type = type "::" }
             /^}/ { type = "" }
             /^ *pub (extern "C" )?fn / {
                 name = $0

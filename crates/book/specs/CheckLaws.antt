@@ -5,7 +5,7 @@ use Rattle.std.proofs.Math.Path.{refl, sym, ap}
 use Rattle.std.proofs.Common.{◌∙◌, not-suc-le-zero, le_of_suc-le-suc, add-one, arith, length-drop, take-append-drop, drop-drop}
 use mathlib.Core.List.{List, [], ◌∷◌, ◌++◌, append_assoc}
 use Rattle.std.proofs.Math.Option.{some}
-use Prim.Native.Nat.{ℕ, zero, suc, ◌+◌, ◌*◌, ◌-◌, ◌<◌, ◌≤◌}
+use Prim.Native.Nat.{ℕ, zero, suc, ◌+◌, ◌*◌, ◌-◌, ◌<◌}
 use Rattle.std.proofs.Math.Dec.{eqb}
 use Rattle.std.proofs.Math.ListN.{length, take, drop, get_elem?}
 use Rattle.std.proofs.Math.Seq.{take_at, drop_at}
@@ -16,7 +16,7 @@ use Rattle.book_records.specs.Records.{Sorted}
 use Rattle.book_records.specs.RecordLaws.{after_trans}
 use Rattle.book_records.specs.Act.{Rec}
 use Rattle.book_form.specs.Form.{Form, AllFit, AllExact, Within, slots, layout, zeros, slot_at, key_at, SlotOk}
-use Rattle.book_form.specs.FormLaws.{Lawful, length_before, slot_up, blank-zeros, zeros-blank}
+use Rattle.book_form.specs.FormLaws.{Lawful, length_before, blank-zeros, zeros-blank}
 use Rattle.book_form.specs.Tells.{Tells}
 use Rattle.book.specs.Book.{Book, Counts}
 use Rattle.book.specs.BookLaws.{fit_at, few-records, size_is, slot-there, record_is, key_is}

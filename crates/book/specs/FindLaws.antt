@@ -1,6 +1,6 @@
 -- Where a key stands in a book, and what calls on it come to.
 -- Assumes nothing.
-use Rattle.std.specs.Prelude.{◌≡◌, refl, Bool, true, false, List, ◌∷◌, ◌++◌, length, take, drop, Ok, Err}
+use Rattle.std.specs.Prelude.{◌≡◌, refl, Bool, true, false, List, ◌∷◌, ◌++◌, length, take, drop}
 use Rattle.std.proofs.Common.{sym, ap, ◌∙◌, append_assoc, arith, length-drop, take-append-drop, drop_of_length-le, length-take-le}
 use Rattle.std.proofs.Math.Option.{none, some}
 use Prim.Native.Nat.{ℕ, suc, ◌+◌, ◌*◌, ◌-◌, ◌<◌, ◌≤◌, Ordering}
@@ -24,7 +24,7 @@ use Rattle.std.specs.declared.cmp.Ordering.{Ordering as Order}
 use Rattle.std.specs.Ordering.{is_lt, is_eq, is_gt}
 use Rattle.book.specs.Book.{Book, Counts, full_in}
 use Rattle.book.specs.BookLaws.{parted, few-records, sizes, record_is, key_is}
-use Rattle.book.specs.Find.{Placed, Spotted}
+use Rattle.book.specs.Find.{Placed}
 use Rattle.book.specs.Outcome.{Changed, Found}
 use Rattle.book.specs.WayLaws.{way-refused, way_replaced, way-added, way-full, way-removed, way-absent, way-found, way-not_found}
 

@@ -18,56 +18,38 @@ use record::{look_record, put_record, take_record};
 use text::Written;
 use text::refusal::{BAD_BOOK, BAD_LENGTH, BAD_OWNER, FULL, NO_ROOM, RETIRED};
 
-// What a call starts from: a refusal, or the number of the book's records and the key of the text with its kind.
+// What a call starts from: the number of the book's records, and the key of the text with its kind.
 #[derive(Drop)]
 pub struct Opened {
-    pub refusal: u8,
-    pub kind: u8,
     pub count: usize,
+    pub kind: u8,
     pub key: Key,
 }
 
-fn refused(refusal: u8) -> Opened
-    ensures { result.refusal ≡ refusal }
-{
-    let bytes = [0u8; 255];
-    Opened {
-        refusal,
-        kind: 0,
-        count: 0,
-        key: Key { bytes, len: 0 },
-    }
-}
-
 // Checks the book, the owner and the text, as every call does: 9, 23, 1, 2, 3 (17, 18, 19), in a plain call 20, 10.
-pub(crate) fn open_call(manner: Manner, book: &[u8], owner: u8, text: &[u8]) -> Opened
+pub(crate) fn open_call(manner: Manner, book: &[u8], owner: u8, text: &[u8]) -> Result<Opened, u8>
     ensures { Opens manner book.now owner text.now result }
 {
     let Some(count) = check_book(book, Version::Three) else {
-        return refused(BAD_BOOK);
+        return Err(BAD_BOOK);
     };
     if !is_owner(owner) {
-        return refused(BAD_OWNER);
+        return Err(BAD_OWNER);
     }
-    let made = key_of(manner, text);
+    let made = key_of(manner, text)?;
+    let kind = made.kind;
     let key = made.key;
-    Opened {
-        refusal: made.refusal,
-        kind: made.kind,
-        count,
-        key,
-    }
+    Ok(Opened { count, kind, key })
 }
 
 // Copies what the path of a text holds, and answers its length: 9, 23, 1, 2, 3 (17, 18, 19), in a plain call 20, 10, 4, 12.
 pub fn lookup(manner: Manner, book: &[u8], owner: u8, text: &[u8], out: &mut [u8]) -> Written
     ensures { Looked Current manner book.now owner text.now out.old result out.new }
 {
-    let opened = open_call(manner, book, owner, text);
-    let refusal = opened.refusal;
-    if refusal != 0 {
-        return Written { refusal, length: 0 };
-    }
+    let opened = match open_call(manner, book, owner, text) {
+        Ok(opened) => opened,
+        Err(refusal) => return Written { refusal, length: 0 },
+    };
     if out.len() < 64 {
         return Written {
             refusal: NO_ROOM,
@@ -84,11 +66,10 @@ pub fn lookup(manner: Manner, book: &[u8], owner: u8, text: &[u8], out: &mut [u8
 pub fn write(manner: Manner, book: &mut [u8], owner: u8, text: &[u8], value: &[u8]) -> u8
     ensures { Recorded Current manner book.old owner text.now value.now result book.new }
 {
-    let opened = open_call(manner, book, owner, text);
-    let refusal = opened.refusal;
-    if refusal != 0 {
-        return refusal;
-    }
+    let opened = match open_call(manner, book, owner, text) {
+        Ok(opened) => opened,
+        Err(refusal) => return refusal,
+    };
     if opened.kind == 8 {
         return RETIRED;
     }
@@ -108,11 +89,10 @@ pub fn write(manner: Manner, book: &mut [u8], owner: u8, text: &[u8], value: &[u
 pub fn remove(manner: Manner, book: &mut [u8], owner: u8, text: &[u8]) -> u8
     ensures { Removed Current manner book.old owner text.now result book.new }
 {
-    let opened = open_call(manner, book, owner, text);
-    let refusal = opened.refusal;
-    if refusal != 0 {
-        return refusal;
-    }
+    let opened = match open_call(manner, book, owner, text) {
+        Ok(opened) => opened,
+        Err(refusal) => return refusal,
+    };
     let key = opened.key;
     let bytes = key.bytes;
     let len = key.len;

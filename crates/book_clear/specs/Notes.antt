@@ -1,4 +1,4 @@
--- What is noted of the slots of a book for a client: a kind, a number and a height for each, and kind 0 where a slot is none of the client's.
+-- What is noted of the slots of a book for a client: what the key of each is to it.
 -- Assumes nothing.
 use Rattle.std.specs.Prelude.{◌≡◌, true, false, List, [], ◌∷◌, ◌++◌, ℕ, ◌+◌, ◌*◌, ◌^◌, ◌≤◌, ◌<◌, length, drop, get_or, Option, Some, None}
 use Rattle.std.proofs.Math.Option.{some}
@@ -16,18 +16,25 @@ use Rattle.book_form.specs.Form.{key_at}
 use Rattle.book_form.specs.Counted.{stored}
 use Rattle.book.specs.Book.{Current, Book}
 use Rattle.book_clear.specs.declared.role.Role.{Role}
-use Rattle.book_clear.specs.Clear.{role_at, role_of, own_role}
+use Rattle.book_clear.specs.declared.role.Role.TheVariants.{State, Beside, Other}
+use Rattle.book_clear.specs.Clear.{role_of, own_role}
 
 -- clients/C/consensusStates/, with which the keys of the client's kinds 5, 6 and 7 begin
 abbrev pub stem : List ℕ → List ℕ
 stem client = parent_text client ++ (47 ∷ [])
 
--- the revision that is noted of slot j, and what the slot is by it
-abbrev pub revision_at : List ℕ → List ℕ → ℕ → Revision
-revision_at ns hs j = revision (get_or ns j 0) (get_or hs j 0)
+-- what is noted of slot j
+abbrev pub note_at : List Role → ℕ → Role
+note_at rs j = get_or rs j Other
 
-abbrev pub note_at : List ℕ → List ℕ → List ℕ → ℕ → Role
-note_at ks ns hs j = role_at (get_or ks j 0) (revision_at ns hs j)
+-- the revision that a role has, 0-0 where it has none; and that of what is noted of slot j
+abbrev pub revision_of : Role → Revision
+revision_of (State p) = p
+revision_of (Beside p) = p
+revision_of Other = revision 0 0
+
+abbrev pub revision_at : List Role → ℕ → Revision
+revision_at rs j = revision_of (note_at rs j)
 
 -- where a revision is given for a text, the text has it as R-h in plain digits from `at` to its end
 abbrev pub PlainState : List ℕ → ℕ → Option Revision → Type 0
@@ -35,8 +42,8 @@ PlainState t at (Some p) = (drop at t ≡ texts.revision p.number.0 p.height.0 [
 PlainState t at None = Unit {0}
 
 -- nothing is noted
-abbrev pub Blank : List ℕ → Type 0
-Blank ks = (j : ℕ) → get_or ks j 0 ≡ 0
+abbrev pub Blank : List Role → Type 0
+Blank rs = (j : ℕ) → note_at rs j ≡ Other
 
 -- among n keys those from slot `from` up to `stop` begin as the client's do, and no others
 pub record Stretched (b : List ℕ) (owner : ℕ) (client : List ℕ) (n from stop : ℕ) : Type 0 where
@@ -58,11 +65,11 @@ pub record Own (b client : List ℕ) (from stop : ℕ) : Type 0 where
   pub begins : (j : ℕ) → from ≤ j → j < stop → starts_with (stem client) (stored_at b j) ≡ true
 
 -- what those slots are is noted, and nothing of others
-pub record NotedFrom (b client : List ℕ) (from stop : ℕ) (ks ns hs : List ℕ) : Type 0 where
-  pub inside : (j : ℕ) → from ≤ j → j < stop → note_at ks ns hs j ≡ role_of client (stored_at b j)
-  pub before : (j : ℕ) → j < from → get_or ks j 0 ≡ 0
-  pub behind : (j : ℕ) → stop ≤ j → get_or ks j 0 ≡ 0
+pub record NotedFrom (b client : List ℕ) (from stop : ℕ) (rs : List Role) : Type 0 where
+  pub inside : (j : ℕ) → from ≤ j → j < stop → note_at rs j ≡ role_of client (stored_at b j)
+  pub before : (j : ℕ) → j < from → note_at rs j ≡ Other
+  pub behind : (j : ℕ) → stop ≤ j → note_at rs j ≡ Other
 
 -- what each record of the book b is to the owner's client is noted
-abbrev pub Noted : List ℕ → ℕ → List ℕ → List ℕ → List ℕ → List ℕ → Type 0
-Noted b owner client ks ns hs = (x : Book Current b) (j : ℕ) (r : Rec) → get_elem? x.records j ≡ some r → own_role owner client r.0 ≡ note_at ks ns hs j
+abbrev pub Noted : List ℕ → ℕ → List ℕ → List Role → Type 0
+Noted b owner client rs = (x : Book Current b) (j : ℕ) (r : Rec) → get_elem? x.records j ≡ some r → own_role owner client r.0 ≡ note_at rs j

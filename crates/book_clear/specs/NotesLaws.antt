@@ -9,7 +9,6 @@ use Rattle.text.specs.PartLaws.{and_left, and_right}
 use Rattle.text.specs.PlaceLaws.{at_some, at_lt}
 use Rattle.identifiers.specs.Check.{check_of}
 use Rattle.identifiers.specs.Check as check
-use Rattle.path.specs.Revision.{revision}
 use Rattle.writers.specs.Texts.{parent_text}
 use Rattle.book_records.specs.Calls.{Exact, Owned}
 use Rattle.book_form.specs.Form.{key_at}
@@ -20,8 +19,10 @@ use Rattle.book.specs.CheckLaws.{exact-at}
 use Rattle.book.specs.Find.{Placed}
 use Rattle.book.specs.FindLaws.{above_down}
 use Rattle.book_oldest.specs.PrefixLaws.{starts-below}
-use Rattle.book_clear.specs.Clear.{role_at, role_of, own_role}
-use Rattle.book_clear.specs.Notes.{stem, revision_at, note_at, Blank, Stretched, stored_at, Own, NotedFrom, Noted}
+use Rattle.book_clear.specs.declared.role.Role.{Role}
+use Rattle.book_clear.specs.declared.role.Role.TheVariants.{Other}
+use Rattle.book_clear.specs.Clear.{role_of, own_role}
+use Rattle.book_clear.specs.Notes.{stem, note_at, Blank, Stretched, stored_at, Own, NotedFrom, Noted}
 use Rattle.book_clear.specs.StemLaws.{stem-before, stem-between}
 use Rattle.book_clear.specs.RoleLaws.{own-there, own-nowhere}
 
@@ -69,8 +70,8 @@ module _ (b : List ℕ) (n : ℕ) (h : Counts Current b n) (owner : ℕ) (client
     own-slots v = record { valid = v; few = omega (arith, (sizes Current lawful b n h).most, S.most); room = omega (arith, (sizes Current lawful b n h).used, S.most); exact = exact-there; begins = begins-there }
 
     -- ---- so what is noted there is what each record is
-    pub noted : (ks ns hs : List ℕ) → NotedFrom b client from stop ks ns hs → Noted b owner client ks ns hs
-    noted ks ns hs N x j r e = go (dec_lt j from) (dec_lt j stop)
+    pub noted : (rs : List Role) → NotedFrom b client from stop rs → Noted b owner client rs
+    noted rs N x j r e = go (dec_lt j from) (dec_lt j stop)
       where
         in-book : j < n
         in-book = omega (arith, at_lt x.records j r e, ap length (one-book Current lawful b x h.0).2, h.1)
@@ -78,67 +79,55 @@ module _ (b : List ℕ) (n : ℕ) (h : Counts Current b n) (owner : ℕ) (client
         key : key_at Current b j ≡ r.0
         key = key_is Current lawful b x j r e
 
-        none : starts_with (owner ∷ stem client) (key_at Current b j) ≡ false → get_or ks j 0 ≡ 0 → own_role owner client r.0 ≡ note_at ks ns hs j
-        none s z = own-nowhere owner client r.0 (exact-at Current x.records j r x.exact e) (ap (starts_with (owner ∷ stem client)) (sym key) ∙ s) ∙ sym (ap (λ (m : ℕ). role_at m (revision_at ns hs j)) z)
+        none : starts_with (owner ∷ stem client) (key_at Current b j) ≡ false → note_at rs j ≡ Other → own_role owner client r.0 ≡ note_at rs j
+        none s z = own-nowhere owner client r.0 (exact-at Current x.records j r x.exact e) (ap (starts_with (owner ∷ stem client)) (sym key) ∙ s) ∙ sym z
 
-        go : Dec (j < from) → Dec (j < stop) → own_role owner client r.0 ≡ note_at ks ns hs j
+        go : Dec (j < from) → Dec (j < stop) → own_role owner client r.0 ≡ note_at rs j
         go (yes u) v = none (S.before j u) (N.before j u)
         go (no u) (no v) = none (S.behind j (omega arith) in-book) (N.behind j (omega arith))
         go (no u) (yes v) = ap (own_role owner client) (sym key ∙ own_key j (omega arith) v) ∙ own-there owner client (stored_at b j) ∙ sym (N.inside j (omega arith) v)
 
 -- ---- the noting
-pub blank : (n : ℕ) → Blank (replicate n 0)
+pub blank : (n : ℕ) → Blank (replicate n Other)
 blank zero j = refl
 blank (suc n) zero = refl
 blank (suc n) (suc j) = blank n j
 
-pub note-start : (b client : List ℕ) (from : ℕ) (ks ns hs : List ℕ) → Blank ks → NotedFrom b client from from ks ns hs
-note-start b client from ks ns hs z = record { inside = λ j l k. absurd (let y : ⊥ = omega arith in y); before = λ j l. z j; behind = λ j l. z j }
+pub note-start : (b client : List ℕ) (from : ℕ) (rs : List Role) → Blank rs → NotedFrom b client from from rs
+note-start b client from rs z = record { inside = λ j l k. absurd (let y : ⊥ = omega arith in y); before = λ j l. z j; behind = λ j l. z j }
 
-module _ (b client : List ℕ) (from i : ℕ) (ks ns hs : List ℕ) (N : NotedFrom b client from i ks ns hs) (l : from ≤ i) (hk : i < length ks) (hn : i < length ns) (hh : i < length hs)
-    (k a c : ℕ) (role : role_at k (revision a c) ≡ role_of client (stored_at b i)) (ks' ns' hs' : List ℕ) (ek : ks' ≡ set ks i k) (en : ns' ≡ set ns i a) (eh : hs' ≡ set hs i c) where
-  kept : (xs xs' : List ℕ) (v j : ℕ) → xs' ≡ set xs i v → (j ≡ i → ⊥) → get_or xs' j 0 ≡ get_or xs j 0
-  kept xs xs' v j e o = ap (λ (z : List ℕ). get_or z j 0) e ∙ get_or-set_other xs i j v 0 o
+module _ (b client : List ℕ) (from i : ℕ) (rs : List Role) (N : NotedFrom b client from i rs) (l : from ≤ i) (room : i < length rs) (r : Role) (role : r ≡ role_of client (stored_at b i)) (rs' : List Role) (er : rs' ≡ set rs i r) where
+  kept : (j : ℕ) → (j ≡ i → ⊥) → note_at rs' j ≡ note_at rs j
+  kept j o = ap (λ (z : List Role). note_at z j) er ∙ get_or-set_other rs i j r Other o
 
-  new : (xs xs' : List ℕ) (v : ℕ) → xs' ≡ set xs i v → i < length xs → get_or xs' i 0 ≡ v
-  new xs xs' v e o = ap (λ (z : List ℕ). get_or z i 0) e ∙ get_or-set_same xs i v 0 o
-
-  note-made : (j x y z : ℕ) → get_or ks' j 0 ≡ x → get_or ns' j 0 ≡ y → get_or hs' j 0 ≡ z → note_at ks' ns' hs' j ≡ role_at x (revision y z)
-  note-made j x y z e f g =
-      ap (λ (m : ℕ). role_at m (revision_at ns' hs' j)) e
-      ∙ ap (λ (m : ℕ). role_at x (revision m (get_or hs' j 0))) f
-      ∙ ap (λ (m : ℕ). role_at x (revision y m)) g
-
-  inner : (j : ℕ) → from ≤ j → j < suc i → note_at ks' ns' hs' j ≡ role_of client (stored_at b j)
+  inner : (j : ℕ) → from ≤ j → j < suc i → note_at rs' j ≡ role_of client (stored_at b j)
   inner j lj hj = go (dec_lt j i)
     where
-      go : Dec (j < i) → note_at ks' ns' hs' j ≡ role_of client (stored_at b j)
-      go (yes u) =
-          let o : j ≡ i → ⊥ = λ e. omega arith in
-          note-made j (get_or ks j 0) (get_or ns j 0) (get_or hs j 0) (kept ks ks' k j ek o) (kept ns ns' a j en o) (kept hs hs' c j eh o) ∙ N.inside j lj u
+      go : Dec (j < i) → note_at rs' j ≡ role_of client (stored_at b j)
+      go (yes u) = kept j (λ e. let z : ⊥ = omega arith in z) ∙ N.inside j lj u
       go (no u) =
           let e : j ≡ i = omega arith in
-          ap (note_at ks' ns' hs') e ∙ note-made i k a c (new ks ks' k ek hk) (new ns ns' a en hn) (new hs hs' c eh hh) ∙ role ∙ ap (λ (m : ℕ). role_of client (stored_at b m)) (sym e)
+          ap (note_at rs') e ∙ ap (λ (z : List Role). note_at z i) er ∙ get_or-set_same rs i r Other room ∙ role ∙ ap (λ (m : ℕ). role_of client (stored_at b m)) (sym e)
 
-  noted_one : NotedFrom b client from (suc i) ks' ns' hs'
+  noted_one : NotedFrom b client from (suc i) rs'
   noted_one =
       record {
         inside = inner;
-        before = λ j u. kept ks ks' k j ek (λ e. let z : ⊥ = omega arith in z) ∙ N.before j u;
-        behind = λ j u. kept ks ks' k j ek (λ e. let z : ⊥ = omega arith in z) ∙ N.behind j (omega arith);
+        before = λ j u. kept j (λ e. let z : ⊥ = omega arith in z) ∙ N.before j u;
+        behind = λ j u. kept j (λ e. let z : ⊥ = omega arith in z) ∙ N.behind j (omega arith);
       }
 
-  pub note-next : (i' : ℕ) → i' ≡ i + 1 → NotedFrom b client from i' ks' ns' hs'
+  pub note-next : (i' : ℕ) → i' ≡ i + 1 → NotedFrom b client from i' rs'
   note-next i' e = let f : i' ≡ suc i = omega arith in rw f noted_one
 
 -- the noting ends where no slot is left
-pub note-end : (b client : List ℕ) (from i stop : ℕ) (ks ns hs : List ℕ) → NotedFrom b client from i ks ns hs → (from ≤ stop → i ≡ stop) → (stop < from → i ≡ from) → NotedFrom b client from stop ks ns hs
-note-end b client from i stop ks ns hs N e f = go (dec_lt stop from)
+pub note-end : (b client : List ℕ) (from i stop : ℕ) (rs : List Role) → NotedFrom b client from i rs → (from ≤ stop → i ≡ stop) → (stop < from → i ≡ from) → NotedFrom b client from stop rs
+note-end b client from i stop rs N e f = go (dec_lt stop from)
   where
-    go : Dec (stop < from) → NotedFrom b client from stop ks ns hs
+    go : Dec (stop < from) → NotedFrom b client from stop rs
     go (no u) = rw (← e (omega arith)) N
     go (yes u) = record { inside = λ j l k. absurd (let y : ⊥ = omega arith in y); before = N.before; behind = λ j l. all (f u) j (dec_lt j from) }
       where
-        all : i ≡ from → (j : ℕ) → Dec (j < from) → get_or ks j 0 ≡ 0
+        all : i ≡ from → (j : ℕ) → Dec (j < from) → note_at rs j ≡ Other
         all q j (yes v) = N.before j v
         all q j (no v) = N.behind j (omega arith)

@@ -3,16 +3,15 @@
 use Rattle.std.specs.Prelude.{◌≡◌, Bool, List, [], ◌∷◌, ◌++◌, ℕ, suc, ◌+◌, ◌≤◌, ◌<◌, ◌^◌, length, take, drop, get_or, Some}
 use Rattle.std.proofs.Math.Path.{refl, sym, ap}
 use Rattle.std.proofs.Common.{◌∙◌, add-one, arith, length-append, length-take, take-append-drop, drop_of_length-le, drop-cons, drop-drop, eqb-true}
-use Rattle.std.proofs.Math.Bool.{true, cond, false}
+use Rattle.std.proofs.Math.Bool.{true, cond}
 use Rattle.text.specs.Number.{decimal, numeral_of}
 use Rattle.text.specs.NumberLaws.{decimal-no-longer}
 use Rattle.text.specs.Part.{same, starts_with}
 use Rattle.text.specs.PartLaws.{same_refl}
 use Rattle.identifiers.specs.Check.{check_of}
 use Rattle.identifiers.specs.Check as check
-use Rattle.path.specs.Kinds.{Carried, carried, kinds, count}
-use Rattle.path.specs.Read.{number_in, render, parts_of, names_fault, name_fault, is_number}
-use Rattle.path.specs.Spelled.{spelled}
+use Rattle.path.specs.Kinds.{Carried, carried, kinds}
+use Rattle.path.specs.Read.{number_in, render, parts_of, names_fault, name_fault}
 use Rattle.path.specs.Text.{shown_of, part_of}
 use Rattle.path.specs.Valid.{ReadsAs, only}
 use Rattle.path.specs.BackLaws.{rendered-back, read_reads, read_short, number_u64, key-read}
@@ -27,7 +26,7 @@ use Rattle.writers.specs.Texts.{consensus_text}
 use Rattle.writers.specs.Texts as texts
 use Rattle.writers.specs.TextLaws.{client-text}
 use Rattle.book_records.specs.Calls.{Exact}
-use Rattle.book_clear.specs.declared.role.Role.TheVariants.{Other}
+use Rattle.book_clear.specs.declared.role.Role.TheVariants.{State, Other}
 use Rattle.book_clear.specs.Clear.{role_at, role_of}
 use Rattle.book_clear.specs.Notes.{stem, PlainState}
 use Rattle.book_clear.specs.RoleLaws.{role-by, stem-own, starts-take}
@@ -115,7 +114,7 @@ module _ (client k : List ℕ) (ok : check_of check.client client ≡ 0) (x : Ex
   reads_as : ReadsAs k 5 v
   reads_as = rw (rendered, all_of_it) at (rendered-back 5 v (record { least = omega arith; most = omega arith; names = named; a = P.1; b = P.2; size = short }))
 
-  pub note-five : role_at 5 (revision a b) ≡ role_of client k
+  pub note-five : State (revision a b) ≡ role_of client k
   note-five =
       let R = reads_as in
       let f : part_of k (carried_of R.path).first ≡ client = ap (λ (w : Carried (List ℕ)). w.first) R.carried in

@@ -1,6 +1,6 @@
 -- Laws of what a key is to a client.
 -- Assumes nothing.
-use Rattle.std.specs.Prelude.{◌≡◌, refl, Bool, true, false, cond, ◌&&◌, List, [], ◌∷◌, ◌++◌, ℕ, ◌+◌, ◌-◌, ◌≤◌, ◌<◌, eqb, length, take, drop, Ok, Err}
+use Rattle.std.specs.Prelude.{◌≡◌, refl, Bool, true, false, cond, ◌&&◌, List, [], ◌∷◌, ◌++◌, ℕ, ◌≤◌, eqb, length, take, drop, Ok, Err}
 use Rattle.std.proofs.Math.Path.{sym, ap}
 use Rattle.std.proofs.Common.{◌∙◌, append_assoc, arith, length-drop, length-take-le, take_at, eqb-true, eq-eqb, ne_eqb}
 use Rattle.std.proofs.lemmas.Bool.{eqb-false}
@@ -25,7 +25,7 @@ use Rattle.writers.specs.Texts as texts
 use Rattle.writers.specs.TextLaws.{client-text}
 use Rattle.book_records.specs.Calls.{Exact, Owned}
 use Rattle.book_oldest.specs.PrefixLaws.{starts-own}
-use Rattle.book_clear.specs.declared.role.Role.TheVariants.{State, Beside, Other}
+use Rattle.book_clear.specs.declared.role.Role.TheVariants.{Other}
 use Rattle.book_clear.specs.Clear.{role_at, role_by, role_of, own_role}
 use Rattle.book_clear.specs.Notes.{stem}
 
@@ -89,19 +89,6 @@ client_is c d k rest e l s =
 other-kind : (n : ℕ) (q : Revision) → (5 ≤ n → n ≤ 7 → ⊥) → role_at n q ≡ Other
 other-kind n q h = rw (ne_eqb n 5 (λ e. h (omega arith) (omega arith)), ne_eqb n 6 (λ e. h (omega arith) (omega arith)), ne_eqb n 7 (λ e. h (omega arith) (omega arith)))
 
--- the same as the code tells them apart
-pub role-five : (k : ℕ) (p : Revision) → k ≡ 5 → State p ≡ role_at k p
-role-five k p e = rw (eq-eqb k 5 e)
-
-pub role-six : (k : ℕ) (p : Revision) → k ≡ 6 → Beside p ≡ role_at k p
-role-six k p e = rw (ne_eqb k 5 (λ f. omega arith), eq-eqb k 6 e)
-
-pub role-seven : (k : ℕ) (p : Revision) → k ≡ 7 → Beside p ≡ role_at k p
-role-seven k p e = rw (ne_eqb k 5 (λ f. omega arith), ne_eqb k 6 (λ f. omega arith), eq-eqb k 7 e)
-
-pub role-none : (k : ℕ) (p : Revision) → (k ≡ 5 → ⊥) → (k ≡ 6 → ⊥) → (k ≡ 7 → ⊥) → Other ≡ role_at k p
-role-none k p e f g = rw (ne_eqb k 5 e, ne_eqb k 6 f, ne_eqb k 7 g)
-
 pub role-by : (client k : List ℕ) (p : Path) (x : Bool) → read_path k ≡ Read p x → role_of client k ≡ cond (same (shown_of k (carried_of p).first) client) (role_at (kind_of p) (revision (carried_of p).a (carried_of p).b)) Other
 unfolding role_of
 role-by client k p x q = ap (role_by client k) q
@@ -149,7 +136,7 @@ module _ (client k : List ℕ) (e : Exact k) (s : starts_with (stem client) k �
   unlike h false q = refl
   unlike h true q = absurd (h (len_is ∙ sym (shown-size k e p x reads) ∙ ap length (same-is (shown_of k (carried_of p).first) client q)))
 
-  pub note-other : (v.first.len ≡ length client → ⊥) → role_at 0 (revision 0 0) ≡ role_of client k
+  pub note-other : (v.first.len ≡ length client → ⊥) → Other ≡ role_of client k
   note-other h = sym (role-by client k p x reads ∙ ap (λ (t : Bool). cond t (role_at (kind_of p) (revision (carried_of p).a (carried_of p).b)) Other) (unlike h (same (shown_of k (carried_of p).first) client) refl))
 
   alike : v.first.len ≡ length client → 5 ≤ kind_of p → kind_of p ≤ 7 → same (shown_of k (carried_of p).first) client ≡ true

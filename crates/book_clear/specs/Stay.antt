@@ -22,5 +22,5 @@ leaves t (Beside p) = leaves_at t p
 leaves t Other = false
 
 -- what stays is what does not go, by the first n slots that are noted
-abbrev pub StayIs : List ℕ → List ℕ → List ℕ → ℕ → ℕ → Stay → Type 0
-StayIs ks ns hs n keep t = (p : Revision) → leaves_at t p ≡ goes_with keep (noted_that (λ q. true) ks ns hs n) (noted_that (λ q. below p q) ks ns hs n)
+abbrev pub StayIs : List Role → ℕ → ℕ → Stay → Type 0
+StayIs rs n keep t = (p : Revision) → leaves_at t p ≡ goes_with keep (noted_that (λ q. true) rs n) (noted_that (λ q. below p q) rs n)

@@ -23,6 +23,7 @@ use Rattle.book_form.specs.Version.{quotas_in}
 use Rattle.book.specs.Book.{Current, Book, Counts}
 use Rattle.book.specs.BookLaws.{lawful, one-book, few-records, sizes, fit_at, slot-there}
 use Rattle.book.specs.ShareLaws.{told_of}
+use Rattle.book_clear.specs.declared.role.Role.{Role}
 use Rattle.book_clear.specs.declared.states.Stay.{Stay}
 use Rattle.book_clear.specs.Notes.{note_at}
 use Rattle.book_clear.specs.Stay.{leaves}
@@ -62,25 +63,25 @@ pub record Front {b : List ℕ} (x : Book Current b) (leave : Rec → Bool) (b�
   pub bytes : take (12 + 322 * kept) b₁ ≡ Current.header x.extra (length x.records) ++ slots Current (without leave (take i x.records))
 
 -- and from slot i on nothing has changed
-pub record SweptTo (b ks ns hs : List ℕ) (t : Stay) (b₁ : List ℕ) (i kept : ℕ) : Type 0 where
+pub record SweptTo (b : List ℕ) (rs : List Role) (t : Stay) (b₁ : List ℕ) (i kept : ℕ) : Type 0 where
   pub size : length b₁ ≡ length b
   pub rest : drop (12 + 322 * i) b₁ ≡ drop (12 + 322 * i) b
-  pub front : (x : Book Current b) (leave : Rec → Bool) → LeaveIs x.records ks ns hs t leave → Front x leave b₁ i kept
+  pub front : (x : Book Current b) (leave : Rec → Bool) → LeaveIs x.records rs t leave → Front x leave b₁ i kept
 
 -- the same bytes and the same number
-pub swept_same : {b ks ns hs : List ℕ} {t : Stay} {b₁ : List ℕ} {i kept : ℕ} → SweptTo b ks ns hs t b₁ i kept → (b₂ : List ℕ) (m : ℕ) → b₂ ≡ b₁ → m ≡ kept → SweptTo b ks ns hs t b₂ i m
+pub swept_same : {b : List ℕ} {rs : List Role} {t : Stay} {b₁ : List ℕ} {i kept : ℕ} → SweptTo b rs t b₁ i kept → (b₂ : List ℕ) (m : ℕ) → b₂ ≡ b₁ → m ≡ kept → SweptTo b rs t b₂ i m
 swept_same g b₂ m e f = rw (e, f) g
 
-pub swept-start : (b ks ns hs : List ℕ) (t : Stay) → SweptTo b ks ns hs t b 0 0
+pub swept-start : (b : List ℕ) (rs : List Role) (t : Stay) → SweptTo b rs t b 0 0
 unfolding without slots layout
-swept-start b ks ns hs t =
+swept-start b rs t =
     record {
       size = refl;
       rest = refl;
       front = λ x leave l. record { count = refl; bytes = ap (λ (l : List ℕ). take 12 l) x.bytes ∙ take_at (Current.header x.extra (length x.records)) _ 12 (lawful.header-length x.extra (length x.records)) ∙ sym (append-nil _) };
     }
 
-module _ (b : List ℕ) (n : ℕ) (h : Counts Current b n) (ks ns hs : List ℕ) (t : Stay) (b₁ : List ℕ) (i kept : ℕ) (g : SweptTo b ks ns hs t b₁ i kept) where
+module _ (b : List ℕ) (n : ℕ) (h : Counts Current b n) (rs : List Role) (t : Stay) (b₁ : List ℕ) (i kept : ℕ) (g : SweptTo b rs t b₁ i kept) where
   count-any : (x : Book Current b) → length x.records ≡ n
   count-any x = ap length (one-book Current lawful b x h.0).2 ∙ h.1
 
@@ -93,12 +94,12 @@ module _ (b : List ℕ) (n : ℕ) (h : Counts Current b n) (ks ns hs : List ℕ)
       let z : 12 + 322 * (i + 1) ≡ 12 + 322 * i + 322 = omega arith in
       ap (λ (m : ℕ). drop m c) z ∙ sym (drop-drop 322 (12 + 322 * i) c) ∙ ap (λ (l : List ℕ). drop 322 l) e ∙ drop-drop 322 (12 + 322 * i) b ∙ ap (λ (m : ℕ). drop m b) (sym z)
 
-  module _ (l : i < n) (v : Bool) (ev : v ≡ leaves t (note_at ks ns hs i)) where
+  module _ (l : i < n) (v : Bool) (ev : v ≡ leaves t (note_at rs i)) where
     -- the record of slot i
     there : (x : Book Current b) → (r : Rec) × (get_elem? x.records i ≡ some r)
     there x = at_some x.records i (omega (arith, count-any x))
 
-    pub swept-left : v ≡ true → SweptTo b ks ns hs t b₁ (i + 1) kept
+    pub swept-left : v ≡ true → SweptTo b rs t b₁ (i + 1) kept
     swept-left f =
         record {
           size = g.size;
@@ -119,7 +120,7 @@ module _ (b : List ℕ) (n : ℕ) (h : Counts Current b n) (ks ns hs : List ℕ)
           ∙ ap (λ (q : List ℕ). take 322 q) (g.rest ∙ s.1)
           ∙ take_at (Current.slot r) s.0 322 (lawful.slot-length r (fit_at Current x.records i r x.fit e))
 
-      pub swept_kept : v ≡ false → SweptTo b ks ns hs t b₂ (i + 1) (kept + 1)
+      pub swept_kept : v ≡ false → SweptTo b rs t b₂ (i + 1) (kept + 1)
       unfolding slots
       swept_kept f =
           record {
@@ -142,7 +143,7 @@ module _ (b : List ℕ) (n : ℕ) (h : Counts Current b n) (ks ns hs : List ℕ)
                 };
           }
 
-  pub swept-end : i ≡ n → kept ≤ i → (b₂ : List ℕ) → b₂ ≡ removed Current (quotas_in b₁) kept n n b₁ → Swept b ks ns hs t (n - kept) b₂
+  pub swept-end : i ≡ n → kept ≤ i → (b₂ : List ℕ) → b₂ ≡ removed Current (quotas_in b₁) kept n n b₁ → Swept b rs t (n - kept) b₂
   unfolding slots layout
   swept-end ei k b₂ e x leave w = (omega (arith, length_parted leave s, lens, len), e ∙ ap (λ (q : Quotas). removed Current q kept n n b₁) told ∙ ap (removed Current x.extra kept n n) parts ∙ layout-removed Current lawful x.slots x.extra hd a gap [] kept n n (lawful.header-length x.extra (length s)) fits tt lens (omega arith) lgap (omega arith) (omega (arith, few-records Current lawful b x, len)) ∙ ap (layout Current x.slots x.extra) (append-nil a))
     where

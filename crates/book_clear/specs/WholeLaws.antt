@@ -36,21 +36,21 @@ total_up : (f : Rec → ℕ) (w : ℕ → ℕ) (s : List Rec) → ((j : ℕ) (r 
 total_up f w [] h = refl
 total_up f w (r ∷ s) h = omega (arith, up-cons w (length s), h 0 r refl, total_up f (λ j. w (suc j)) s (λ j q e. h (suc j) q e))
 
-module _ (b : List ℕ) (n : ℕ) (h : Counts Current b n) (owner : ℕ) (client ks ns hs : List ℕ) (N : Noted b owner client ks ns hs) (keep : ℕ) (t : Stay) (T : StayIs ks ns hs n keep t) (x : Book Current b) where
+module _ (b : List ℕ) (n : ℕ) (h : Counts Current b n) (owner : ℕ) (client : List ℕ) (rs : List Role) (N : Noted b owner client rs) (keep : ℕ) (t : Stay) (T : StayIs rs n keep t) (x : Book Current b) where
   count-any : length x.records ≡ n
   count-any = ap length (one-book Current lawful b x h.0).2 ∙ h.1
 
-  states_are : (f : Revision → Bool) → states_that owner client f x.records ≡ noted_that f ks ns hs n
+  states_are : (f : Revision → Bool) → states_that owner client f x.records ≡ noted_that f rs n
   unfolding states_that
   states_are f =
-      total_up (λ r. state_that f (own_role owner client r.0)) (λ j. state_that f (note_at ks ns hs j)) x.records (λ j r e. ap (state_that f) (N x j r e))
-      ∙ ap (noted_that f ks ns hs) count-any
+      total_up (λ r. state_that f (own_role owner client r.0)) (λ j. state_that f (note_at rs j)) x.records (λ j r e. ap (state_that f) (N x j r e))
+      ∙ ap (noted_that f rs) count-any
 
   goes-is : (p : Revision) → goes_at owner client keep x.records p ≡ leaves_at t p
   unfolding goes_at
   goes-is p =
       ap (λ (m : ℕ). goes_with keep m (states_that owner client (λ q. below p q) x.records)) (states_are (λ q. true))
-      ∙ ap (goes_with keep (noted_that (λ q. true) ks ns hs n)) (states_are (λ q. below p q))
+      ∙ ap (goes_with keep (noted_that (λ q. true) rs n)) (states_are (λ q. below p q))
       ∙ sym (T p)
 
   by-role : (r : Role) → goes_as owner client keep x.records r ≡ leaves t r
@@ -58,13 +58,13 @@ module _ (b : List ℕ) (n : ℕ) (h : Counts Current b n) (owner : ℕ) (client
   by-role (Beside p) = goes-is p
   by-role Other = refl
 
-  leave-is : LeaveIs x.records ks ns hs t (goes owner client keep x.records)
+  leave-is : LeaveIs x.records rs t (goes owner client keep x.records)
   unfolding goes
-  leave-is j r e = ap (goes_as owner client keep x.records) (N x j r e) ∙ by-role (note_at ks ns hs j)
+  leave-is j r e = ap (goes_as owner client keep x.records) (N x j r e) ∙ by-role (note_at rs j)
 
 -- what is swept by what is noted is what goes
-pub cleared_by : (b : List ℕ) (n : ℕ) → Counts Current b n → (owner : ℕ) (client : List ℕ) (from stop : ℕ) → Stretched b owner client n from stop → (ks ns hs : List ℕ) → NotedFrom b client from stop ks ns hs → (keep : ℕ) (t : Stay) → StayIs ks ns hs n keep t → (r : ℕ) (b₁ : List ℕ) → Swept b ks ns hs t r b₁ → ClearedOf b owner client keep r b₁
-cleared_by b n h owner client from stop S ks ns hs N keep t T r b₁ W x = W x (goes owner client keep x.records) (leave-is b n h owner client ks ns hs (noted b n h owner client from stop S ks ns hs N) keep t T x)
+pub cleared_by : (b : List ℕ) (n : ℕ) → Counts Current b n → (owner : ℕ) (client : List ℕ) (from stop : ℕ) → Stretched b owner client n from stop → (rs : List Role) → NotedFrom b client from stop rs → (keep : ℕ) (t : Stay) → StayIs rs n keep t → (r : ℕ) (b₁ : List ℕ) → Swept b rs t r b₁ → ClearedOf b owner client keep r b₁
+cleared_by b n h owner client from stop S rs N keep t T r b₁ W x = W x (goes owner client keep x.records) (leave-is b n h owner client rs (noted b n h owner client from stop S rs N) keep t T x)
 
 -- ---- the call
 module _ (b : List ℕ) (owner : ℕ) (client : List ℕ) (keep n : ℕ) (h : Counts Current b n) (t : Bool) (et : t ≡ is_owner owner) where

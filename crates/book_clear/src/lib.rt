@@ -15,6 +15,7 @@ ghost use Rattle.book_clear.specs.Whole.{ClearedOf};
 
 use book::check::{check_book, is_owner};
 use book_form::Version;
+use role::Role;
 use states::stay_of;
 use stretch::{note_slots, stretch_of};
 use sweep::sweep;
@@ -34,21 +35,11 @@ fn clear_client(book: &mut [u8], n: usize, owner: u8, client: &[u8], keep: u64) 
     requires client_value { check_of check.client client.now ≡ 0 }
     ensures { ClearedOf book.old owner client.now keep result book.new }
 {
-    let mut kinds = [0u8; 200];
-    let mut numbers = [0u64; 200];
-    let mut heights = [0u64; 200];
-    let s = stretch_of(book, n, owner, client);
-    note_slots(
-        book,
-        s.from,
-        s.stop,
-        client,
-        &mut kinds,
-        &mut numbers,
-        &mut heights,
-    );
-    let stay = stay_of(&kinds, &numbers, &heights, n, keep);
-    sweep(book, n, &kinds, &numbers, &heights, stay)
+    let mut roles = [Role::Other; 200];
+    let slots = stretch_of(book, n, owner, client);
+    note_slots(book, slots, client, &mut roles);
+    let stay = stay_of(&roles, n, keep);
+    sweep(book, n, &roles, stay)
 }
 
 // Keeps the `keep` states of an owner's client with the greatest revisions, and removes the others, and each processed time and

@@ -1,12 +1,11 @@
 // What the keys of a book are to a client, noted slot by slot.
-ghost use Rattle.std.specs.Prelude.{◌≡◌, true, ◌≤◌, ◌<◌, length, get_or};
+ghost use Rattle.std.specs.Prelude.{◌≡◌, true, ◌≤◌, ◌<◌, length};
 ghost use Rattle.text.specs.Part.{starts_with};
 ghost use Rattle.identifiers.specs.Check.{check_of};
 ghost use Rattle.identifiers.specs.Check as check;
-ghost use Rattle.path.specs.Revision.{revision};
 ghost use Rattle.book_records.specs.Calls.{Exact};
 ghost use Rattle.book_clear.specs.Clear.{role_at, role_of};
-ghost use Rattle.book_clear.specs.Notes.{stem, PlainState, revision_at, note_at};
+ghost use Rattle.book_clear.specs.Notes.{stem, PlainState, revision_of, revision_at};
 
 use path::{Revision, RevisionHeight, RevisionNumber};
 use walk_scan::number::number;
@@ -17,24 +16,6 @@ pub enum Role {
     State(Revision),
     Beside(Revision),
     Other,
-}
-
-// What is noted of a key: its kind and its revision, or kind 0.
-#[derive(Clone, Copy)]
-pub(crate) struct Note {
-    pub(crate) kind: u8,
-    pub(crate) number: u64,
-    pub(crate) height: u64,
-}
-
-fn no_note() -> Note
-    ensures { result.kind ≡ 0 }
-{
-    Note {
-        kind: 0,
-        number: 0,
-        height: 0,
-    }
 }
 
 // The revision of a key that has R-h in plain digits from `at` to its end: a state, where a client's stem is ahead of them.
@@ -60,71 +41,65 @@ fn plain_state(key: &[u8], at: usize) -> Option<Revision>
     })
 }
 
-// What is to be noted of an exact key that begins as the client's do, by the walk. A client that has as many bytes is the same then.
-fn note_walked(key: &[u8], client: &[u8]) -> Note
-    requires { Exact key.now × (starts_with (stem client.now) key.now ≡ true) }
-    ensures { role_at result.kind (revision result.number result.height) ≡ role_of client.now key.now }
+// What a kind and a revision are.
+fn role_at(kind: u8, p: Revision) -> Role
+    ensures { result ≡ role_at kind p }
 {
-    let Ok(v) = walk::walk_view(key) else {
-        return no_note();
-    };
-    let first = v.first;
-    if first.len != client.len() {
-        return no_note();
-    }
-    Note {
-        kind: v.kind,
-        number: v.a,
-        height: v.b,
+    match kind {
+        5 => Role::State(p),
+        6 | 7 => Role::Beside(p),
+        _ => Role::Other,
     }
 }
 
+// What an exact key is that begins as the client's do, by the walk. A client that has as many bytes is the same then.
+fn role_walked(key: &[u8], client: &[u8]) -> Role
+    requires { Exact key.now × (starts_with (stem client.now) key.now ≡ true) }
+    ensures { result ≡ role_of client.now key.now }
+{
+    let Ok(v) = walk::walk_view(key) else {
+        return Role::Other;
+    };
+    let first = v.first;
+    if first.len != client.len() {
+        return Role::Other;
+    }
+    let p = Revision {
+        number: RevisionNumber(v.a),
+        height: RevisionHeight(v.b),
+    };
+    role_at(v.kind, p)
+}
+
 // The same: most are states, whose numbers are all that is read.
-pub(crate) fn note_of(key: &[u8], client: &[u8]) -> Note
+pub(crate) fn role_of(key: &[u8], client: &[u8]) -> Role
     requires { Exact key.now × (starts_with (stem client.now) key.now ≡ true) × (check_of check.client client.now ≡ 0) }
-    ensures { role_at result.kind (revision result.number result.height) ≡ role_of client.now key.now }
+    ensures { result ≡ role_of client.now key.now }
 {
     match plain_state(key, client.len() + 25) {
-        Some(state) => Note {
-            kind: 5,
-            number: state.number.0,
-            height: state.height.0,
+        Some(state) => Role::State(state),
+        None => role_walked(key, client),
+    }
+}
+
+// The revision that a role has; 0-0 where it has none.
+fn revision_of(role: Role) -> Revision
+    ensures { result ≡ revision_of role }
+{
+    match role {
+        Role::State(p) => p,
+        Role::Beside(p) => p,
+        Role::Other => Revision {
+            number: RevisionNumber(0),
+            height: RevisionHeight(0),
         },
-        None => note_walked(key, client),
     }
 }
 
 // The revision that is noted of slot i.
-pub(crate) fn revision_at(numbers: &[u64], heights: &[u64], i: usize) -> Revision
-    requires { (i < length numbers.now) × (i < length heights.now) }
-    ensures { result ≡ revision_at numbers.now heights.now i }
+pub(crate) fn revision_at(roles: &[Role], i: usize) -> Revision
+    requires { i < length roles.now }
+    ensures { result ≡ revision_at roles.now i }
 {
-    Revision {
-        number: RevisionNumber(numbers[i]),
-        height: RevisionHeight(heights[i]),
-    }
-}
-
-// What a kind and a revision are.
-fn role_of(kind: u8, p: Revision) -> Role
-    ensures { result ≡ role_at kind p }
-{
-    if kind == 5 {
-        return Role::State(p);
-    }
-    if kind == 6 {
-        return Role::Beside(p);
-    }
-    if kind == 7 {
-        return Role::Beside(p);
-    }
-    Role::Other
-}
-
-// What slot i is, as it is noted.
-pub(crate) fn role_at(kinds: &[u8], numbers: &[u64], heights: &[u64], i: usize) -> Role
-    requires { (i < length kinds.now) × (i < length numbers.now) × (i < length heights.now) }
-    ensures { result ≡ note_at kinds.now numbers.now heights.now i }
-{
-    role_of(kinds[i], revision_at(numbers, heights, i))
+    revision_of(roles[i])
 }

@@ -5,7 +5,7 @@ ghost use Rattle.book.specs.Book.{Current, Counts};
 ghost use Rattle.book_clear.specs.Stay.{leaves_at, leaves};
 ghost use Rattle.book_clear.specs.Sweep.{Swept};
 
-use crate::role::{Role, role_at};
+use crate::role::Role;
 use crate::states::Stay;
 use book_form::{close_gap, lower_slot};
 use path::{Revision, is_below};
@@ -42,21 +42,14 @@ fn move_down(book: &mut [u8], i: usize, kept: usize)
 }
 
 // Takes the records that do not stay out of a book with n records, and answers how many went. Each slot moves at most once.
-pub(crate) fn sweep(
-    book: &mut [u8],
-    n: usize,
-    kinds: &[u8],
-    numbers: &[u64],
-    heights: &[u64],
-    stay: Stay,
-) -> usize
+pub(crate) fn sweep(book: &mut [u8], n: usize, roles: &[Role], stay: Stay) -> usize
     requires counts { Counts Current book.old n }
-    requires kinds_len { (length kinds.now ≡ 200) × (length numbers.now ≡ 200) × (length heights.now ≡ 200) }
-    ensures { Swept book.old kinds.now numbers.now heights.now stay result book.new }
+    requires roles_len { length roles.now ≡ 200 }
+    ensures { Swept book.old roles.now stay result book.new }
 {
     let mut kept = 0;
     for i in 0..n {
-        if !leaves(stay, role_at(kinds, numbers, heights, i)) {
+        if !leaves(stay, roles[i]) {
             move_down(book, i, kept);
             kept += 1;
         }

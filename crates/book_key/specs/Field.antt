@@ -15,18 +15,16 @@ loose_by Plain (Ok v) = not v.exact
 loose_by Plain (Err w) = false
 loose_by Lenient x = false
 
--- the kind of a flat reading, 0 beside a refusal
+-- the kind of a flat reading, 0 where nothing was read
 abbrev pub kind_seen : Result PathView Refusal → ℕ
 kind_seen (Ok v) = v.kind
 kind_seen (Err w) = 0
-
-abbrev pub kind_beside : ℕ → Result PathView Refusal → ℕ
-kind_beside n x = cond (eqb n 0) (kind_seen x) 0
 
 -- the kind of a key that a field of 255 bytes takes
 unfoldable pub kind_made : Wanted → ℕ
 kind_made (refused n) = 0
 kind_made (text k) = cond (leb (length k) 255) (kind_in k) 0
 
-unfoldable pub made_key : Wanted → MadeKey
-made_key w = let a = key_answer w in record { refusal = a.refusal; kind = kind_made w; key = record { bytes = left w (replicate 255 0); len = a.length } }
+-- the key with its kind, or its refusal
+unfoldable pub made_key : Wanted → Result MadeKey ℕ
+made_key w = let a = key_answer w in cond (eqb a.refusal 0) (Ok (record { kind = kind_made w; key = record { bytes = left w (replicate 255 0); len = a.length } })) (Err a.refusal)

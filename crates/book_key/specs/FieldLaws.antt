@@ -1,8 +1,8 @@
 -- What the reading of a text tells of the key's field: the loose texts, the answer of the writer of keys, and the key's kind.
 -- Assumes nothing.
-use Rattle.std.specs.Prelude.{ℕ, ◌≡◌, Bool, true, false, cond, not, List, eqb, leb, length, Result, Ok, Err}
+use Rattle.std.specs.Prelude.{ℕ, ◌≡◌, Bool, true, false, cond, not, List, leb, length, Result, Ok, Err}
 use Rattle.std.proofs.Math.Path.{refl}
-use Rattle.std.proofs.Common.{sym, ap, ◌∙◌, eq-eqb, ne_eqb}
+use Rattle.std.proofs.Common.{sym, ap, ◌∙◌, arith}
 use Rattle.text.specs.Put.{Wanted}
 use Rattle.text.specs.Put as buffer
 use Rattle.text.specs.Refusal as refusal
@@ -17,7 +17,7 @@ use Rattle.book_records.specs.declared.Manner.TheVariants.{Plain, Lenient}
 use Rattle.book_records.specs.Calls.{kind_by, kind_in, is_loose, key_for, key_answer}
 use Rattle.book_records.specs.MannerLaws.{key-kind, KeyFor, unread, other, own, key_for_lem, read-loose, read_taken}
 use Rattle.book_records.specs.TextLaws.{answer-long, answer-other, for-own}
-use Rattle.book_key.specs.Field.{loose_by, kind_seen, kind_beside, kind_made}
+use Rattle.book_key.specs.Field.{loose_by, kind_seen, kind_made}
 
 -- ---- which flat readings are loose
 pub unread-taken : (m : Manner) (x : Result PathView Refusal) (w : Refusal) → x ≡ Err w → false ≡ loose_by m x
@@ -64,33 +64,21 @@ module _ (m : Manner) (t : List ℕ) (x : Result PathView Refusal) (by : x ≡ v
     field_fits h = written ∙ sym (answer-other (key_for m t) (λ q. h (ap (λ (v : Written). v.refusal) written ∙ q)))
 
 -- ---- the kind
-pub beside-refusal : (n : ℕ) (x : Result PathView Refusal) → (n ≡ 0 → ⊥) → 0 ≡ kind_beside n x
-beside-refusal n x h = rw (ne_eqb n 0 h)
-
-pub beside-unread : (n : ℕ) (x : Result PathView Refusal) (w : Refusal) → n ≡ 0 → x ≡ Err w → 0 ≡ kind_beside n x
-beside-unread n x w h e = rw (eq-eqb n 0 h, e)
-
-pub beside-seen : (n : ℕ) (x : Result PathView Refusal) (v : PathView) → n ≡ 0 → x ≡ Ok v → v.kind ≡ kind_beside n x
-beside-seen n x v h e = rw (eq-eqb n 0 h, e)
-
 kind-read : (r : Reading) → kind_seen (viewed_by r) ≡ kind_by r
 unfolding viewed_by view_of
 kind-read (Ok r) = refl
 kind-read (Err w) = refl
 
--- beside the field's refusal it is the key's
-pub kind-made : (m : Manner) (t : List ℕ) (x : Result PathView Refusal) → x ≡ viewed_by (read_path t) → (n : ℕ) → n ≡ (key_answer (key_for m t)).refusal → kind_beside n x ≡ kind_made (key_for m t)
+-- where the field takes the key it is the key's
+pub kind-made : (m : Manner) (t : List ℕ) (x : Result PathView Refusal) → x ≡ viewed_by (read_path t) → (key_answer (key_for m t)).refusal ≡ 0 → kind_seen x ≡ kind_made (key_for m t)
 unfolding kind_made key_answer kind_in
-kind-made m t x by n h = rw h (go (key_for_lem m t) refl)
+kind-made m t x by z = go (key_for_lem m t) refl z
   where
-    seen-kind : (k : List ℕ) → key_of t ≡ buffer.text k → kind_seen x ≡ kind_in k
-    seen-kind k e = ap kind_seen by ∙ kind-read (read_path t) ∙ key-kind t k e
-
-    go : {w : Wanted} → KeyFor m t w → key_for m t ≡ w → kind_beside (key_answer w).refusal x ≡ kind_made w
-    go (unread {n = j} e) q = rw (ne_eqb j 0 (for-own m t j q).refused)
-    go (other e s) q = refl
-    go (own {k = k} e s) q = fits (leb (length k) 255)
+    go : {w : Wanted} → KeyFor m t w → key_for m t ≡ w → (key_answer w).refusal ≡ 0 → kind_seen x ≡ kind_made w
+    go (unread {n = j} e) q z = absurd ((for-own m t j q).refused z)
+    go (other e s) q z = let y : ◌≡◌ {A = ℕ} 20 0 = z in absurd (omega (arith, y))
+    go (own {k = k} e s) q z = fits (leb (length k) 255) z
       where
-        fits : (v : Bool) → kind_beside (cond v (buffer.done (length k)) (buffer.refusal refusal.key_too_long)).refusal x ≡ cond v (kind_in k) 0
-        fits true = seen-kind k e
-        fits false = refl
+        fits : (v : Bool) → (cond v (buffer.done (length k)) (buffer.refusal refusal.key_too_long)).refusal ≡ 0 → kind_seen x ≡ cond v (kind_in k) 0
+        fits true z = ap kind_seen by ∙ kind-read (read_path t) ∙ key-kind t k e
+        fits false z = let y : ◌≡◌ {A = ℕ} 10 0 = z in absurd (omega (arith, y))

@@ -6,7 +6,7 @@ ghost use Rattle.text.specs.Put.{left};
 ghost use Rattle.path.specs.Read.{read_path};
 ghost use Rattle.path.specs.View.{viewed_by};
 ghost use Rattle.book_records.specs.Calls.{key_for, key_answer};
-ghost use Rattle.book_key.specs.Field.{loose_by, kind_beside, made_key};
+ghost use Rattle.book_key.specs.Field.{loose_by, kind_seen, made_key};
 
 use book_records::Manner;
 use key::write_read;
@@ -22,10 +22,9 @@ pub struct Key {
     pub len: usize,
 }
 
-// The key of a text and its kind, or a refusal number beside an empty one and 0.
+// The key of a text and its kind.
 #[derive(Drop)]
 pub struct MadeKey {
-    pub refusal: u8,
     pub kind: u8,
     pub key: Key,
 }
@@ -43,13 +42,10 @@ fn is_loose(manner: Manner, read: Result<PathView, Refusal>) -> bool
     }
 }
 
-// The kind of what was read; 0 beside a refusal.
-fn kind_beside(refusal: u8, read: Result<PathView, Refusal>) -> u8
-    ensures { result ≡ kind_beside refusal read }
+// The kind of what was read; 0 where nothing was.
+fn kind_seen(read: Result<PathView, Refusal>) -> u8
+    ensures { result ≡ kind_seen read }
 {
-    if refusal != 0 {
-        return 0;
-    }
     let Ok(v) = read else {
         return 0;
     };
@@ -85,20 +81,19 @@ fn key_into(
 }
 
 // The key of a text in a call of that manner: 1, 2, 3 (17, 18, 19), in a plain call 20, 10.
-pub fn key_of(manner: Manner, text: &[u8]) -> MadeKey
+pub fn key_of(manner: Manner, text: &[u8]) -> Result<MadeKey, u8>
     ensures { result ≡ made_key (key_for manner text.now) }
 {
     let mut bytes = [0u8; 255];
     let read = walk_view(text);
     let made = key_into(manner, text, read, &mut bytes);
     let refusal = made.refusal;
-    let kind = kind_beside(refusal, read);
-    MadeKey {
-        refusal,
-        kind,
-        key: Key {
-            bytes,
-            len: made.length as usize,
-        },
+    if refusal != 0 {
+        return Err(refusal);
     }
+    let len = made.length as usize;
+    Ok(MadeKey {
+        kind: kind_seen(read),
+        key: Key { bytes, len },
+    })
 }

@@ -48,11 +48,10 @@ pub(crate) fn look_text(
     requires owner_value { (is_owner owner ≡ true) × (64 ≤ length out.old) }
     ensures { Looked Current Plain book.now owner text.now out.old result out.new }
 {
-    let made = key_of(Manner::Plain, text);
-    let refusal = made.refusal;
-    if refusal != 0 {
-        return Written { refusal, length: 0 };
-    }
+    let made = match key_of(Manner::Plain, text) {
+        Ok(made) => made,
+        Err(refusal) => return Written { refusal, length: 0 },
+    };
     let key = made.key;
     let bytes = key.bytes;
     let len = key.len;

@@ -32,14 +32,13 @@ use Rattle.wide.specs.Render.{render_in, text_in}
 use Rattle.book_records.specs.declared.Manner.TheVariants.{Plain, Lenient}
 use Rattle.book_records.specs.Calls.{write, remove, key_for}
 use Rattle.book_key.specs.declared.MadeKey.{MadeKey}
-use Rattle.book_key.specs.Field.{made_key}
 use Rattle.iteration.specs.Block.{block_of, first_above, last_below, scanned}
 use Rattle.iteration.specs.Key.{iteration_key, key_revision, answered, pair_of}
 use Rattle.packet.specs.Key.{packet_wanted, packet_of}
 use Rattle.demands.specs.Numbers.{readings, renderings, clients, ends, wide_readings, wide_renderings, wide_clients, wide_ends, packet_reads, packet_writes, write_numbers, remove_numbers, look_numbers, new_numbers, convert_numbers, convert_owners_numbers, oldest_numbers, clear_numbers, fill_numbers, many_numbers, named, indexes, wide_named, wide_indexes, names, wide_names, unread, room, key_numbers}
-use Rattle.demands.specs.Shape.{Listed, AllZero, number_in, others_in, Demand1}
+use Rattle.demands.specs.Shape.{Listed, number_in, others_in, Demand1}
 use Rattle.demands.specs.ShapeLaws.{writes, writes-number, checks, key_wants, reading_wants, render_wants, client_wants, channel_wants, leaf_wants, update_wants, parent_wants, packets_wants, plain_of, indexed_of, name_of, named-number, chars-number, length-number, prefix-number, named-index-number, bytes_wants, answer-listed}
-use Rattle.demands.specs.FunctionShapeLaws.{within-number, wide_chars-number, reading-number, shown_wants, written_listed, owned, made-number, key-listed, key-empty}
+use Rattle.demands.specs.FunctionShapeLaws.{within-number, wide_chars-number, reading-number, shown_wants, written_listed, owned, made-number, made-alone, key-listed, key-number}
 use Rattle.demands.specs.WideShapeLaws as wides
 use Rattle.demands.specs.IterationLaws.{pairs, key-refuses, scan-refuses}
 use Rattle.demands.specs.PacketLaws.{packet_wants, packets}
@@ -597,14 +596,13 @@ wide_validate_channel_identifier_holds = checks wide_indexes (λ κs a. tt) (λ 
 pub wide_name_fault_holds : Demand1 wide-name-fault.Pre wide-name-fault.Post wide_names (λ κs r. r) (λ κs r. []) (λ κs a. []) (λ κs s. [])
 wide_name_fault_holds = checks wide_names (λ κs a. tt) (λ κs r. r) (λ κs a r s p. subst (Listed wide_names) (sym p) (wides.name_of (Listed wide_names) refl refl refl refl refl refl refl refl refl _ _))
 
--- ---- owned keys and identifiers: a refused key has length 0 and an array of zeros beside it, and with a refused identifier there is none
-pub key_of_holds : Demand1 key_of_it.Pre key_of_it.Post key_numbers (λ κs r. r.refusal) (λ κs r. r.kind ∷ r.key.len ∷ r.key.bytes) (λ κs a. []) (λ κs s. [])
-unfolding made_key
+-- ---- owned keys and identifiers: with a refusal there is none
+pub key_of_holds : Demand1 key_of_it.Pre key_of_it.Post key_numbers (λ κs r. number_in (λ (n : ℕ). n) r) (λ κs r. others_in (λ (x : MadeKey). x.kind ∷ x.key.len ∷ x.key.bytes) r) (λ κs a. []) (λ κs s. [])
 key_of_holds =
     record {
       accepts = λ κs a. tt;
-      numbered = λ κs a r s p. subst (λ (x : MadeKey). Listed key_numbers x.refusal) (sym p) (key-listed a.0 a.1.0.now);
-      nothing_else = λ κs a r s p h. subst (λ (x : MadeKey). AllZero (x.kind ∷ x.key.len ∷ x.key.bytes)) (sym p) (key-empty (key_for a.0 a.1.0.now) (λ z. h (ap (λ (x : MadeKey). x.refusal) p ∙ z)));
+      numbered = λ κs a r s p. subst (Listed key_numbers) (sym (ap (number_in (λ (n : ℕ). n)) p ∙ key-number (key_for a.0 a.1.0.now))) (key-listed a.0 a.1.0.now);
+      nothing_else = λ κs a r s p h. made-alone (λ (n : ℕ). n) (λ (x : MadeKey). x.kind ∷ x.key.len ∷ x.key.bytes) r h;
       keeps = λ κs a r s p h. refl;
     }
 

@@ -1,12 +1,10 @@
 -- Demand 1 of the functions below the calls, by the shape of a contract: owned identifiers, and the numbers that are answered alone.
 -- Assumes nothing.
-use Rattle.std.specs.Prelude.{ℕ, zero, suc, ◌≤◌, ◌≡◌, refl, Bool, true, false, cond, ◌&&◌, List, [], ◌∷◌, eqb, length, Ok, Err}
+use Rattle.std.specs.Prelude.{ℕ, ◌≤◌, ◌≡◌, refl, Bool, true, false, cond, ◌&&◌, List, [], ◌∷◌, eqb, length, Ok, Err}
 use Rattle.std.proofs.Common.{sym, ap, subst, ◌∙◌, arith}
 use Rattle.std.proofs.Math.Dec.{leb}
-use Rattle.std.proofs.lemmas.List.{length-replicate}
 use Rattle.text.specs.Part.{every}
 use Rattle.text.specs.Put.{Wanted, refused, text, answer, left, refusal, done}
-use Rattle.text.specs.PutLaws.{refusal_keeps}
 use Rattle.identifiers.specs.Check.{Rule, unless, identifier_byte, check_of, within}
 use Rattle.identifiers.specs.Owned.{as_written, zeros, made}
 use Rattle.identifiers.specs.OwnedLaws.{owned-answer}
@@ -21,8 +19,9 @@ use Rattle.path.specs.View.{kind_of, carried_of, view_of}
 use Rattle.render.specs.Render.{short}
 use Rattle.key.specs.Key.{shown_at, shown_by}
 use Rattle.book_records.specs.declared.Manner.{Manner}
-use Rattle.book_records.specs.Calls.{kind_in, is_loose, key_for, key_answer}
-use Rattle.book_key.specs.Field.{kind_made}
+use Rattle.book_records.specs.Calls.{is_loose, key_for, key_answer}
+use Rattle.book_key.specs.declared.MadeKey.{MadeKey}
+use Rattle.book_key.specs.Field.{kind_made, made_key}
 use Rattle.demands.specs.Numbers.{readings, key_numbers}
 use Rattle.demands.specs.Shape.{Listed, AllZero, number_in, others_in, Demand1}
 use Rattle.std.specs.declared.result.Result.{Result}
@@ -62,10 +61,6 @@ module _ (ns : List ℕ) (r : Rule) (s : List ℕ) (room : ℕ) (most : r.most �
       go : (b : Bool) → Listed ns (cond b (done (length s)) (refusal (check_of r s))).refusal
       go true = z
       go false = h
-
-all-zero : (n : ℕ) → AllZero (zeros n)
-all-zero zero = tt
-all-zero (suc n) = (refl, all-zero n)
 
 -- what is made where an answer's number is 0
 module _ {X E : Type 0} (f : E → ℕ) (n : ℕ) (x : X) (e : E) (q : f e ≡ n) where
@@ -108,18 +103,7 @@ key-listed m t = go (is_loose m (read_path t)) (read_path t)
     go false (Ok r) = fits (leb (length (render_path t r.path)) 255) (length (render_path t r.path))
     go false (Err w) = unread_of (Listed key_numbers) refl refl refl refl refl refl w
 
-pub key-empty : (w : Wanted) → ((key_answer w).refusal ≡ 0 → ⊥) → AllZero (kind_made w ∷ (key_answer w).length ∷ left w (zeros 255))
-unfolding key_answer kind_made answer left
-key-empty (refused n) h = (refl, (refl, all-zero 255))
-key-empty (text k) h = go (leb (length k) 255) refl h
-  where
-    short : leb (length k) 255 ≡ false → (answer (text k) (length (zeros 255))).refusal ≡ 0 → ⊥
-    short e q =
-        let l : length (zeros 255) ≡ 255 = length-replicate {A = ℕ} 255 0 in
-        let f : (answer (text k) 255).refusal ≡ 4 = rw e in
-        let g : (answer (text k) (length (zeros 255))).refusal ≡ 4 = ap (λ (n : ℕ). (answer (text k) n).refusal) l ∙ f in
-        omega (arith, g, q)
-
-    go : (v : Bool) → leb (length k) 255 ≡ v → ((cond v (done (length k)) (refusal 10)).refusal ≡ 0 → ⊥) → AllZero (cond v (kind_in k) 0 ∷ (cond v (done (length k)) (refusal 10)).length ∷ left (text k) (zeros 255))
-    go true e h = absurd (h refl)
-    go false e h = (refl, (refl, subst AllZero (sym (refusal_keeps (text k) (zeros 255) (short e))) (all-zero 255)))
+-- it is the number of what is made
+pub key-number : (w : Wanted) → number_in (λ (n : ℕ). n) (made_key w) ≡ (key_answer w).refusal
+unfolding made_key
+key-number w = made-number {X = MadeKey} {E = ℕ} (λ (n : ℕ). n) (key_answer w).refusal (record { kind = kind_made w; key = record { bytes = left w (zeros 255); len = (key_answer w).length } }) (key_answer w).refusal refl

@@ -1,6 +1,6 @@
 -- What the theorems of request L8 rest on.
 -- Assumes nothing.
-use Rattle.std.specs.Prelude.{ℕ, ◌≤◌, ◌<◌, ◌≡◌, refl, ◌↔◌, Bool, cond, ◌&&◌, List, [], ◌∷◌, ltb, leb, Ok, Err}
+use Rattle.std.specs.Prelude.{ℕ, ◌≤◌, ◌<◌, ◌≡◌, refl, ◌↔◌, Bool, cond, ◌&&◌, List, [], ◌∷◌, ltb, leb, Ok, Err, Some, None}
 use Rattle.std.proofs.Math.Path.{sym}
 use Rattle.std.proofs.Common.{ap, subst, ◌∙◌, arith}
 use Rattle.std.proofs.Math.Bool.{true, false}
@@ -20,9 +20,7 @@ use Rattle.path.specs.Kinds.{kinds}
 use Rattle.path.specs.Read.{carried_from, read_first, render_path, read_path, bytes_by, reading_bytes, read_fault, as_fault}
 use Rattle.path.specs.ReadLaws.{read_has, kinds-apart}
 use Rattle.path.specs.BackLaws.{read_reads}
-use Rattle.letters.specs.declared.Character.{Character}
-use Rattle.letters.specs.declared.Character.TheVariants.{Scalar, Broken}
-use Rattle.letters.specs.Character.{characters, each, utf8}
+use Rattle.letters.specs.Character.{Character, characters, each, utf8}
 use Rattle.letters.specs.Class.{is_letter, is_blank}
 use Rattle.letters.specs.Narrow.{mark_of, seen_as, narrow}
 use Rattle.letters.specs.NarrowLaws.{length-narrow, narrow-ascii, every-narrow}
@@ -38,14 +36,14 @@ use Rattle.demands.specs.Demand2Laws.{when_read, iff_yes, iff-no}
 -- ---- the characters of an identifier
 seen-allowed : (c : Character) → identifier_byte (seen_as c) ≡ allowed c
 unfolding mark_of identifier_byte among
-seen-allowed (Scalar v n) = go (ltb v 128) (is_letter v) (is_blank v)
+seen-allowed (Some c) = go (ltb c.value 128) (is_letter c.value) (is_blank c.value)
   where
-    go : (a l b : Bool) → identifier_byte (cond a v (cond l 90 (cond b 32 33))) ≡ cond a (identifier_byte v) l
+    go : (a l b : Bool) → identifier_byte (cond a c.value (cond l 90 (cond b 32 33))) ≡ cond a (identifier_byte c.value) l
     go true l b = refl
     go false true b = refl
     go false false true = refl
     go false false false = refl
-seen-allowed Broken = refl
+seen-allowed None = refl
 
 each_same : (f g : Character → Bool) → ((c : Character) → f c ≡ g c) → (cs : List Character) → each f cs ≡ each g cs
 unfolding each

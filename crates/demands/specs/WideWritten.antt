@@ -1,6 +1,6 @@
 -- What request L8 says of a wide call: which identifiers are accepted, by their characters, and when a reading is refused.
 -- Assumes nothing.
-use Rattle.std.specs.Prelude.{ℕ, ◌≤◌, ◌<◌, ◌^◌, ◌≡◌, ◌↔◌, Bool, true, false, cond, ◌&&◌, List, eqb, ltb, length, Some}
+use Rattle.std.specs.Prelude.{ℕ, ◌≤◌, ◌<◌, ◌^◌, ◌≡◌, ◌↔◌, Bool, true, false, cond, ◌&&◌, List, eqb, ltb, length, Some, None}
 use Rattle.text.specs.declared.Fault.{Fault}
 use Rattle.text.specs.Fault.{has_place}
 use Rattle.text.specs.Part.{same}
@@ -15,9 +15,7 @@ use Rattle.path.specs.Reads.{Has}
 use Rattle.path.specs.Number.{NumberWrong}
 use Rattle.path.specs.Read.{is_number, are_pair, all_from, component_count, render, parts_of, texts_of, refusal_of, as_fault}
 use Rattle.path.specs.View.{kind_of, carried_of}
-use Rattle.letters.specs.declared.Character.{Character}
-use Rattle.letters.specs.declared.Character.TheVariants.{Scalar, Broken}
-use Rattle.letters.specs.Character.{characters, each, utf8}
+use Rattle.letters.specs.Character.{Character, characters, each, utf8}
 use Rattle.letters.specs.Class.{is_letter}
 use Rattle.wide.specs.Mode.{wide}
 use Rattle.wide.specs.Read.{read_in}
@@ -26,8 +24,8 @@ use Rattle.demands.specs.Written.{NoNumber}
 
 -- a character of an identifier: of ASCII one of its bytes, beyond ASCII a letter or number of the table
 abbrev pub allowed : Character → Bool
-allowed (Scalar v n) = cond (ltb v 128) (identifier_byte v) (is_letter v)
-allowed Broken = false
+allowed (Some c) = cond (ltb c.value 128) (identifier_byte c.value) (is_letter c.value)
+allowed None = false
 
 -- a text that an identifier's rule accepts: UTF-8, of such characters, with length in bytes and form
 pub record Fine (r : Rule) (s : List ℕ) : Type 0 where

@@ -1,6 +1,6 @@
 -- What is wrong with a text that is no path: the kind that it comes nearest to, the first component that does not fit, why, and at which byte.
 -- Assumes nothing.
-use Rattle.std.specs.Prelude.{ℕ, zero, suc, max, min, ◌+◌, ◌*◌, ◌-◌, Bool, true, false, cond, not, ◌&&◌, List, [], ◌∷◌, ◌++◌, reverse, eqb, ltb, leb, length, take, drop, ◌≡◌, refl, get_or, Ok, Err}
+use Rattle.std.specs.Prelude.{ℕ, zero, suc, max, min, ◌+◌, ◌*◌, ◌-◌, Bool, true, false, cond, not, ◌&&◌, List, [], ◌∷◌, ◌++◌, reverse, eqb, ltb, leb, length, take, drop, Ok, Err}
 use Rattle.text.specs.Bytes.{bytes}
 use Rattle.text.specs.Fault.{numeral_fault, numeral_place}
 use Rattle.text.specs.Number.{Numeral, numeral_of}

@@ -1,7 +1,7 @@
 -- What a diagnosis tells: its refusal is the reader's, and it shows nothing where the text reads; the components before the shown one fit,
 -- and the shown one does not.
 -- Assumes nothing.
-use Rattle.std.specs.Prelude.{ℕ, zero, suc, ◌<◌, ◌≡◌, refl, Bool, true, false, cond, List, [], ◌∷◌, eqb, ltb, length, get_or, ◌+◌, ◌≤◌, Ok, Err}
+use Rattle.std.specs.Prelude.{ℕ, zero, suc, ◌<◌, ◌≡◌, refl, Bool, true, false, cond, List, [], ◌∷◌, eqb, ltb, length, get_or, Ok, Err}
 use Rattle.std.proofs.Common.{arith}
 use Rattle.path.specs.declared.Path.{Path}
 use Rattle.path.specs.Reading.{Reading, Read}

@@ -9,7 +9,6 @@ mod reason;
 mod shape;
 
 ghost use Rattle.std.specs.Prelude.{◌≡◌, ◌+◌, ◌-◌, ◌≤◌, ◌<◌, length, drop};
-ghost use Rattle.path.specs.Cut.{cut_of};
 ghost use Rattle.path.specs.Read.{fits};
 ghost use Rattle.diagnose.specs.Diagnosis.{lacks, first_fits, fits_first, why_at, seven, how_many, start_at, nearest, shown, diagnosis_of};
 ghost use Rattle.diagnose.specs.Table.{part_in, parts_in, table};
@@ -19,7 +18,7 @@ use crate::pieces::{piece_at, seen_of};
 use crate::reason::part_why;
 use crate::shape::{Shape, fits_part, shape_of};
 use path::{Cut, fault_of};
-use read_pieces::cutter::cut_text;
+use read_pieces::cutter::CutText;
 use walk::walk_view;
 
 // The refusal, as the readers give it; the kind that the text reads as or comes nearest to, 0 where there is none; the
@@ -42,19 +41,17 @@ pub struct Why {
 }
 
 // Whether component k is there and fits the part w.
-fn fits_at(text: &[u8], cut: Cut, k: usize, w: &[u8]) -> bool
-    requires { cut ≡ cut_of text.now }
-    ensures { result ≡ first_fits (part_in w.now) (drop k (seven text.now)) }
+fn fits_at(text: CutText, k: usize, w: &[u8]) -> bool
+    ensures { result ≡ first_fits (part_in w.now) (drop k (seven text.entry.text.now)) }
 {
-    k < seen_of(text, cut) && fits_part(w, piece_at(text, cut, k))
+    k < seen_of(text) && fits_part(w, piece_at(text, k))
 }
 
 // Whether part k is there and the component c fits it.
-fn part_fits(kind: &[u8], cut: Cut, k: usize, c: &[u8]) -> bool
-    requires { cut ≡ cut_of kind.now }
-    ensures { result ≡ fits_first (drop k (parts_in kind.now)) c.now }
+fn part_fits(kind: CutText, k: usize, c: &[u8]) -> bool
+    ensures { result ≡ fits_first (drop k (parts_in kind.entry.text.now)) c.now }
 {
-    k < seen_of(kind, cut) && fits_part(piece_at(kind, cut, k), c)
+    k < seen_of(kind) && fits_part(piece_at(kind, k), c)
 }
 
 // Whether nothing stands where something has to.
@@ -71,39 +68,39 @@ fn is_lacking(w: &[u8], c: &[u8]) -> bool
 }
 
 // Why component f does not fit, where those before it do.
-fn why_at(text: &[u8], cut: Cut, kind: &[u8], kind_cut: Cut, f: usize) -> Why
-    requires { (cut ≡ cut_of text.now) × (kind_cut ≡ cut_of kind.now) × (f ≤ 7) }
-    ensures { result ≡ why_at (how_many text.now) (length (parts_in kind.now)) (drop f (parts_in kind.now)) (drop f (seven text.now)) }
+fn why_at(text: CutText, kind: CutText, f: usize) -> Why
+    requires { f ≤ 7 }
+    ensures { result ≡ why_at (how_many text.entry.text.now) (length (parts_in kind.entry.text.now)) (drop f (parts_in kind.entry.text.now)) (drop f (seven text.entry.text.now)) }
 {
-    let n = cut.count;
-    let m = seen_of(kind, kind_cut);
+    let n = text.cut.count;
+    let m = seen_of(kind);
     if m <= f {
         return Why {
             reason: 3,
             place: 0,
         };
     }
-    if seen_of(text, cut) <= f {
+    if seen_of(text) <= f {
         return Why {
             reason: 2,
             place: 0,
         };
     }
-    let w = piece_at(kind, kind_cut, f);
-    let c = piece_at(text, cut, f);
+    let w = piece_at(kind, f);
+    let c = piece_at(text, f);
     if is_lacking(w, c) {
         return Why {
             reason: 4,
             place: 0,
         };
     }
-    if fits_at(text, cut, f + n.saturating_sub(m), w) {
+    if fits_at(text, f + n.saturating_sub(m), w) {
         return Why {
             reason: 3,
             place: 0,
         };
     }
-    if part_fits(kind, kind_cut, f + m.saturating_sub(n), c) {
+    if part_fits(kind, f + m.saturating_sub(n), c) {
         return Why {
             reason: 2,
             place: 0,
@@ -113,16 +110,14 @@ fn why_at(text: &[u8], cut: Cut, kind: &[u8], kind_cut: Cut, f: usize) -> Why
 }
 
 // Where component f starts: the text's end where it has ended.
-fn start_at(text: &[u8], cut: Cut, f: usize) -> usize
-    requires { cut ≡ cut_of text.now }
-    ensures { result ≡ start_at text.now f }
+fn start_at(text: CutText, f: usize) -> usize
+    ensures { result ≡ start_at text.entry.text.now f }
 {
-    let count = cut.count;
+    let Cut { starts, count } = text.cut;
     if f < count {
-        let starts = cut.starts;
         return starts[f];
     }
-    text.len()
+    text.text.len()
 }
 
 // The diagnosis of a text that was refused, over the kinds as they are written.
@@ -130,8 +125,8 @@ fn show(text: &[u8], refusal: u8, kinds: &[u8]) -> Diagnosis
     requires { kinds.now ≡ table }
     ensures { result ≡ shown text.now refusal (nearest (how_many text.now) (seven text.now)) }
 {
-    let cut = cut_text(text);
-    let k = nearest_kind(text, cut, kinds);
+    let cut = CutText::new(text);
+    let k = nearest_kind(cut, kinds);
     if k == 0 {
         return Diagnosis {
             refusal,
@@ -141,16 +136,15 @@ fn show(text: &[u8], refusal: u8, kinds: &[u8]) -> Diagnosis
             byte: 0,
         };
     }
-    let kind = kind_at(kinds, k);
-    let kind_cut = cut_text(kind);
-    let f = front_of(text, cut, kind, kind_cut);
-    let w = why_at(text, cut, kind, kind_cut, f);
+    let kind = CutText::new(kind_at(kinds, k));
+    let f = front_of(cut, kind);
+    let w = why_at(cut, kind, f);
     Diagnosis {
         refusal,
         kind: k,
         component: (f + 1) as u8,
         reason: w.reason,
-        byte: start_at(text, cut, f) as u64 + w.place,
+        byte: start_at(cut, f) as u64 + w.place,
     }
 }
 

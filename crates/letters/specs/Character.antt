@@ -1,8 +1,14 @@
 -- The characters of a text, by UTF-8 as Rust's `str` has it: no overlong form, no surrogate, nothing above 1114111.
 -- Assumes nothing.
-use Rattle.std.specs.Prelude.{ℕ, zero, suc, ◌+◌, ◌*◌, ◌-◌, Bool, true, false, cond, not, ◌&&◌, List, [], ◌∷◌, ltb, leb}
-use Rattle.letters.specs.declared.Character.{Character}
-use Rattle.letters.specs.declared.Character.TheVariants.{Scalar, Broken}
+use Rattle.std.specs.Prelude.{ℕ, zero, suc, ◌+◌, ◌*◌, ◌-◌, Bool, true, false, cond, not, ◌&&◌, List, [], ◌∷◌, ltb, leb, Option, Some, None}
+use Rattle.letters.specs.declared.CodePoint.{CodePoint}
+
+-- a character, or none where a byte begins none
+abbrev pub Character : Type 0
+Character = Option CodePoint
+
+abbrev pub point : ℕ → ℕ → Character
+point v n = Some (record { value = v; size = n })
 
 -- a byte that goes on with a character
 abbrev pub further : ℕ → Bool
@@ -14,28 +20,28 @@ proper least v = leb least v && (not (leb 55296 v && leb v 57343) && leb v 11141
 
 -- the character of `size` bytes, of which n are still to come, each with six bits more of the value
 unfoldable pub goes_on : ℕ → ℕ → ℕ → ℕ → List ℕ → Character
-goes_on zero size least v s = cond (proper least v) (Scalar v size) Broken
-goes_on (suc n) size least v [] = Broken
-goes_on (suc n) size least v (b ∷ s) = cond (further b) (goes_on n size least (v * 64 + (b - 128)) s) Broken
+goes_on zero size least v s = cond (proper least v) (point v size) None
+goes_on (suc n) size least v [] = None
+goes_on (suc n) size least v (b ∷ s) = cond (further b) (goes_on n size least (v * 64 + (b - 128)) s) None
 
 -- the first character of a text: its first byte tells how many follow
 unfoldable pub character_of : List ℕ → Character
-character_of [] = Broken
+character_of [] = None
 character_of (b ∷ s) =
-    cond (ltb b 128) (Scalar b 1)
-    (cond (ltb b 192) Broken
+    cond (ltb b 128) (point b 1)
+    (cond (ltb b 192) None
     (cond (ltb b 224) (goes_on 1 2 128 (b - 192) s)
     (cond (ltb b 240) (goes_on 2 3 2048 (b - 224) s)
-    (cond (ltb b 248) (goes_on 3 4 65536 (b - 240) s) Broken))))
+    (cond (ltb b 248) (goes_on 3 4 65536 (b - 240) s) None))))
 
 -- how many bytes of the text it takes: where none begins, the one byte is passed over
 abbrev pub size_of : Character → ℕ
-size_of (Scalar v n) = n
-size_of Broken = 1
+size_of (Some c) = c.size
+size_of None = 1
 
 abbrev pub whole : Character → Bool
-whole (Scalar v n) = true
-whole Broken = false
+whole (Some c) = true
+whole None = false
 
 -- the characters of what is left of a text, after k bytes that belong to the character before them
 unfoldable pub characters_from : ℕ → List ℕ → List Character

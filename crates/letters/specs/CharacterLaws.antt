@@ -1,6 +1,6 @@
 -- Laws of `Character`: what the first character of a text is, the characters one after the other, and those of texts that are joined.
 -- Assumes nothing.
-use Rattle.std.specs.Prelude.{ℕ, zero, suc, ◌+◌, ◌*◌, ◌-◌, ◌^◌, ◌≤◌, ◌<◌, ◌≡◌, refl, Bool, true, false, cond, ◌&&◌, List, [], ◌∷◌, ◌++◌, ltb, leb, length, take, drop, get_or}
+use Rattle.std.specs.Prelude.{ℕ, zero, suc, ◌+◌, ◌*◌, ◌-◌, ◌^◌, ◌≤◌, ◌<◌, ◌≡◌, refl, Bool, true, false, cond, ◌&&◌, List, [], ◌∷◌, ◌++◌, ltb, leb, length, take, drop, get_or, None}
 use Rattle.std.proofs.Common.{sym, ◌∙◌, pow-suc, add-one, arith, length-append, length-drop, drop-drop}
 use Rattle.std.proofs.Math.Bool.{and_assoc, and-false}
 use Rattle.std.proofs.Math.Nat.{pow-le-pow_right}
@@ -10,21 +10,19 @@ use Rattle.std.proofs.lemmas.List.{drop-append-le}
 use borrow.Author.Tests.{lt-ltb, le-ltb, ltb-true, ltb-false, leb-true, lt-leb, le-leb}
 use Rattle.text.specs.Part.{every, ascii}
 use Rattle.text.specs.PartLaws.{and_left, and_right}
-use Rattle.letters.specs.declared.Character.{Character}
-use Rattle.letters.specs.declared.Character.TheVariants.{Scalar, Broken}
-use Rattle.letters.specs.Character.{further, proper, goes_on, character_of, size_of, whole, characters_from, characters, each, utf8}
+use Rattle.letters.specs.Character.{Character, point, further, proper, goes_on, character_of, size_of, whole, characters_from, characters, each, utf8}
 
 -- ---- what the first character of a text is
 -- a character that goes on for n bytes
 pub data Goes (n size least : ℕ) (s : List ℕ) : Character → Type 0 where
-  stops : Goes n size least s Broken
-  ends : {v : ℕ} → least ≤ v → n ≤ length s → every further (take n s) ≡ true → Goes n size least s (Scalar v size)
+  stops : Goes n size least s None
+  ends : {v : ℕ} → least ≤ v → n ≤ length s → every further (take n s) ≡ true → Goes n size least s (point v size)
 
 pub goes : (n size least v : ℕ) (s : List ℕ) → Goes n size least s (goes_on n size least v s)
 unfolding goes_on every
 goes zero size least v s = go (proper least v) refl
   where
-    go : (p : Bool) → proper least v ≡ p → Goes 0 size least s (cond p (Scalar v size) Broken)
+    go : (p : Bool) → proper least v ≡ p → Goes 0 size least s (cond p (point v size) None)
     go true e = ends (leb-true least v (and_left (leb least v) _ e)) (omega arith) refl
     go false e = stops
 goes (suc n) size least v [] = stops
@@ -34,20 +32,20 @@ goes (suc n) size least v (b ∷ s) = go (further b) refl (goes n size least (v 
     more e stops = stops
     more e (ends l h f) = ends l (omega arith) (rw (e, f))
 
-    go : (p : Bool) → further b ≡ p → Goes n size least s (goes_on n size least (v * 64 + (b - 128)) s) → Goes (suc n) size least (b ∷ s) (cond p (goes_on n size least (v * 64 + (b - 128)) s) Broken)
+    go : (p : Bool) → further b ≡ p → Goes n size least s (goes_on n size least (v * 64 + (b - 128)) s) → Goes (suc n) size least (b ∷ s) (cond p (goes_on n size least (v * 64 + (b - 128)) s) None)
     go true e g = more e g
     go false e g = stops
 
 -- a byte of ASCII; a byte that begins none; or a character beyond ASCII, whose n further bytes are all there
 pub data First (b : ℕ) (s : List ℕ) : Character → Type 0 where
-  low : b < 128 → First b s (Scalar b 1)
-  bad : 128 ≤ b → First b s Broken
-  high : {v n : ℕ} → 128 ≤ b → 128 ≤ v → n ≤ length s → every further (take n s) ≡ true → First b s (Scalar v (suc n))
+  low : b < 128 → First b s (point b 1)
+  bad : 128 ≤ b → First b s None
+  high : {v n : ℕ} → 128 ≤ b → 128 ≤ v → n ≤ length s → every further (take n s) ≡ true → First b s (point v (suc n))
 
 -- what a first byte begins, whatever comes after it
 pub data Begins (b : ℕ) : Type 0 where
-  alone : b < 128 → ((s : List ℕ) → character_of (b ∷ s) ≡ Scalar b 1) → Begins b
-  nothing : 128 ≤ b → ((s : List ℕ) → character_of (b ∷ s) ≡ Broken) → Begins b
+  alone : b < 128 → ((s : List ℕ) → character_of (b ∷ s) ≡ point b 1) → Begins b
+  nothing : 128 ≤ b → ((s : List ℕ) → character_of (b ∷ s) ≡ None) → Begins b
   longer : (n least v : ℕ) → 128 ≤ b → 128 ≤ least → ((s : List ℕ) → character_of (b ∷ s) ≡ goes_on n (suc n) least v s) → Begins b
 
 pub begins : (b : ℕ) → Begins b
@@ -85,7 +83,7 @@ size-within [] h = absurd (omega arith)
 size-within (b ∷ s) h = first-size (first_is b s)
 
 -- a byte of ASCII is a character
-pub first-low : (b : ℕ) (s : List ℕ) → b < 128 → character_of (b ∷ s) ≡ Scalar b 1
+pub first-low : (b : ℕ) (s : List ℕ) → b < 128 → character_of (b ∷ s) ≡ point b 1
 unfolding character_of
 first-low b s h = rw (lt-ltb b 128 h)
 
@@ -148,7 +146,7 @@ unfolding utf8 each
 utf8-step t h = rw (characters-step t h)
 
 -- ---- ASCII
-pub characters-low : (b : ℕ) (s : List ℕ) → b < 128 → characters (b ∷ s) ≡ Scalar b 1 ∷ characters s
+pub characters-low : (b : ℕ) (s : List ℕ) → b < 128 → characters (b ∷ s) ≡ point b 1 ∷ characters s
 characters-low b s h = let e = first-low b s h in characters-step (b ∷ s) (omega arith) ∙ rw e
 
 pub ascii-utf8 : (t : List ℕ) → ascii t ≡ true → utf8 t ≡ true
@@ -190,9 +188,9 @@ goes-whole zero size least v s b h = refl
 goes-whole (suc n) size least v [] b h = let z : ◌≡◌ {A = ℕ} 0 1 = cc in absurd (omega arith)
 goes-whole (suc n) size least v (y ∷ s) b h = go (further y) refl h (goes-whole n size least (v * 64 + (y - 128)) s b)
   where
-    go : (p : Bool) → further y ≡ p → whole (cond p (goes_on n size least (v * 64 + (y - 128)) s) Broken) ≡ true
+    go : (p : Bool) → further y ≡ p → whole (cond p (goes_on n size least (v * 64 + (y - 128)) s) None) ≡ true
         → (whole (goes_on n size least (v * 64 + (y - 128)) s) ≡ true → goes_on n size least (v * 64 + (y - 128)) (s ++ b) ≡ goes_on n size least (v * 64 + (y - 128)) s)
-        → cond p (goes_on n size least (v * 64 + (y - 128)) (s ++ b)) Broken ≡ cond p (goes_on n size least (v * 64 + (y - 128)) s) Broken
+        → cond p (goes_on n size least (v * 64 + (y - 128)) (s ++ b)) None ≡ cond p (goes_on n size least (v * 64 + (y - 128)) s) None
     go true e w ih = ih w
     go false e w ih = refl
 
@@ -238,16 +236,16 @@ utf8-at a x b h = let e = first-low x b h in utf8-plain a (x ∷ b) (lt-ltb x 12
 
 -- ---- one turn of the decoder, at the place p of the text, where b stands
 module _ (s : List ℕ) (k j : ℕ) (one : k ≡ suc j) (size least v p : ℕ) where
-  pub turn-none : length s ≤ p → goes_on k size least v (drop p s) ≡ Broken
+  pub turn-none : length s ≤ p → goes_on k size least v (drop p s) ≡ None
   unfolding goes_on
   turn-none h = rw (one, drop_of_length-le s h)
 
   module _ (l : p < length s) (b : ℕ) (e : b ≡ get_or s p 0) where
-    pub turn_low : b < 128 → goes_on k size least v (drop p s) ≡ Broken
+    pub turn_low : b < 128 → goes_on k size least v (drop p s) ≡ None
     unfolding goes_on
     turn_low h = rw (one, drop-cons s p 0 l, ← e, lt-leb 128 b h)
 
-    pub turn-high : 191 < b → goes_on k size least v (drop p s) ≡ Broken
+    pub turn-high : 191 < b → goes_on k size least v (drop p s) ≡ None
     unfolding goes_on
     turn-high h = rw (one, drop-cons s p 0 l, ← e, lt-leb b 191 h, and-false (leb 128 b))
 
@@ -255,7 +253,7 @@ module _ (s : List ℕ) (k j : ℕ) (one : k ≡ suc j) (size least v p : ℕ) w
     unfolding goes_on
     turn_more q n h m = rw (one, drop-cons s p 0 l, ← e, le-leb 128 b h, le-leb b 191 m, n)
 
-pub turn_end : (k size least v : ℕ) (s : List ℕ) → k ≡ 0 → goes_on k size least v s ≡ cond (proper least v) (Scalar v size) Broken
+pub turn_end : (k size least v : ℕ) (s : List ℕ) → k ≡ 0 → goes_on k size least v s ≡ cond (proper least v) (point v size) None
 unfolding goes_on
 turn_end k size least v s e = rw e
 
@@ -268,7 +266,7 @@ bits-more i v d l h = rw (add-one, pow-suc) (omega arith)
 
 -- ---- the first character by its first byte b, at the place p
 module _ (s : List ℕ) (p : ℕ) where
-  pub first-end : length s ≤ p → character_of (drop p s) ≡ Broken
+  pub first-end : length s ≤ p → character_of (drop p s) ≡ None
   unfolding character_of
   first-end h = rw (drop_of_length-le s h)
 
@@ -276,11 +274,11 @@ module _ (s : List ℕ) (p : ℕ) where
     first_byte : drop p s ≡ b ∷ drop (p + 1) s
     first_byte = rw (add-one, drop-cons s p 0 l, ← e)
 
-    pub first_one : b < 128 → character_of (drop p s) ≡ Scalar b 1
+    pub first_one : b < 128 → character_of (drop p s) ≡ point b 1
     first_one h = rw first_byte (first-low b (drop (p + 1) s) h)
 
     module _ (h : 128 ≤ b) where
-      pub first_inner : b < 192 → character_of (drop p s) ≡ Broken
+      pub first_inner : b < 192 → character_of (drop p s) ≡ None
       unfolding character_of
       first_inner k = rw (first_byte, le-ltb b 128 h, lt-ltb b 192 k)
 
@@ -297,7 +295,7 @@ module _ (s : List ℕ) (p : ℕ) where
         unfolding character_of
         first-four n k = rw (first_byte, le-ltb b 128 h, le-ltb b 192 (omega arith), le-ltb b 224 m, le-ltb b 240 n, lt-ltb b 248 k)
 
-        pub first_never : 248 ≤ b → character_of (drop p s) ≡ Broken
+        pub first_never : 248 ≤ b → character_of (drop p s) ≡ None
         unfolding character_of
         first_never k = rw (first_byte, le-ltb b 128 h, le-ltb b 192 (omega arith), le-ltb b 224 m, le-ltb b 240 (omega arith), le-ltb b 248 k)
 

@@ -5,8 +5,7 @@ use Rattle.std.proofs.Common.{sym, ap, ◌∙◌, append_assoc, arith, take-appe
 use Rattle.std.proofs.Math.Bool.{and-true}
 use Rattle.text.specs.Part.{every, ascii}
 use Rattle.text.specs.PartLaws.{and_left, and_right, every_append}
-use Rattle.letters.specs.declared.Character.{Character}
-use Rattle.letters.specs.Character.{further, character_of, size_of, characters, each, utf8}
+use Rattle.letters.specs.Character.{Character, further, character_of, size_of, characters, each, utf8}
 use Rattle.letters.specs.CharacterLaws.{First, low, bad, high, first_is, size-within, characters-none, characters-step, characters-low, rest, walk, plain_start, characters-append, characters-plain}
 use Rattle.letters.specs.Class.{is_letter, is_blank}
 use Rattle.letters.specs.Narrow.{mark_of, seen_as, picture, pictures, narrow}

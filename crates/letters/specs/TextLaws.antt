@@ -10,8 +10,7 @@ use Rattle.text.specs.Part.{every, ascii}
 use Rattle.text.specs.PartLaws.{and_right, every_append}
 use Rattle.identifiers.specs.Check.{identifier_byte, chars_of}
 use Rattle.identifiers.specs.Owned.{blank, trim_start, keep, trim_end, trim}
-use Rattle.letters.specs.declared.Character.{Character}
-use Rattle.letters.specs.Character.{character_of, size_of, whole, characters, utf8}
+use Rattle.letters.specs.Character.{Character, character_of, size_of, whole, characters, utf8}
 use Rattle.letters.specs.CharacterLaws.{rest, walk, size-within, characters-none, characters-step, utf8-step, ascii-utf8, Turn, turn, characters-next}
 use Rattle.letters.specs.Narrow.{seen_as, pictures, narrow}
 use Rattle.letters.specs.NarrowLaws.{narrow-none, ascii-narrow, length-narrow, every-run}

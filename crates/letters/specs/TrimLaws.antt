@@ -7,8 +7,7 @@ use Rattle.std.proofs.Math.ListN.{length}
 use Rattle.std.proofs.Math.Seq.{length-take-le}
 use Rattle.text.specs.PartLaws.{and_left, and_right}
 use Rattle.identifiers.specs.Owned.{blank, trim_end, trim}
-use Rattle.letters.specs.declared.Character.{Character}
-use Rattle.letters.specs.Character.{goes_on, character_of, size_of, whole, characters, each, utf8}
+use Rattle.letters.specs.Character.{Character, goes_on, character_of, size_of, whole, characters, each, utf8}
 use Rattle.letters.specs.CharacterLaws.{Goes, stops, ends, goes, Begins, alone, nothing, longer, begins, size-within, characters-none, characters-step, rest, walk, utf8-none, utf8-step, utf8_append, characters-append}
 use Rattle.letters.specs.Narrow.{seen_as, picture, pictures, narrow}
 use Rattle.letters.specs.NarrowLaws.{narrow-none, narrow_step, narrow-append, length-narrow}

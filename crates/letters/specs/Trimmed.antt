@@ -1,15 +1,14 @@
 -- The characters of a text without the white space at its ends.
 -- Assumes nothing.
-use Rattle.std.specs.Prelude.{Bool, false, cond, List, [], ◌∷◌, ltb}
+use Rattle.std.specs.Prelude.{Bool, false, cond, List, [], ◌∷◌, ltb, Some, None}
 use Rattle.identifiers.specs.Owned.{blank}
-use Rattle.letters.specs.declared.Character.{Character}
-use Rattle.letters.specs.declared.Character.TheVariants.{Scalar, Broken}
 use Rattle.letters.specs.Class.{is_blank}
+use Rattle.letters.specs.Character.{Character}
 
 -- white space: of ASCII 9 to 13 and 32, beyond it what the table has
 unfoldable pub white : Character → Bool
-white (Scalar v n) = cond (ltb v 128) (blank v) (is_blank v)
-white Broken = false
+white (Some c) = cond (ltb c.value 128) (blank c.value) (is_blank c.value)
+white None = false
 
 -- without what is white at the start
 unfoldable pub trim_front : List Character → List Character

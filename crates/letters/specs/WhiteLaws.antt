@@ -1,17 +1,16 @@
 -- No white space is a letter, so that a character is white exactly where what stands for it in the picture is.
 -- Assumes nothing.
-use Rattle.std.specs.Prelude.{ℕ, ◌≤◌, ◌≡◌, refl, Bool, true, false, cond, ◌&&◌, ◌||◌, List, [], ◌∷◌, ltb, leb}
+use Rattle.std.specs.Prelude.{ℕ, ◌≤◌, ◌≡◌, refl, Bool, true, false, cond, ◌&&◌, ◌||◌, List, [], ◌∷◌, ltb, leb, Some, None}
 use Rattle.std.proofs.Common.{arith, ltb-true, leb-true}
 use Rattle.std.proofs.Math.Bool.{and-false}
 use Rattle.std.proofs.lemmas.Bool.{lt-leb}
 use Rattle.text.specs.PartLaws.{and_left, and_right}
 use Rattle.identifiers.specs.Owned.{blank}
-use Rattle.letters.specs.declared.Character.{Character}
-use Rattle.letters.specs.declared.Character.TheVariants.{Scalar, Broken}
 use Rattle.letters.specs.Table.{part1, part2, part3, part4, letters, blanks}
 use Rattle.letters.specs.Class.{between, inside, is_letter, is_blank}
 use Rattle.letters.specs.Narrow.{mark_of, seen_as}
 use Rattle.letters.specs.Trimmed.{white}
+use Rattle.letters.specs.Character.{Character}
 
 -- every range of the list ends before a or begins behind z
 unfoldable clears : ℕ → ℕ → List ℕ → Bool
@@ -64,12 +63,12 @@ blank-no_letter v h = apart-inside blanks letters v blanks-apart h
 
 pub white-seen : (c : Character) → blank (seen_as c) ≡ white c
 unfolding mark_of white
-white-seen (Scalar v n) = go (ltb v 128) (is_blank v) refl (is_letter v) refl
+white-seen (Some c) = go (ltb c.value 128) (is_blank c.value) refl (is_letter c.value) refl
   where
-    go : (a b : Bool) → is_blank v ≡ b → (l : Bool) → is_letter v ≡ l → blank (cond a v (cond l 90 (cond b 32 33))) ≡ cond a (blank v) b
+    go : (a b : Bool) → is_blank c.value ≡ b → (l : Bool) → is_letter c.value ≡ l → blank (cond a c.value (cond l 90 (cond b 32 33))) ≡ cond a (blank c.value) b
     go true b e l f = refl
-    go false true e true f = let k = blank-no_letter v e in let z : ◌≡◌ {A = ℕ} 0 1 = cc in absurd (omega (arith, z))
+    go false true e true f = let k = blank-no_letter c.value e in let z : ◌≡◌ {A = ℕ} 0 1 = cc in absurd (omega (arith, z))
     go false true e false f = refl
     go false false e true f = refl
     go false false e false f = refl
-white-seen Broken = refl
+white-seen None = refl

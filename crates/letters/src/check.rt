@@ -3,7 +3,7 @@ ghost use Rattle.std.specs.Prelude.{◌≡◌};
 ghost use Rattle.letters.specs.Text.{wide_chars};
 
 use crate::picture::seen_as;
-use crate::{character_at, is_utf8, is_whole, size_of};
+use crate::{character_at, is_utf8};
 use identifiers::validate::{is_identifier_byte, validate_identifier_chars};
 use text::refusal::{BAD_CHAR, BAD_UTF8, NOT_ASCII};
 
@@ -18,17 +18,16 @@ pub fn wide_chars(s: &[u8]) -> u8
     }
     let mut i: usize = 0;
     while i < s.len() {
-        let c = character_at(s, i);
-        if !is_whole(c) {
+        let Some(c) = character_at(s, i) else {
             return BAD_UTF8;
-        }
-        if !is_identifier_byte(seen_as(c)) {
+        };
+        if !is_identifier_byte(seen_as(Some(c))) {
             if is_utf8(s) {
                 return BAD_CHAR;
             }
             return BAD_UTF8;
         }
-        i += size_of(c);
+        i += c.size;
     }
     0
 }

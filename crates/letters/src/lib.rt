@@ -7,24 +7,27 @@ pub mod picture;
 mod table;
 pub mod trim;
 
-ghost use Rattle.std.specs.Prelude.{◌≡◌, cond, ◌+◌, ◌≤◌, ◌<◌, length, drop};
-ghost use Rattle.letters.specs.Character.{proper, goes_on, character_of, size_of, whole, utf8};
+ghost use Rattle.std.specs.Prelude.{◌≡◌, None, cond, ◌+◌, ◌≤◌, ◌<◌, length, drop};
+ghost use Rattle.letters.specs.Character.{point, proper, goes_on, character_of, size_of, utf8};
 
-// A character of a text: its number and how many bytes it has, or a byte that begins no character.
+// A character of a text: its number, and how many bytes it has.
 #[derive(Clone, Copy)]
-pub enum Character {
-    Scalar { value: u32, size: usize },
-    Broken,
+pub struct CodePoint {
+    pub value: u32,
+    pub size: usize,
 }
+
+// What begins at a byte of a text: a character, or none.
+pub type Character = Option<CodePoint>;
 
 // The character of that value and size, unless it is an overlong form, a surrogate or above 1114111.
 fn scalar(value: u32, size: usize, least: u32) -> Character
-    ensures { result ≡ cond (proper least value) (Character.Scalar value size) Character.Broken }
+    ensures { result ≡ cond (proper least value) (point value size) None }
 {
     if value < least || char::from_u32(value).is_none() {
-        return Character::Broken;
+        return None;
     }
-    Character::Scalar { value, size }
+    Some(CodePoint { value, size })
 }
 
 // The character whose first byte, just before `at`, says that n bytes follow, and has `first` of its value.
@@ -35,14 +38,14 @@ fn goes_on(s: &[u8], at: usize, n: usize, least: u32, first: u32) -> Character
     let mut value = first;
     for i in 0..n {
         if s.len() <= at + i {
-            return Character::Broken;
+            return None;
         }
         let b = u32::from(s[at + i]);
         if b < 128 {
-            return Character::Broken;
+            return None;
         }
         if 191 < b {
-            return Character::Broken;
+            return None;
         }
         value = value * 64 + (b - 128);
     }
@@ -54,15 +57,15 @@ pub fn character_at(s: &[u8], at: usize) -> Character
     ensures { result ≡ character_of (drop at s.now) }
 {
     if s.len() <= at {
-        return Character::Broken;
+        return None;
     }
     let b = u32::from(s[at]);
     match b {
-        0..=127 => Character::Scalar { value: b, size: 1 },
+        0..=127 => Some(CodePoint { value: b, size: 1 }),
         192..=223 => goes_on(s, at + 1, 1, 128, b - 192),
         224..=239 => goes_on(s, at + 1, 2, 2048, b - 224),
         240..=247 => goes_on(s, at + 1, 3, 65536, b - 240),
-        _ => Character::Broken,
+        _ => None,
     }
 }
 
@@ -71,15 +74,9 @@ pub(crate) fn size_of(c: Character) -> usize
     ensures { result ≡ size_of c }
 {
     match c {
-        Character::Scalar { value: _, size } => size,
-        Character::Broken => 1,
+        Some(c) => c.size,
+        None => 1,
     }
-}
-
-pub(crate) fn is_whole(c: Character) -> bool
-    ensures { result ≡ whole c }
-{
-    matches!(c, Character::Scalar { .. })
 }
 
 // Whether the text is UTF-8.
@@ -91,11 +88,10 @@ pub fn is_utf8(s: &[u8]) -> bool
     }
     let mut i: usize = 0;
     while i < s.len() {
-        let c = character_at(s, i);
-        if !is_whole(c) {
+        let Some(c) = character_at(s, i) else {
             return false;
-        }
-        i += size_of(c);
+        };
+        i += c.size;
     }
     true
 }

@@ -23,13 +23,9 @@ pub(crate) fn seen_as(c: Character) -> u8
     ensures { result ≡ specs.seen_as c }
 {
     match c {
-        Character::Scalar { value, size: _ } => {
-            if value < 128 {
-                return value as u8;
-            }
-            mark_of(value)
-        }
-        Character::Broken => b'!',
+        Some(c) if c.value < 128 => c.value as u8,
+        Some(c) => mark_of(c.value),
+        None => b'!',
     }
 }
 

@@ -3,16 +3,15 @@
 
 ghost use Rattle.std.specs.Prelude.{◌≡◌, ◌∷◌, [], ◌+◌, ◌^◌, ◌<◌, length};
 ghost use Rattle.text.specs.Number.{numeral_of};
-ghost use Rattle.path.specs.Cut.{cut_of};
 ghost use Rattle.path.specs.Kinds.{count, pair, kind5, kind6, kind7, kind15, kind16, kind17, kind18, kind19};
 ghost use Rattle.path.specs.Read.{all_from, suits, numeral_faults, part_faults, why_not};
 ghost use Rattle.path.specs.Text.{component, place_at};
 ghost use Rattle.read_pieces.specs.Pieces.{consensus_parts, packet_parts};
 ghost use Rattle.read_faults.specs.Fault.{shown_first, or_fault, some_suits};
 
+use path::Refusal;
 use path::name::{Name, name_fault};
-use path::{Cut, Refusal};
-use read_pieces::cutter::{component_at, cut_text, is_word, place_at};
+use read_pieces::cutter::CutText;
 use read_pieces::{first_dash, read_client, read_ends};
 use text::NumberFault;
 
@@ -58,111 +57,110 @@ fn pair_fault_at(s: &[u8], at: usize) -> Refusal
 }
 
 // What is wrong with S or n at component k.
-fn count_fault(text: &[u8], cut: Cut, k: usize) -> Refusal
-    requires { (cut ≡ cut_of text.now) × (k < cut.count) × (cut.count < 8) }
-    ensures { result ≡ shown_first (part_faults count (place_at text.now k).start (component text.now k)) }
+fn count_fault(text: CutText, k: usize) -> Refusal
+    requires { (k < text.cut.count) × (text.cut.count < 8) }
+    ensures { result ≡ shown_first (part_faults count (place_at text.entry.text.now k).start (component text.entry.text.now k)) }
 {
-    let place = place_at(text, cut, k);
-    fault_at(component_at(text, cut, k), place.start)
+    let place = text.place(k);
+    fault_at(text.component(k), place.start)
 }
 
 // What is wrong with R-h at component k.
-fn pair_fault(text: &[u8], cut: Cut, k: usize) -> Refusal
-    requires { (cut ≡ cut_of text.now) × (k < cut.count) × (cut.count < 8) }
-    ensures { result ≡ shown_first (part_faults pair (place_at text.now k).start (component text.now k)) }
+fn pair_fault(text: CutText, k: usize) -> Refusal
+    requires { (k < text.cut.count) × (text.cut.count < 8) }
+    ensures { result ≡ shown_first (part_faults pair (place_at text.entry.text.now k).start (component text.entry.text.now k)) }
 {
-    let place = place_at(text, cut, k);
-    pair_fault_at(component_at(text, cut, k), place.start)
+    let place = text.place(k);
+    pair_fault_at(text.component(k), place.start)
 }
 
 // `clients/C/consensusStates/` at the start.
-fn suits_consensus(text: &[u8], cut: Cut) -> bool
-    requires { (cut ≡ cut_of text.now) × (3 < cut.count) × (cut.count < 8) }
-    ensures { result ≡ all_from suits 0 consensus_parts text.now }
+fn suits_consensus(text: CutText) -> bool
+    requires { (3 < text.cut.count) × (text.cut.count < 8) }
+    ensures { result ≡ all_from suits 0 consensus_parts text.entry.text.now }
 {
-    read_client(text, cut, 0).is_some() && is_word(text, cut, 2, b"consensusStates")
+    read_client(text, 0).is_some() && text.is_word(2, b"consensusStates")
 }
 
 // `processedTime` or `processedHeight` behind that.
-fn suits_updates(text: &[u8], cut: Cut) -> bool
-    requires { (cut ≡ cut_of text.now) × (cut.count ≡ 5) }
-    ensures { result ≡ some_suits (kind6 ∷ kind7 ∷ []) text.now }
+fn suits_updates(text: CutText) -> bool
+    requires { text.cut.count ≡ 5 }
+    ensures { result ≡ some_suits (kind6 ∷ kind7 ∷ []) text.entry.text.now }
 {
-    if !suits_consensus(text, cut) {
+    if !suits_consensus(text) {
         return false;
     }
-    if is_word(text, cut, 4, b"processedTime") {
+    if text.is_word(4, b"processedTime") {
         return true;
     }
-    is_word(text, cut, 4, b"processedHeight")
+    text.is_word(4, b"processedHeight")
 }
 
 // `ports/P/channels/H/sequences/` after the first component.
-fn suits_packet(text: &[u8], cut: Cut) -> bool
-    requires { (cut ≡ cut_of text.now) × (6 < cut.count) × (cut.count < 8) }
-    ensures { result ≡ all_from suits 1 packet_parts text.now }
+fn suits_packet(text: CutText) -> bool
+    requires { (6 < text.cut.count) × (text.cut.count < 8) }
+    ensures { result ≡ all_from suits 1 packet_parts text.entry.text.now }
 {
-    read_ends(text, cut).is_some() && is_word(text, cut, 5, b"sequences")
+    read_ends(text).is_some() && text.is_word(5, b"sequences")
 }
 
 // `commitments`, `acks` or `receipts` before that.
-fn suits_packets(text: &[u8], cut: Cut) -> bool
-    requires { (cut ≡ cut_of text.now) × (cut.count ≡ 7) }
-    ensures { result ≡ some_suits (kind15 ∷ kind16 ∷ kind17 ∷ []) text.now }
+fn suits_packets(text: CutText) -> bool
+    requires { text.cut.count ≡ 7 }
+    ensures { result ≡ some_suits (kind15 ∷ kind16 ∷ kind17 ∷ []) text.entry.text.now }
 {
-    if !suits_packet(text, cut) {
+    if !suits_packet(text) {
         return false;
     }
-    if is_word(text, cut, 0, b"commitments") {
+    if text.is_word(0, b"commitments") {
         return true;
     }
-    if is_word(text, cut, 0, b"acks") {
+    if text.is_word(0, b"acks") {
         return true;
     }
-    is_word(text, cut, 0, b"receipts")
+    text.is_word(0, b"receipts")
 }
 
 // U, and `upgradedClient` or `upgradedConsState` after the number.
-fn suits_upgrades(text: &[u8], cut: Cut) -> bool
-    requires { (cut ≡ cut_of text.now) × (cut.count ≡ 3) }
-    ensures { result ≡ some_suits (kind18 ∷ kind19 ∷ []) text.now }
+fn suits_upgrades(text: CutText) -> bool
+    requires { text.cut.count ≡ 3 }
+    ensures { result ≡ some_suits (kind18 ∷ kind19 ∷ []) text.entry.text.now }
 {
-    if name_fault(Name::Upgrade, component_at(text, cut, 0)) != 0 {
+    if name_fault(Name::Upgrade, text.component(0)) != 0 {
         return false;
     }
-    if is_word(text, cut, 2, b"upgradedClient") {
+    if text.is_word(2, b"upgradedClient") {
         return true;
     }
-    is_word(text, cut, 2, b"upgradedConsState")
+    text.is_word(2, b"upgradedConsState")
 }
 
 // Why no kind fits the text. The kinds that have a number and as many components as the text have it in one place.
-fn why_not(text: &[u8], cut: Cut) -> Refusal
-    requires { cut ≡ cut_of text.now }
-    ensures { result ≡ why_not text.now }
+fn why_not(text: CutText) -> Refusal
+    ensures { result ≡ why_not text.entry.text.now }
 {
-    let count = cut.count;
+    let count = text.cut.count;
     if count == 3 {
-        if suits_upgrades(text, cut) {
-            return count_fault(text, cut, 1);
+        if suits_upgrades(text) {
+            return count_fault(text, 1);
         }
         return Refusal::NotAPath;
     }
     if count == 4 {
-        if suits_consensus(text, cut) {
-            return pair_fault(text, cut, 3);
+        if suits_consensus(text) {
+            return pair_fault(text, 3);
         }
         return Refusal::NotAPath;
     }
     if count == 5 {
-        if suits_updates(text, cut) {
-            return pair_fault(text, cut, 3);
+        if suits_updates(text) {
+            return pair_fault(text, 3);
         }
         return Refusal::NotAPath;
     }
     if count == 7 {
-        if suits_packets(text, cut) {
-            return count_fault(text, cut, 6);
+        if suits_packets(text) {
+            return count_fault(text, 6);
         }
     }
     Refusal::NotAPath
@@ -172,5 +170,5 @@ fn why_not(text: &[u8], cut: Cut) -> Refusal
 pub fn number_fault(text: &[u8]) -> Refusal
     ensures { result ≡ why_not text.now }
 {
-    why_not(text, cut_text(text))
+    why_not(CutText::new(text))
 }

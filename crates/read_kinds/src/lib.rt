@@ -8,11 +8,11 @@ ghost use Rattle.path.specs.Kinds.{kinds};
 ghost use Rattle.path.specs.Read.{read_first};
 
 use path::Path;
-use read_pieces::cutter::cut_text;
+use read_pieces::cutter::CutText;
 
 // Reads a text as one of the nineteen kinds.
 pub fn parse_path(text: &[u8]) -> Option<Path>
     ensures { result ≡ read_first kinds text.now }
 {
-    kinds::parse_components(text, cut_text(text))
+    kinds::parse_components(CutText::new(text))
 }

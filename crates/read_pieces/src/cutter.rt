@@ -22,43 +22,62 @@ pub fn cut_text(text: &[u8]) -> Cut
     Cut { starts, count }
 }
 
-// The place of component k of a text of at most seven components.
-pub fn place_at(text: &[u8], cut: Cut, k: usize) -> Place
-    requires { (cut ≡ cut_of text.now) × (k < cut.count) × (cut.count < 8) }
-    ensures { result ≡ place_at text.now k }
-{
-    let starts = cut.starts;
-    let count = cut.count;
-    let start = starts[k];
-    if k + 1 < count {
-        let next = starts[k + 1];
-        Place {
-            start,
-            len: next - 1 - start,
-        }
-    } else {
-        Place {
-            start,
-            len: text.len() - start,
+// A text with the places of its components.
+#[derive(Clone, Copy)]
+pub struct CutText<'a> {
+    pub text: &'a [u8],
+    pub cut: Cut,
+    pub ghost is_cut: { cut ≡ cut_of text.now },
+}
+
+impl<'a> CutText<'a> {
+    // Cuts a text.
+    pub fn new(text: &'a [u8]) -> Self
+        ensures { result.text ≡ text.entry }
+    {
+        CutText {
+            text,
+            cut: cut_text(text),
         }
     }
-}
 
-// Component k of a text of at most seven components.
-pub fn component_at(text: &[u8], cut: Cut, k: usize) -> &[u8]
-    requires { (cut ≡ cut_of text.now) × (k < cut.count) × (cut.count < 8) }
-    ensures { Stands result text.entry (place_at text.now k).start (component text.now k) }
-{
-    let p = place_at(text, cut, k);
-    let start = p.start;
-    let end = start + p.len;
-    &text[start..end]
-}
+    // The place of component k of a text of at most seven components.
+    pub fn place(self, k: usize) -> Place
+        requires { (k < self.cut.count) × (self.cut.count < 8) }
+        ensures { result ≡ place_at self.entry.text.now k }
+    {
+        let Cut { starts, count } = self.cut;
+        let start = starts[k];
+        if k + 1 < count {
+            let next = starts[k + 1];
+            Place {
+                start,
+                len: next - 1 - start,
+            }
+        } else {
+            Place {
+                start,
+                len: self.text.len() - start,
+            }
+        }
+    }
 
-// Whether component k is the word w.
-pub fn is_word(text: &[u8], cut: Cut, k: usize, w: &[u8]) -> bool
-    requires { (cut ≡ cut_of text.now) × (k < cut.count) × (cut.count < 8) }
-    ensures { result ≡ same (component text.now k) w.now }
-{
-    text::part::equal(component_at(text, cut, k), w)
+    // Component k of a text of at most seven components.
+    pub fn component(self, k: usize) -> &'a [u8]
+        requires { (k < self.cut.count) × (self.cut.count < 8) }
+        ensures { Stands result self.entry.text (place_at self.entry.text.now k).start (component self.entry.text.now k) }
+    {
+        let p = self.place(k);
+        let start = p.start;
+        let end = start + p.len;
+        &self.text[start..end]
+    }
+
+    // Whether component k is the word w.
+    pub fn is_word(self, k: usize, w: &[u8]) -> bool
+        requires { (k < self.cut.count) × (self.cut.count < 8) }
+        ensures { result ≡ same (component self.entry.text.now k) w.now }
+    {
+        text::part::equal(self.component(k), w)
+    }
 }

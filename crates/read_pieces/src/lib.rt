@@ -5,81 +5,80 @@ pub mod cutter;
 
 ghost use Rattle.std.specs.Prelude.{◌≡◌, ◌+◌, ◌<◌};
 ghost use Rattle.text.specs.Bytes.{bytes};
-ghost use Rattle.path.specs.Cut.{cut_of};
 ghost use Rattle.path.specs.declared.name.Name.TheVariants.{Client as client, Connection as connection, Port as port, Channel as channel};
 ghost use Rattle.read_pieces.specs.Pieces.{place_after, sequence_after, height_at, revision_after, revision_in, first_dash, consensus_in, ends_in, packet_in};
 
-use cutter::{component_at, is_word, place_at};
+use cutter::CutText;
 use path::name::{Name, name_fault};
 use path::{
-    ChannelPlaces, ConsensusPlaces, Cut, PacketPlaces, Place, Revision, RevisionHeight,
-    RevisionNumber, Sequence,
+    ChannelPlaces, ConsensusPlaces, PacketPlaces, Place, Revision, RevisionHeight, RevisionNumber,
+    Sequence,
 };
 
 // The word w at component k, and an identifier after it.
-fn read_name(text: &[u8], cut: Cut, k: usize, w: &[u8], name: Name) -> Option<Place>
-    requires { (cut ≡ cut_of text.now) × (k + 1 < cut.count) × (cut.count < 8) }
-    ensures { result ≡ place_after w.now name text.now k }
+fn read_name(text: CutText, k: usize, w: &[u8], name: Name) -> Option<Place>
+    requires { (k + 1 < text.cut.count) × (text.cut.count < 8) }
+    ensures { result ≡ place_after w.now name text.entry.text.now k }
 {
-    if !is_word(text, cut, k, w) {
+    if !text.is_word(k, w) {
         return None;
     }
-    if name_fault(name, component_at(text, cut, k + 1)) != 0 {
+    if name_fault(name, text.component(k + 1)) != 0 {
         return None;
     }
-    Some(place_at(text, cut, k + 1))
+    Some(text.place(k + 1))
 }
 
 // `clients` at component k, and a client after it.
-pub fn read_client(text: &[u8], cut: Cut, k: usize) -> Option<Place>
-    requires { (cut ≡ cut_of text.now) × (k + 1 < cut.count) × (cut.count < 8) }
-    ensures { result ≡ place_after (bytes "clients") client text.now k }
+pub fn read_client(text: CutText, k: usize) -> Option<Place>
+    requires { (k + 1 < text.cut.count) × (text.cut.count < 8) }
+    ensures { result ≡ place_after (bytes "clients") client text.entry.text.now k }
 {
-    read_name(text, cut, k, b"clients", Name::Client)
+    read_name(text, k, b"clients", Name::Client)
 }
 
 // `connections` at component k, and a connection after it.
-pub fn read_connection(text: &[u8], cut: Cut, k: usize) -> Option<Place>
-    requires { (cut ≡ cut_of text.now) × (k + 1 < cut.count) × (cut.count < 8) }
-    ensures { result ≡ place_after (bytes "connections") connection text.now k }
+pub fn read_connection(text: CutText, k: usize) -> Option<Place>
+    requires { (k + 1 < text.cut.count) × (text.cut.count < 8) }
+    ensures { result ≡ place_after (bytes "connections") connection text.entry.text.now k }
 {
-    read_name(text, cut, k, b"connections", Name::Connection)
+    read_name(text, k, b"connections", Name::Connection)
 }
 
 // `ports` at component k, and a port after it.
-pub fn read_port(text: &[u8], cut: Cut, k: usize) -> Option<Place>
-    requires { (cut ≡ cut_of text.now) × (k + 1 < cut.count) × (cut.count < 8) }
-    ensures { result ≡ place_after (bytes "ports") port text.now k }
+pub fn read_port(text: CutText, k: usize) -> Option<Place>
+    requires { (k + 1 < text.cut.count) × (text.cut.count < 8) }
+    ensures { result ≡ place_after (bytes "ports") port text.entry.text.now k }
 {
-    read_name(text, cut, k, b"ports", Name::Port)
+    read_name(text, k, b"ports", Name::Port)
 }
 
 // `channels` at component k, and a channel after it.
-fn read_channel(text: &[u8], cut: Cut, k: usize) -> Option<Place>
-    requires { (cut ≡ cut_of text.now) × (k + 1 < cut.count) × (cut.count < 8) }
-    ensures { result ≡ place_after (bytes "channels") channel text.now k }
+fn read_channel(text: CutText, k: usize) -> Option<Place>
+    requires { (k + 1 < text.cut.count) × (text.cut.count < 8) }
+    ensures { result ≡ place_after (bytes "channels") channel text.entry.text.now k }
 {
-    read_name(text, cut, k, b"channels", Name::Channel)
+    read_name(text, k, b"channels", Name::Channel)
 }
 
 // `sequences` at component k, and a number after it.
-fn read_sequence(text: &[u8], cut: Cut, k: usize) -> Option<Sequence>
-    requires { (cut ≡ cut_of text.now) × (k + 1 < cut.count) × (cut.count < 8) }
-    ensures { result ≡ sequence_after text.now k }
+fn read_sequence(text: CutText, k: usize) -> Option<Sequence>
+    requires { (k + 1 < text.cut.count) × (text.cut.count < 8) }
+    ensures { result ≡ sequence_after text.entry.text.now k }
 {
-    if !is_word(text, cut, k, b"sequences") {
+    if !text.is_word(k, b"sequences") {
         return None;
     }
-    let n = text::read_number(component_at(text, cut, k + 1)).ok()?;
+    let n = text::read_number(text.component(k + 1)).ok()?;
     Some(Sequence(n))
 }
 
 // A number at component k.
-pub fn read_height(text: &[u8], cut: Cut, k: usize) -> Option<RevisionHeight>
-    requires { (cut ≡ cut_of text.now) × (k < cut.count) × (cut.count < 8) }
-    ensures { result ≡ height_at text.now k }
+pub fn read_height(text: CutText, k: usize) -> Option<RevisionHeight>
+    requires { (k < text.cut.count) × (text.cut.count < 8) }
+    ensures { result ≡ height_at text.entry.text.now k }
 {
-    let n = text::read_number(component_at(text, cut, k)).ok()?;
+    let n = text::read_number(text.component(k)).ok()?;
     Some(RevisionHeight(n))
 }
 
@@ -108,23 +107,23 @@ fn revision_in(s: &[u8]) -> Option<Revision>
 }
 
 // `consensusStates` at component k, and a revision number and height after it.
-fn read_revision(text: &[u8], cut: Cut, k: usize) -> Option<Revision>
-    requires { (cut ≡ cut_of text.now) × (k + 1 < cut.count) × (cut.count < 8) }
-    ensures { result ≡ revision_after text.now k }
+fn read_revision(text: CutText, k: usize) -> Option<Revision>
+    requires { (k + 1 < text.cut.count) × (text.cut.count < 8) }
+    ensures { result ≡ revision_after text.entry.text.now k }
 {
-    if !is_word(text, cut, k, b"consensusStates") {
+    if !text.is_word(k, b"consensusStates") {
         return None;
     }
-    revision_in(component_at(text, cut, k + 1))
+    revision_in(text.component(k + 1))
 }
 
 // `clients/C/consensusStates/R-h` at the start.
-pub fn read_consensus(text: &[u8], cut: Cut) -> Option<ConsensusPlaces>
-    requires { (cut ≡ cut_of text.now) × (3 < cut.count) × (cut.count < 8) }
-    ensures { result ≡ consensus_in text.now }
+pub fn read_consensus(text: CutText) -> Option<ConsensusPlaces>
+    requires { (3 < text.cut.count) × (text.cut.count < 8) }
+    ensures { result ≡ consensus_in text.entry.text.now }
 {
-    let client = read_client(text, cut, 0)?;
-    let revision = read_revision(text, cut, 2)?;
+    let client = read_client(text, 0)?;
+    let revision = read_revision(text, 2)?;
     Some(ConsensusPlaces {
         client,
         number: revision.number,
@@ -133,22 +132,22 @@ pub fn read_consensus(text: &[u8], cut: Cut) -> Option<ConsensusPlaces>
 }
 
 // `ports/P/channels/H` after the first component.
-pub fn read_ends(text: &[u8], cut: Cut) -> Option<ChannelPlaces>
-    requires { (cut ≡ cut_of text.now) × (4 < cut.count) × (cut.count < 8) }
-    ensures { result ≡ ends_in text.now }
+pub fn read_ends(text: CutText) -> Option<ChannelPlaces>
+    requires { (4 < text.cut.count) × (text.cut.count < 8) }
+    ensures { result ≡ ends_in text.entry.text.now }
 {
-    let port = read_port(text, cut, 1)?;
-    let channel = read_channel(text, cut, 3)?;
+    let port = read_port(text, 1)?;
+    let channel = read_channel(text, 3)?;
     Some(ChannelPlaces { port, channel })
 }
 
 // `ports/P/channels/H/sequences/S` after the first component.
-pub fn read_packet(text: &[u8], cut: Cut) -> Option<PacketPlaces>
-    requires { (cut ≡ cut_of text.now) × (6 < cut.count) × (cut.count < 8) }
-    ensures { result ≡ packet_in text.now }
+pub fn read_packet(text: CutText) -> Option<PacketPlaces>
+    requires { (6 < text.cut.count) × (text.cut.count < 8) }
+    ensures { result ≡ packet_in text.entry.text.now }
 {
-    let ends = read_ends(text, cut)?;
-    let sequence = read_sequence(text, cut, 5)?;
+    let ends = read_ends(text)?;
+    let sequence = read_sequence(text, 5)?;
     Some(PacketPlaces {
         port: ends.port,
         channel: ends.channel,

@@ -6,8 +6,8 @@ use Rattle.read_pieces.specs.CutLaws.{component-ends}
 use Rattle.read_faults.proofs.count_fault.Goals as goal
 
 pub fault_at-requires : goal.fault_at-requires
-fault_at-requires c = omega (arith, component-ends _ _ _ _ c.place_at-place.ensures c.component_at.ensures.bytes)
+fault_at-requires c = omega (arith, component-ends _ _ _ _ c.place-place.ensures c.component.ensures.bytes)
 
 pub returns : goal.returns
 unfolding part_faults
-returns c = c.fault_at.ensures ∙ rw (c.component_at.ensures.bytes, c.place_at-place.ensures)
+returns c = c.fault_at.ensures ∙ rw (c.component.ensures.bytes, c.place-place.ensures)

@@ -5,7 +5,7 @@ use Rattle.read_pieces.specs.CutLaws.{component-ends}
 use Rattle.read_faults.proofs.pair_fault.Goals as goal
 
 pub pair_fault_at-requires : goal.pair_fault_at-requires
-pair_fault_at-requires c = omega (arith, component-ends _ _ _ _ c.place_at-place.ensures c.component_at.ensures.bytes)
+pair_fault_at-requires c = omega (arith, component-ends _ _ _ _ c.place-place.ensures c.component.ensures.bytes)
 
 pub returns : goal.returns
-returns c = c.pair_fault_at.ensures ∙ rw (c.component_at.ensures.bytes, c.place_at-place.ensures)
+returns c = c.pair_fault_at.ensures ∙ rw (c.component.ensures.bytes, c.place-place.ensures)

@@ -8,10 +8,10 @@ use Rattle.read_pieces.proofs.read_height.Goals as goal
 pub returns-in_err-n : goal.returns-in_err-n
 unfolding height_at
 returns-in_err-n c =
-    c.from_residual.ensures ∙ rw (number-no _ _ _ c.read_number.ensures c.component_at.ensures.bytes (no_value _ _ c.ok.ensures.value c.in_err-n.was))
+    c.from_residual.ensures ∙ rw (number-no _ _ _ c.read_number.ensures c.component.ensures.bytes (no_value _ _ c.ok.ensures.value c.in_err-n.was))
 
 pub returns : goal.returns
 unfolding height_at
 returns c =
-    let number = number_yes _ _ _ c.read_number.ensures c.component_at.ensures.bytes _ (its_value _ _ c.ok.ensures.value _ c.in_ok-n.was) in
+    let number = number_yes _ _ _ c.read_number.ensures c.component.ensures.bytes _ (its_value _ _ c.ok.ensures.value _ c.in_ok-n.was) in
     rw (number.0, number.1)

@@ -12,11 +12,11 @@ returns-then-not-is_word c = rw (word-unless _ _ _ c.is_word.ensures false (ap n
 
 pub returns-then-name_fault-ne0 : goal.returns-then-name_fault-ne0
 unfolding place_after
-returns-then-name_fault-ne0 c = rw (name-no _ _ _ _ c.name_fault.ensures c.component_at.ensures.bytes c.if-name_fault-ne0.true, and-false)
+returns-then-name_fault-ne0 c = rw (name-no _ _ _ _ c.name_fault.ensures c.component.ensures.bytes c.if-name_fault-ne0.true, and-false)
 
 pub returns : goal.returns
 unfolding place_after
 returns c =
     let word = word-unless _ _ _ c.is_word.ensures true (ap not c.if-not-is_word.false) in
-    let name = name_yes _ _ _ _ c.name_fault.ensures c.component_at.ensures.bytes c.if-name_fault-ne0.false in
-    rw (word, name, c.place_at.ensures)
+    let name = name_yes _ _ _ _ c.name_fault.ensures c.component.ensures.bytes c.if-name_fault-ne0.false in
+    rw (word, name, c.place.ensures)

@@ -15,4 +15,4 @@ pub returns : goal.returns
 unfolding revision_in revision_after
 returns c =
     let word = word-unless _ _ _ c.is_word.ensures true (ap not c.if-not-is_word.false) in
-    c.revision_in.ensures ∙ rw (c.component_at.ensures.bytes, word, and-true)
+    c.revision_in.ensures ∙ rw (c.component.ensures.bytes, word, and-true)

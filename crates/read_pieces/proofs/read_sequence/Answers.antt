@@ -14,11 +14,11 @@ returns-then-not-is_word c = rw (word-unless _ _ _ c.is_word.ensures false (ap n
 pub returns-in_err-n : goal.returns-in_err-n
 unfolding sequence_after
 returns-in_err-n c =
-    c.from_residual.ensures ∙ rw (number-no _ _ _ c.read_number.ensures c.component_at.ensures.bytes (no_value _ _ c.ok.ensures.value c.in_err-n.was), and-false)
+    c.from_residual.ensures ∙ rw (number-no _ _ _ c.read_number.ensures c.component.ensures.bytes (no_value _ _ c.ok.ensures.value c.in_err-n.was), and-false)
 
 pub returns : goal.returns
 unfolding sequence_after
 returns c =
     let word = word-unless _ _ _ c.is_word.ensures true (ap not c.if-not-is_word.false) in
-    let number = number_yes _ _ _ c.read_number.ensures c.component_at.ensures.bytes _ (its_value _ _ c.ok.ensures.value _ c.in_ok-n.was) in
+    let number = number_yes _ _ _ c.read_number.ensures c.component.ensures.bytes _ (its_value _ _ c.ok.ensures.value _ c.in_ok-n.was) in
     rw (word, number.0, number.1)

@@ -1,15 +1,10 @@
 -- `book_clear::role::role_of` meets its contract.
-use Rattle.book_clear.specs.RoleLaws.{role-five, role-six, role-seven, role-none}
+use mathlib.Core.Path.{refl}
+use Rattle.book_clear.specs.QuickLaws.{stem-room, note-five}
 use Rattle.book_clear.proofs.role.role_of.Goals as goal
 
-pub returns-then-kind-eq5 : goal.returns-then-kind-eq5
-returns-then-kind-eq5 c = role-five _ _ c.if-kind-eq5.true
+pub plain_state-requires : goal.plain_state-requires
+plain_state-requires c = stem-room c.args.client.now c.args.key.now c.requires.1
 
-pub returns-then-kind-eq6 : goal.returns-then-kind-eq6
-returns-then-kind-eq6 c = role-six _ _ c.if-kind-eq6.true
-
-pub returns-then-kind-eq7 : goal.returns-then-kind-eq7
-returns-then-kind-eq7 c = role-seven _ _ c.if-kind-eq7.true
-
-pub returns : goal.returns
-returns c = role-none _ _ c.if-kind-eq5.false c.if-kind-eq6.false c.if-kind-eq7.false
+pub returns-in-Some : goal.returns-in-Some
+returns-in-Some c = note-five c.args.client.now c.args.key.now c.requires.2 c.requires.0 c.requires.1 _ refl c.in-Some.state.number.0 c.in-Some.state.height.0 c.in-Some.ensures

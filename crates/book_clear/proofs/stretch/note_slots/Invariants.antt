@@ -4,4 +4,4 @@ use Rattle.book_clear.specs.Notes.{NotedFrom}
 use Rattle.book_clear.proofs.stretch.note_slots.Given as goal
 
 abbrev pub invariant-loop-i : goal.invariant-loop-i
-invariant-loop-i l = (l.stop < l.from → l.i ≡ l.from) × (length l.kinds ≡ 200) × (length l.numbers ≡ 200) × (length l.heights ≡ 200) × NotedFrom l.book l.client l.from l.i l.kinds l.numbers l.heights
+invariant-loop-i l = (l.fn.slots.end < l.fn.slots.start → l.i ≡ l.fn.slots.start) × (length l.roles ≡ 200) × NotedFrom l.book l.client l.fn.slots.start l.i l.roles

@@ -2,12 +2,6 @@ use native.Mathlib.Omega.{arith}
 use Rattle.diagnose.specs.NearestLaws.{placed-at_end, placed-at-stop, placed-at-next}
 use Rattle.diagnose.proofs.nearest.all_placed.Goals as goal
 
-pub piece_at-requires : goal.piece_at-requires
-piece_at-requires c = (c.requires.1, omega (arith, c.seen_of.ensures))
-
-pub piece_at-requires-in-loop-i : goal.piece_at-requires-in-loop-i
-piece_at-requires-in-loop-i c = (c.requires.0, omega (arith, c.seen_of-2.ensures))
-
 pub returns-then-not-word_stands : goal.returns-then-not-word_stands
 returns-then-not-word_stands c =
     placed-at-stop _ _ c.loop-i.i c.loop-i.invariant (omega (arith, c.seen_of.ensures)) (omega (arith, c.seen_of-2.ensures)) _ _ c.piece_at.ensures c.piece_at-in-loop-i.ensures _ c.word_stands.ensures c.if-not-word_stands.true

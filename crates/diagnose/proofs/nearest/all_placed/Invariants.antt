@@ -6,4 +6,4 @@ use Rattle.diagnose.specs.Table.{parts_in}
 use Rattle.diagnose.proofs.nearest.all_placed.Given as goal
 
 abbrev pub invariant-loop-i : goal.invariant-loop-i
-invariant-loop-i l = placed (parts_in l.kind) (seven l.text) ≡ placed (drop l.i (parts_in l.kind)) (drop l.i (seven l.text))
+invariant-loop-i l = placed (parts_in l.kind.text.now) (seven l.text.text.now) ≡ placed (drop l.i (parts_in l.kind.text.now)) (drop l.i (seven l.text.text.now))

@@ -7,4 +7,4 @@ use Rattle.diagnose.specs.Table.{parts_in}
 use Rattle.diagnose.proofs.nearest.front_of.Given as goal
 
 abbrev pub invariant-loop-i : goal.invariant-loop-i
-invariant-loop-i l = front (parts_in l.kind) (seven l.text) ≡ l.i + front (drop l.i (parts_in l.kind)) (drop l.i (seven l.text))
+invariant-loop-i l = front (parts_in l.kind.text.now) (seven l.text.text.now) ≡ l.i + front (drop l.i (parts_in l.kind.text.now)) (drop l.i (seven l.text.text.now))

@@ -9,4 +9,4 @@ use Rattle.diagnose.proofs.nearest.letters_along.Given as goal
 abbrev pub invariant-loop-k : goal.invariant-loop-k
 invariant-loop-k l =
     (l.n ≤ 2) × (l.sum ≤ 256 * l.k)
-    × (along l.times (drop l.at (parts_in l.kind)) (drop l.from (seven l.text)) ≡ l.sum + along l.n (drop (l.at + l.k) (parts_in l.kind)) (drop (l.from + l.k) (seven l.text)))
+    × (along l.times (drop l.at (parts_in l.kind.text.now)) (drop l.from (seven l.text.text.now)) ≡ l.sum + along l.n (drop (l.at + l.k) (parts_in l.kind.text.now)) (drop (l.from + l.k) (seven l.text.text.now)))

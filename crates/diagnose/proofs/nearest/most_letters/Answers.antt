@@ -5,18 +5,12 @@ use Rattle.diagnose.specs.NearestLaws.{letters-none, letters-next, letters-end}
 use Rattle.diagnose.proofs.nearest.most_letters.Goals as goal
 
 pub loop-d-init : goal.loop-d-init
-loop-d-init c = letters-none (parts_in c.args.kind.now) (seven c.args.text.now)
-
-pub letters_along-later-requires : goal.letters_along-later-requires
-letters_along-later-requires c = (c.requires.0, c.requires.1, c.requires.2, omega arith, omega arith, omega arith)
-
-pub letters_along-cut_short-requires : goal.letters_along-cut_short-requires
-letters_along-cut_short-requires c = (c.requires.0, c.requires.1, c.requires.2, omega arith, omega arith, omega arith)
+loop-d-init c = letters-none (parts_in c.args.kind.text.now) (seven c.args.text.text.now)
 
 pub loop-d-preserved : goal.loop-d-preserved
 loop-d-preserved c =
-    letters-next (parts_in c.args.kind.now) (seven c.args.text.now) c.loop-d.d _ _ _ _ _ c.loop-d.invariant c.letters_along-later.ensures c.letters_along-cut_short.ensures c.max.ensures c.max-best.ensures
+    letters-next (parts_in c.args.kind.text.now) (seven c.args.text.text.now) c.loop-d.d _ _ _ _ _ c.loop-d.invariant c.letters_along-later.ensures c.letters_along-cut_short.ensures c.max.ensures c.max-best.ensures
 
 pub returns : goal.returns
 returns c =
-    letters-end (parts_in c.args.kind.now) (seven c.args.text.now) c.loop-d.d _ c.loop-d.invariant (omega arith)
+    letters-end (parts_in c.args.kind.text.now) (seven c.args.text.text.now) c.loop-d.d _ c.loop-d.invariant (omega arith)

@@ -5,4 +5,4 @@ use Rattle.diagnose.specs.Table.{parts_in}
 use Rattle.diagnose.proofs.nearest.most_letters.Given as goal
 
 abbrev pub invariant-loop-d : goal.invariant-loop-d
-invariant-loop-d l = l.best ≡ most (letters_but (parts_in l.kind) (seven l.text)) l.d
+invariant-loop-d l = l.best ≡ most (letters_but (parts_in l.kind.text.now) (seven l.text.text.now)) l.d

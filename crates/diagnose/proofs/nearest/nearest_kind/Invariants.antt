@@ -7,4 +7,4 @@ use Rattle.diagnose.specs.Diagnosis.{nearest_from, nearest, seven, how_many}
 use Rattle.diagnose.proofs.nearest.nearest_kind.Given as goal
 
 abbrev pub invariant-loop-k : goal.invariant-loop-k
-invariant-loop-k l = nearest_from l.k l.kind l.best (how_many l.text) (drop (l.k - 1) kinds) (seven l.text) ≡ nearest (how_many l.text) (seven l.text)
+invariant-loop-k l = nearest_from l.k l.kind l.best (how_many l.text.text.now) (drop (l.k - 1) kinds) (seven l.text.text.now) ≡ nearest (how_many l.text.text.now) (seven l.text.text.now)

@@ -15,7 +15,7 @@ returns-in_err-places c = c.from_residual.ensures ∙ simp (no_run 1 ends_parts 
 pub returns-then-is_word : goal.returns-then-is_word
 unfolding ends_in fits_kind read_kind read_first
 returns-then-is_word c =
-    let n = cut-components c.args.text.now c.args.cut 5 c.requires.0 c.requires.1 (lit< tt) in
+    let n = cut-components _ _ 5 c.args.text.is_cut c.requires (lit< tt) in
     let r = is-run 1 ends_parts _ _ _ (sym c.in_ok-places.was ∙ c.read_ends.ensures) in
     let w1 = word_if _ _ _ c.is_word.ensures true c.if-is_word.true in
     simp (n, r.0, r.1, w1)
@@ -23,7 +23,7 @@ returns-then-is_word c =
 pub returns-then-is_word-2 : goal.returns-then-is_word-2
 unfolding ends_in fits_kind read_kind read_first
 returns-then-is_word-2 c =
-    let n = cut-components c.args.text.now c.args.cut 5 c.requires.0 c.requires.1 (lit< tt) in
+    let n = cut-components _ _ 5 c.args.text.is_cut c.requires (lit< tt) in
     let r = is-run 1 ends_parts _ _ _ (sym c.in_ok-places.was ∙ c.read_ends.ensures) in
     let w1 = word_if _ _ _ c.is_word.ensures false c.if-is_word.false in
     let w2 = word_if _ _ _ c.is_word-2.ensures true c.if-is_word-2.true in
@@ -32,7 +32,7 @@ returns-then-is_word-2 c =
 pub returns-then-is_word-3 : goal.returns-then-is_word-3
 unfolding ends_in fits_kind read_kind read_first
 returns-then-is_word-3 c =
-    let n = cut-components c.args.text.now c.args.cut 5 c.requires.0 c.requires.1 (lit< tt) in
+    let n = cut-components _ _ 5 c.args.text.is_cut c.requires (lit< tt) in
     let r = is-run 1 ends_parts _ _ _ (sym c.in_ok-places.was ∙ c.read_ends.ensures) in
     let w1 = word_if _ _ _ c.is_word.ensures false c.if-is_word.false in
     let w2 = word_if _ _ _ c.is_word-2.ensures false c.if-is_word-2.false in
@@ -42,7 +42,7 @@ returns-then-is_word-3 c =
 pub returns-then-is_word-4 : goal.returns-then-is_word-4
 unfolding ends_in fits_kind read_kind read_first
 returns-then-is_word-4 c =
-    let n = cut-components c.args.text.now c.args.cut 5 c.requires.0 c.requires.1 (lit< tt) in
+    let n = cut-components _ _ 5 c.args.text.is_cut c.requires (lit< tt) in
     let r = is-run 1 ends_parts _ _ _ (sym c.in_ok-places.was ∙ c.read_ends.ensures) in
     let w1 = word_if _ _ _ c.is_word.ensures false c.if-is_word.false in
     let w2 = word_if _ _ _ c.is_word-2.ensures false c.if-is_word-2.false in

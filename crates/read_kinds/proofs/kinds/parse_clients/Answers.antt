@@ -17,7 +17,7 @@ returns-in_err-client c = c.from_residual.ensures ∙ simp (no_run 0 (place_part
 pub returns-then-is_word : goal.returns-then-is_word
 unfolding place_after fits_kind read_kind read_first
 returns-then-is_word c =
-    let n = cut-components c.args.text.now c.args.cut 3 c.requires.0 c.requires.1 (lit< tt) in
+    let n = cut-components _ _ 3 c.args.text.is_cut c.requires (lit< tt) in
     let r = is-run 0 (place_parts (bytes "clients") client) _ _ _ (sym c.in_ok-client.was ∙ c.read_client.ensures) in
     let w1 = word_if _ _ _ c.is_word.ensures true c.if-is_word.true in
     simp (n, r.0, r.1, w1)
@@ -25,7 +25,7 @@ returns-then-is_word c =
 pub returns-then-is_word-2 : goal.returns-then-is_word-2
 unfolding place_after fits_kind read_kind read_first
 returns-then-is_word-2 c =
-    let n = cut-components c.args.text.now c.args.cut 3 c.requires.0 c.requires.1 (lit< tt) in
+    let n = cut-components _ _ 3 c.args.text.is_cut c.requires (lit< tt) in
     let r = is-run 0 (place_parts (bytes "clients") client) _ _ _ (sym c.in_ok-client.was ∙ c.read_client.ensures) in
     let w1 = word_if _ _ _ c.is_word.ensures false c.if-is_word.false in
     let w2 = word_if _ _ _ c.is_word-2.ensures true c.if-is_word-2.true in

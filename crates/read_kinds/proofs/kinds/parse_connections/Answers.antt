@@ -17,6 +17,6 @@ returns-in_err-connection c = c.from_residual.ensures ∙ simp (no_run 0 (place_
 pub returns : goal.returns
 unfolding place_after fits_kind read_kind read_first
 returns c =
-    let n = cut-components c.args.text.now c.args.cut 2 c.requires.0 c.requires.1 (lit< tt) in
+    let n = cut-components _ _ 2 c.args.text.is_cut c.requires (lit< tt) in
     let r = is-run 0 (place_parts (bytes "connections") connection) _ _ _ (sym c.in_ok-connection.was ∙ c.read_connection.ensures) in
     simp (n, r.0, r.1)

@@ -15,6 +15,6 @@ returns-in_err-places c = c.from_residual.ensures ∙ simp (no_run 0 consensus_p
 pub returns : goal.returns
 unfolding consensus_in fits_kind read_kind read_first
 returns c =
-    let n = cut-components c.args.text.now c.args.cut 4 c.requires.0 c.requires.1 (lit< tt) in
+    let n = cut-components _ _ 4 c.args.text.is_cut c.requires (lit< tt) in
     let r = is-run 0 consensus_parts _ _ _ (sym c.in_ok-places.was ∙ c.read_consensus.ensures) in
     simp (n, r.0, r.1)

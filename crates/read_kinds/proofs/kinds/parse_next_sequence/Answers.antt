@@ -9,14 +9,14 @@ use Rattle.read_kinds.proofs.kinds.parse_next_sequence.Goals as goal
 pub returns-then-is_word : goal.returns-then-is_word
 unfolding fits_kind read_kind read_first
 returns-then-is_word c =
-    let n = cut-components c.args.text.now c.args.cut 1 c.requires.0 c.requires.1 (lit< tt) in
+    let n = cut-components _ _ 1 c.args.text.is_cut c.requires (lit< tt) in
     let w1 = word_if _ _ _ c.is_word.ensures true c.if-is_word.true in
     simp (n, w1)
 
 pub returns-then-is_word-2 : goal.returns-then-is_word-2
 unfolding fits_kind read_kind read_first
 returns-then-is_word-2 c =
-    let n = cut-components c.args.text.now c.args.cut 1 c.requires.0 c.requires.1 (lit< tt) in
+    let n = cut-components _ _ 1 c.args.text.is_cut c.requires (lit< tt) in
     let w1 = word_if _ _ _ c.is_word.ensures false c.if-is_word.false in
     let w2 = word_if _ _ _ c.is_word-2.ensures true c.if-is_word-2.true in
     simp (n, w1, w2)
@@ -24,7 +24,7 @@ returns-then-is_word-2 c =
 pub returns-then-is_word-3 : goal.returns-then-is_word-3
 unfolding fits_kind read_kind read_first
 returns-then-is_word-3 c =
-    let n = cut-components c.args.text.now c.args.cut 1 c.requires.0 c.requires.1 (lit< tt) in
+    let n = cut-components _ _ 1 c.args.text.is_cut c.requires (lit< tt) in
     let w1 = word_if _ _ _ c.is_word.ensures false c.if-is_word.false in
     let w2 = word_if _ _ _ c.is_word-2.ensures false c.if-is_word-2.false in
     let w3 = word_if _ _ _ c.is_word-3.ensures true c.if-is_word-3.true in

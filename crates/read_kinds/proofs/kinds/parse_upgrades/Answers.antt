@@ -18,21 +18,21 @@ returns-in_err-height c = c.from_residual.ensures ∙ simp (no_run 1 (count ∷ 
 pub returns-then-is_word : goal.returns-then-is_word
 unfolding height_at fits_kind read_kind read_first
 returns-then-is_word c =
-    let n = cut-components c.args.text.now c.args.cut 3 c.requires.0 c.requires.1 (lit< tt) in
+    let n = cut-components _ _ 3 c.args.text.is_cut c.requires.0 (lit< tt) in
     let r = is-run 1 (count ∷ []) _ _ _ (sym c.in_ok-height.was ∙ c.read_height.ensures) in
-    let u = upgrade-fits c.args.text.now 0 c.requires.2 in
+    let u = upgrade-fits c.args.text.text.now 0 c.requires.1 in
     let w1 = word_if _ _ _ c.is_word.ensures true c.if-is_word.true in
-    simp (n, r.0, r.1, u, c.place_at.ensures, w1)
+    simp (n, r.0, r.1, u, c.place.ensures, w1)
 
 pub returns-then-is_word-2 : goal.returns-then-is_word-2
 unfolding height_at fits_kind read_kind read_first
 returns-then-is_word-2 c =
-    let n = cut-components c.args.text.now c.args.cut 3 c.requires.0 c.requires.1 (lit< tt) in
+    let n = cut-components _ _ 3 c.args.text.is_cut c.requires.0 (lit< tt) in
     let r = is-run 1 (count ∷ []) _ _ _ (sym c.in_ok-height.was ∙ c.read_height.ensures) in
-    let u = upgrade-fits c.args.text.now 0 c.requires.2 in
+    let u = upgrade-fits c.args.text.text.now 0 c.requires.1 in
     let w1 = word_if _ _ _ c.is_word.ensures false c.if-is_word.false in
     let w2 = word_if _ _ _ c.is_word-2.ensures true c.if-is_word-2.true in
-    simp (n, r.0, r.1, u, c.place_at.ensures, w1, w2)
+    simp (n, r.0, r.1, u, c.place.ensures, w1, w2)
 
 pub returns : goal.returns
 unfolding height_at fits_kind read_kind read_first
