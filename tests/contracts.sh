@@ -11,12 +11,13 @@ fail() {
     failed=$((failed + 1))
 }
 
-# What answers a refusal number: a byte, or a type that holds one.
+# What answers a refusal number: a byte, a type that holds one, or a Result whose error is one of these.
 refusing=$(awk '/^pub (struct|enum) / { type = $3 } /^ *(pub refusal: u8|Refused\(u8\)),/ { printf " " type }' crates/*/src/*.rt)
 
 # The public functions of the listed libraries, as crate::module::Type::function, with a star where one has a `requires`, and
 # how many buffers it is lent to write; in a file of their own those without `requires` that are lent one, or answer a refusal
-# number. A bound is a `requires` too: what a generic function answers is its type's to say, and demand 1 is stated of its callers.
+# number. A bound is a `requires` too: what a generic function answers is its type's to say, and demand 1 is stated of its callers,
+# each of which gives it a type.
 : >"$work/all-free"
 sed 's/#.*//' crates.txt | awk -F: 'NF { gsub(/[ \t]/, "", $1); print $1 }' | while read -r crate; do
     [ -f "crates/$crate/src/lib.rt" ] || continue
@@ -39,14 +40,17 @@ sed 's/#.*//' crates.txt | awk -F: 'NF { gsub(/[ \t]/, "", $1); print $1 }' | wh
             inside { head = head " " $0 }
             inside && /^ *[{]$|^ *(pub .*|\).*) [{]$/ {
                 inside = 0
-                asks = head ~ / requires / || head ~ /^ *pub fn [a-z_]+</
+                asks = head ~ / requires / || head ~ /^ *pub fn [a-z_]+<[A-Z][A-Za-z]*: /
                 sub(/ (requires|ensures) .*/, "", head)
                 answer = head
                 if (!sub(/.*\) -> /, "", answer)) answer = ""
+                error = answer
+                if (!sub(/^Result<.*, /, "", error)) error = ""
+                sub(/>.*/, "", error)
                 sub(/ .*/, "", answer)
                 buffers = gsub(/&mut /, "", head)
                 print name, asks ? "*" : "-", buffers
-                if (!asks && (buffers || answers[answer])) print name >>free
+                if (!asks && (buffers || answers[answer] || answers[error])) print name >>free
             }' "$file"
     done
 done | sort >"$work/facts"

@@ -284,12 +284,10 @@ fn apart(s: &[u8], a: usize, b: usize, m: usize) -> usize
     requires { (a + m + 8 ≤ length s.now) × (b + m + 8 ≤ length s.now) }
     ensures { Apart s.now a b m result }
 {
-    let mut i = 0;
-    while i < m {
+    for i in (0..m).step_by(8) {
         if eight(s, a + i) != eight(s, b + i) {
             return i;
         }
-        i += 8;
     }
     m
 }
