@@ -2,7 +2,7 @@
 -- Assumes nothing.
 use Rattle.std.specs.Prelude.{◌≡◌, Bool, cond, ◌&&◌, ℕ, zero, suc, ◌+◌, ◌-◌, ◌≤◌, ◌<◌, List, [], ◌∷◌, ◌++◌, length, take, drop, get_or, eqb, ltb}
 use Rattle.std.proofs.Math.Path.{refl}
-use Rattle.std.proofs.Common.{sym, ap, ◌∙◌, le_refl, arith, length-drop, take-append-drop, take_all, take-take, take-add}
+use Rattle.std.proofs.Common.{sym, ap, ◌∙◌, le_refl, arith, length-drop, take-append-drop, take_all, take-take, take-add, drop-drop}
 use Rattle.std.proofs.Math.Bool.{true, false, and-true, and-false, and_assoc}
 use Rattle.std.proofs.Math.Numerals.{add-one}
 use Rattle.std.proofs.Math.ListN.{drop_of_length-le}
@@ -94,11 +94,28 @@ module _ (f : ℕ → Bool) (s : List ℕ) (i n : ℕ) where
   pub run_more : every f (take i s) ≡ true → every f (take n (drop i s)) ≡ true → every f (take (i + n) s) ≡ true
   run_more h k = rw (take-add i n s, every_append f (take i s) (take n (drop i s)), h, k)
 
+  pub run-stop : every f (take n (drop i s)) ≡ false → every f s ≡ false
+  run-stop h =
+      let rest : every f (drop i s) ≡ false = every_split f (drop i s) n ∙ rw h in
+      every_split f s i ∙ rw rest (and-false (every f (take i s)))
+
 -- the n bytes from i on are the last of the text, and those before j passed
 pub run-last : (f : ℕ → Bool) (s : List ℕ) (i n j : ℕ) → i + n ≡ length s → i ≤ j → every f (take j s) ≡ true → every f s ≡ every f (take n (drop i s))
 run-last f s i n j e h k =
     let front : every f (take i s) ≡ true = rw (take-take i j s h) at (and_left (every f (take i (take j s))) _ (sym (every_split f (take j s) i) ∙ k)) in
     every_split f s i ∙ rw (front, take_all n (drop i s) (rw length-drop (omega arith)))
+
+-- of n and m more bytes each passes where it does in both parts
+pub run-two : (f : ℕ → Bool) (s : List ℕ) (i n m : ℕ) → (every f (take n (drop i s)) && every f (take m (drop (i + n) s))) ≡ every f (take (n + m) (drop i s))
+run-two f s i n m = rw (take-add n m (drop i s), every_append f (take n (drop i s)) (take m (drop n (drop i s))), drop-drop)
+
+-- a text of n to 2 n bytes is its first n and its last n
+pub run-ends : (f : ℕ → Bool) (s : List ℕ) (n : ℕ) → n ≤ length s → length s ≤ n + n → (every f (take n s) && every f (take n (drop (length s - n) s))) ≡ every f s
+run-ends f s n l m = go (every f (take n s)) refl
+  where
+    go : (v : Bool) → every f (take n s) ≡ v → (v && every f (take n (drop (length s - n) s))) ≡ every f s
+    go true e = sym (run-last f s (length s - n) n n (omega arith) (omega arith) e)
+    go false e = sym (run-stop f s 0 n e)
 
 -- ---- a text that is shorter than w does not start with w
 pub starts-short : (w s : List ℕ) → length s < length w → starts_with w s ≡ false

@@ -1,7 +1,7 @@
 -- Laws of `Put`.
 -- Assumes nothing.
-use Rattle.std.specs.Prelude.{◌≡◌, refl, Bool, true, false, cond, ℕ, ◌+◌, ◌≤◌, ◌<◌, List, [], ◌∷◌, ◌++◌, leb, length, take, drop, set}
-use Rattle.std.proofs.Common.{sym, ap, ◌∙◌, add_assoc, add-zero, zero-add, add-one, arith, append_assoc, length-append, length-take, length-drop, take-append-drop, take_at, drop-drop, length-take-le, le-leb, leb-true}
+use Rattle.std.specs.Prelude.{◌≡◌, refl, Bool, true, false, cond, ℕ, suc, ◌+◌, ◌≤◌, ◌<◌, List, [], ◌∷◌, ◌++◌, leb, length, take, drop, get_or, set}
+use Rattle.std.proofs.Common.{sym, ap, ◌∙◌, add_assoc, add-zero, zero-add, add-suc, add-one, arith, append_assoc, length-append, length-take, length-drop, take-append-drop, drop_of_length-le, drop-cons, take_at, drop-drop, length-take-le, take-suc-set, drop-set-lt, le-leb, leb-true}
 use Rattle.std.proofs.Math.Seq.{drop-append-add}
 use Rattle.std.proofs.lemmas.List.{set_split}
 use Rattle.std.proofs.lemmas.Bool.{lt-leb}
@@ -66,6 +66,18 @@ pub both : {out o o' a b : List ℕ} {at p q : ℕ} → Wrote out at a p o → W
 both {out} {o} {o'} {a} {b} {at} {p} {q} x y =
     let l : length o ≡ length out = ap length x.after ∙ length-put out at a x.room in
     record { next = rw length-append (omega (arith, x.next, y.next)); after = put_then out at a b o o' p x.after x.next x.room y.after; room = rw length-append (omega (arith, x.next, y.room)) }
+
+-- `out` up to place p, then what is to be written, then `out` from place e on: one byte of it stored
+pub store-more : (out : List ℕ) (p e b : ℕ) (rest : List ℕ) → p < length out → p < e → take p out ++ (b ∷ (rest ++ drop e out)) ≡ take (suc p) (set out p b) ++ (rest ++ drop e (set out p b))
+store-more out p e b rest l q = rw (take-suc-set out p b l, append_assoc, drop-set-lt e out p b q)
+
+-- the same where `src` from i on is to be written from place at + i on: one turn of a copying loop
+module _ (out src : List ℕ) (at i e : ℕ) where
+  pub copy-none : length src ≤ i → at + i ≡ e → take (at + i) out ++ (drop i src ++ drop e out) ≡ out
+  copy-none h q = rw (drop_of_length-le src h, q) (take-append-drop e out)
+
+  pub copy_more : i < length src → at + i < length out → at + i < e → take (at + i) out ++ (drop i src ++ drop e out) ≡ take (at + (i + 1)) (set out (at + i) (get_or src i 0)) ++ (drop (i + 1) src ++ drop e (set out (at + i) (get_or src i 0)))
+  copy_more h l q = rw (drop-cons src i 0 h, add-one, add-suc) (store-more out (at + i) e (get_or src i 0) (drop (suc i) src) l q)
 
 -- a refusal
 pub answer-refused : (n room : ℕ) → answer (refused n) room ≡ refusal n

@@ -21,9 +21,10 @@ pub fn write_text(out: &mut [u8], at: usize, src: &[u8]) -> usize
     ensures value { result ≡ at + length src.now }
     ensures out_after { out.new ≡ put out.old at src.now }
 {
-    let end = at + src.len();
-    out[at..end].copy_from_slice(src);
-    end
+    for i in 0..src.len() {
+        out[at + i] = src[i];
+    }
+    at + src.len()
 }
 
 // Writes `src` from byte 0 on, or refuses where `out` has too little room.

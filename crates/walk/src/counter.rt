@@ -8,6 +8,7 @@ use walk_families::bare;
 use walk_words::{is_next_channel_sequence, is_next_client_sequence, is_next_connection_sequence};
 
 // Kinds 1 to 3.
+#[inline(always)]
 pub(crate) fn counter(text: &[u8]) -> Option<PathView>
     ensures { result ≡ flat text.now (read_first counters text.now) }
 {
