@@ -32,7 +32,9 @@ fn parse_clients(text: CutText) -> Option<Path>
     requires { text.cut.count ≡ 3 }
     ensures { result ≡ read_first (kind4 ∷ kind8 ∷ []) text.entry.text.now }
 {
-    let client = read_client(text, 0)?;
+    let Some(client) = read_client(text, 0) else {
+        return None;
+    };
     if text.is_word(2, b"clientState") {
         return Some(Path::ClientState(ClientPlaces { client }));
     }
@@ -47,7 +49,9 @@ fn parse_consensus_states(text: CutText) -> Option<Path>
     requires { text.cut.count ≡ 4 }
     ensures { result ≡ read_first (kind5 ∷ []) text.entry.text.now }
 {
-    let places = read_consensus(text)?;
+    let Some(places) = read_consensus(text) else {
+        return None;
+    };
     Some(Path::ClientConsensusState(places))
 }
 
@@ -56,7 +60,9 @@ fn parse_updates(text: CutText) -> Option<Path>
     requires { text.cut.count ≡ 5 }
     ensures { result ≡ read_first (kind6 ∷ kind7 ∷ []) text.entry.text.now }
 {
-    let places = read_consensus(text)?;
+    let Some(places) = read_consensus(text) else {
+        return None;
+    };
     if text.is_word(4, b"processedTime") {
         return Some(Path::ClientUpdateTime(places));
     }
@@ -71,7 +77,9 @@ fn parse_connections(text: CutText) -> Option<Path>
     requires { text.cut.count ≡ 2 }
     ensures { result ≡ read_first (kind9 ∷ []) text.entry.text.now }
 {
-    let connection = read_connection(text, 0)?;
+    let Some(connection) = read_connection(text, 0) else {
+        return None;
+    };
     Some(Path::Connection(ConnectionPlaces { connection }))
 }
 
@@ -80,7 +88,9 @@ fn parse_ports(text: CutText) -> Option<Path>
     requires { text.cut.count ≡ 2 }
     ensures { result ≡ read_first (kind10 ∷ []) text.entry.text.now }
 {
-    let port = read_port(text, 0)?;
+    let Some(port) = read_port(text, 0) else {
+        return None;
+    };
     Some(Path::Ports(PortPlaces { port }))
 }
 
@@ -89,7 +99,9 @@ fn parse_channel_ends(text: CutText) -> Option<Path>
     requires { text.cut.count ≡ 5 }
     ensures { result ≡ read_first (kind11 ∷ kind12 ∷ kind13 ∷ kind14 ∷ []) text.entry.text.now }
 {
-    let places = read_ends(text)?;
+    let Some(places) = read_ends(text) else {
+        return None;
+    };
     if text.is_word(0, b"channelEnds") {
         return Some(Path::ChannelEnd(places));
     }
@@ -110,7 +122,9 @@ fn parse_packets(text: CutText) -> Option<Path>
     requires { text.cut.count ≡ 7 }
     ensures { result ≡ read_first (kind15 ∷ kind16 ∷ kind17 ∷ []) text.entry.text.now }
 {
-    let places = read_packet(text)?;
+    let Some(places) = read_packet(text) else {
+        return None;
+    };
     if text.is_word(0, b"commitments") {
         return Some(Path::Commitment(places));
     }
@@ -128,7 +142,9 @@ fn parse_upgrades(text: CutText) -> Option<Path>
     requires { (text.cut.count ≡ 3) × (ascii text.text.now ≡ true) }
     ensures { result ≡ read_first (kind18 ∷ kind19 ∷ []) text.entry.text.now }
 {
-    let height = read_height(text, 1)?;
+    let Some(height) = read_height(text, 1) else {
+        return None;
+    };
     let places = UpgradePlaces {
         upgrade: text.place(0),
         height,

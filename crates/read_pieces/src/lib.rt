@@ -69,7 +69,9 @@ fn read_sequence(text: CutText, k: usize) -> Option<Sequence>
     if !text.is_word(k, b"sequences") {
         return None;
     }
-    let n = text::read_number(text.component(k + 1)).ok()?;
+    let Ok(n) = text::read_number(text.component(k + 1)) else {
+        return None;
+    };
     Some(Sequence(n))
 }
 
@@ -78,7 +80,9 @@ pub fn read_height(text: CutText, k: usize) -> Option<RevisionHeight>
     requires { (k < text.cut.count) × (text.cut.count < 8) }
     ensures { result ≡ height_at text.entry.text.now k }
 {
-    let n = text::read_number(text.component(k)).ok()?;
+    let Ok(n) = text::read_number(text.component(k)) else {
+        return None;
+    };
     Some(RevisionHeight(n))
 }
 
@@ -97,9 +101,13 @@ fn revision_in(s: &[u8]) -> Option<Revision>
     if dash == s.len() {
         return None;
     }
-    let number = text::read_number(&s[..dash]).ok()?;
+    let Ok(number) = text::read_number(&s[..dash]) else {
+        return None;
+    };
     let after = dash + 1;
-    let height = text::read_number(&s[after..]).ok()?;
+    let Ok(height) = text::read_number(&s[after..]) else {
+        return None;
+    };
     Some(Revision {
         number: RevisionNumber(number),
         height: RevisionHeight(height),
@@ -122,8 +130,12 @@ pub fn read_consensus(text: CutText) -> Option<ConsensusPlaces>
     requires { (3 < text.cut.count) × (text.cut.count < 8) }
     ensures { result ≡ consensus_in text.entry.text.now }
 {
-    let client = read_client(text, 0)?;
-    let revision = read_revision(text, 2)?;
+    let Some(client) = read_client(text, 0) else {
+        return None;
+    };
+    let Some(revision) = read_revision(text, 2) else {
+        return None;
+    };
     Some(ConsensusPlaces {
         client,
         number: revision.number,
@@ -136,8 +148,12 @@ pub fn read_ends(text: CutText) -> Option<ChannelPlaces>
     requires { (4 < text.cut.count) × (text.cut.count < 8) }
     ensures { result ≡ ends_in text.entry.text.now }
 {
-    let port = read_port(text, 1)?;
-    let channel = read_channel(text, 3)?;
+    let Some(port) = read_port(text, 1) else {
+        return None;
+    };
+    let Some(channel) = read_channel(text, 3) else {
+        return None;
+    };
     Some(ChannelPlaces { port, channel })
 }
 
@@ -146,8 +162,12 @@ pub fn read_packet(text: CutText) -> Option<PacketPlaces>
     requires { (6 < text.cut.count) × (text.cut.count < 8) }
     ensures { result ≡ packet_in text.entry.text.now }
 {
-    let ends = read_ends(text)?;
-    let sequence = read_sequence(text, 5)?;
+    let Some(ends) = read_ends(text) else {
+        return None;
+    };
+    let Some(sequence) = read_sequence(text, 5) else {
+        return None;
+    };
     Some(PacketPlaces {
         port: ends.port,
         channel: ends.channel,

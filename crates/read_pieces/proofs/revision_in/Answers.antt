@@ -1,7 +1,6 @@
 -- `read_pieces::revision_in` meets its contract.
 use Rattle.read_pieces.specs.PairLaws.{dash-inside, revision-none, revision-no_number, revision-no-height, revision-some}
-use Rattle.read_pieces.proofs.Steps.{no_value, its_value}
-use mathlib.Core.Path.{◌∙◌}
+use Rattle.read_pieces.proofs.Steps.{no_value}
 use native.Mathlib.Omega.{arith}
 use Rattle.std.proofs.Common.{length-take}
 use Rattle.read_pieces.proofs.revision_in.Goals as goal
@@ -12,9 +11,8 @@ returns-then-dash-s c = revision-none _ _ c.first_dash-dash.ensures c.if-dash-s.
 pub slice_bounds-read_number-end : goal.slice_bounds-read_number-end
 slice_bounds-read_number-end c = omega (arith, length-take c.first_dash-dash.result c.args.s.now, dash-inside _ _ c.first_dash-dash.ensures c.if-dash-s.false)
 
-pub returns-in_err-number : goal.returns-in_err-number
-returns-in_err-number c =
-    c.from_residual.ensures ∙ revision-no_number _ _ c.first_dash-dash.ensures c.if-dash-s.false _ c.read_number.ensures (no_value _ _ c.ok.ensures.value c.in_err-number.was)
+pub returns-in_default : goal.returns-in_default
+returns-in_default c = revision-no_number _ _ c.first_dash-dash.ensures c.if-dash-s.false _ c.read_number.ensures (no_value c.read_number.result c.in_default.not-Ok)
 
 pub overflow_add-after : goal.overflow_add-after
 overflow_add-after c = omega (arith, dash-inside _ _ c.first_dash-dash.ensures c.if-dash-s.false)
@@ -25,9 +23,8 @@ slice_bounds-read_number-count c = omega (arith, dash-inside _ _ c.first_dash-da
 pub slice_bounds-read_number-start : goal.slice_bounds-read_number-start
 slice_bounds-read_number-start c = omega (arith, dash-inside _ _ c.first_dash-dash.ensures c.if-dash-s.false)
 
-pub returns-in_err-height : goal.returns-in_err-height
-returns-in_err-height c =
-    c.from_residual-in_err-height.ensures ∙ revision-no-height _ _ c.first_dash-dash.ensures c.if-dash-s.false _ c.read_number.ensures _ c.read_number-2.ensures (no_value _ _ c.ok-2.ensures.value c.in_err-height.was)
+pub returns-in_default-read_number : goal.returns-in_default-read_number
+returns-in_default-read_number c = revision-no-height _ _ c.first_dash-dash.ensures c.if-dash-s.false _ c.read_number.ensures _ c.read_number-2.ensures (no_value c.read_number-2.result c.in_default-read_number.not-Ok)
 
 pub returns : goal.returns
-returns c = revision-some _ _ c.first_dash-dash.ensures c.if-dash-s.false _ c.read_number.ensures _ c.read_number-2.ensures _ _ (its_value _ _ c.ok.ensures.value _ c.in_ok-number.was) (its_value _ _ c.ok-2.ensures.value _ c.in_ok-height.was)
+returns c = revision-some _ _ c.first_dash-dash.ensures c.if-dash-s.false _ c.read_number.ensures _ c.read_number-2.ensures _ _ c.in-Ok.is c.in-Ok-read_number.is

@@ -10,15 +10,15 @@ use Rattle.read_pieces.specs.Pieces.{place_after, place_parts}
 use Rattle.read_pieces.specs.FitLaws.{no_run, is-run, word_if}
 use Rattle.read_kinds.proofs.kinds.parse_clients.Goals as goal
 
-pub returns-in_err-client : goal.returns-in_err-client
+pub returns-in_default : goal.returns-in_default
 unfolding place_after fits_kind read_kind read_first
-returns-in_err-client c = c.from_residual.ensures ∙ simp (no_run 0 (place_parts (bytes "clients") client) _ _ (sym c.in_err-client.was ∙ c.read_client.ensures), and-false)
+returns-in_default c = simp (no_run 0 (place_parts (bytes "clients") client) _ _ (sym c.in_default.is ∙ c.read_client.ensures), and-false)
 
 pub returns-then-is_word : goal.returns-then-is_word
 unfolding place_after fits_kind read_kind read_first
 returns-then-is_word c =
     let n = cut-components _ _ 3 c.args.text.is_cut c.requires (lit< tt) in
-    let r = is-run 0 (place_parts (bytes "clients") client) _ _ _ (sym c.in_ok-client.was ∙ c.read_client.ensures) in
+    let r = is-run 0 (place_parts (bytes "clients") client) _ _ _ (sym c.in-Some.is ∙ c.read_client.ensures) in
     let w1 = word_if _ _ _ c.is_word.ensures true c.if-is_word.true in
     simp (n, r.0, r.1, w1)
 
@@ -26,7 +26,7 @@ pub returns-then-is_word-2 : goal.returns-then-is_word-2
 unfolding place_after fits_kind read_kind read_first
 returns-then-is_word-2 c =
     let n = cut-components _ _ 3 c.args.text.is_cut c.requires (lit< tt) in
-    let r = is-run 0 (place_parts (bytes "clients") client) _ _ _ (sym c.in_ok-client.was ∙ c.read_client.ensures) in
+    let r = is-run 0 (place_parts (bytes "clients") client) _ _ _ (sym c.in-Some.is ∙ c.read_client.ensures) in
     let w1 = word_if _ _ _ c.is_word.ensures false c.if-is_word.false in
     let w2 = word_if _ _ _ c.is_word-2.ensures true c.if-is_word-2.true in
     simp (n, r.0, r.1, w1, w2)

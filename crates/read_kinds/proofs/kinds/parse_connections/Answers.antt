@@ -10,13 +10,13 @@ use Rattle.read_pieces.specs.Pieces.{place_after, place_parts}
 use Rattle.read_pieces.specs.FitLaws.{no_run, is-run}
 use Rattle.read_kinds.proofs.kinds.parse_connections.Goals as goal
 
-pub returns-in_err-connection : goal.returns-in_err-connection
+pub returns-in_default : goal.returns-in_default
 unfolding place_after fits_kind read_kind read_first
-returns-in_err-connection c = c.from_residual.ensures ∙ simp (no_run 0 (place_parts (bytes "connections") connection) _ _ (sym c.in_err-connection.was ∙ c.read_connection.ensures), and-false)
+returns-in_default c = simp (no_run 0 (place_parts (bytes "connections") connection) _ _ (sym c.in_default.is ∙ c.read_connection.ensures), and-false)
 
 pub returns : goal.returns
 unfolding place_after fits_kind read_kind read_first
 returns c =
     let n = cut-components _ _ 2 c.args.text.is_cut c.requires (lit< tt) in
-    let r = is-run 0 (place_parts (bytes "connections") connection) _ _ _ (sym c.in_ok-connection.was ∙ c.read_connection.ensures) in
+    let r = is-run 0 (place_parts (bytes "connections") connection) _ _ _ (sym c.in-Some.is ∙ c.read_connection.ensures) in
     simp (n, r.0, r.1)

@@ -8,13 +8,13 @@ use Rattle.read_pieces.specs.Pieces.{consensus_in, consensus_parts}
 use Rattle.read_pieces.specs.FitLaws.{no_run, is-run}
 use Rattle.read_kinds.proofs.kinds.parse_consensus_states.Goals as goal
 
-pub returns-in_err-places : goal.returns-in_err-places
+pub returns-in_default : goal.returns-in_default
 unfolding consensus_in fits_kind read_kind read_first
-returns-in_err-places c = c.from_residual.ensures ∙ simp (no_run 0 consensus_parts _ _ (sym c.in_err-places.was ∙ c.read_consensus.ensures), and-false)
+returns-in_default c = simp (no_run 0 consensus_parts _ _ (sym c.in_default.is ∙ c.read_consensus.ensures), and-false)
 
 pub returns : goal.returns
 unfolding consensus_in fits_kind read_kind read_first
 returns c =
     let n = cut-components _ _ 4 c.args.text.is_cut c.requires (lit< tt) in
-    let r = is-run 0 consensus_parts _ _ _ (sym c.in_ok-places.was ∙ c.read_consensus.ensures) in
+    let r = is-run 0 consensus_parts _ _ _ (sym c.in-Some.is ∙ c.read_consensus.ensures) in
     simp (n, r.0, r.1)

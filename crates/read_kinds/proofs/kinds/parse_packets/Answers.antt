@@ -8,15 +8,15 @@ use Rattle.read_pieces.specs.Pieces.{packet_in, packet_parts}
 use Rattle.read_pieces.specs.FitLaws.{no_run, is-run, word_if}
 use Rattle.read_kinds.proofs.kinds.parse_packets.Goals as goal
 
-pub returns-in_err-places : goal.returns-in_err-places
+pub returns-in_default : goal.returns-in_default
 unfolding packet_in fits_kind read_kind read_first
-returns-in_err-places c = c.from_residual.ensures ∙ simp (no_run 1 packet_parts _ _ (sym c.in_err-places.was ∙ c.read_packet.ensures), and-false)
+returns-in_default c = simp (no_run 1 packet_parts _ _ (sym c.in_default.is ∙ c.read_packet.ensures), and-false)
 
 pub returns-then-is_word : goal.returns-then-is_word
 unfolding packet_in fits_kind read_kind read_first
 returns-then-is_word c =
     let n = cut-components _ _ 7 c.args.text.is_cut c.requires (lit< tt) in
-    let r = is-run 1 packet_parts _ _ _ (sym c.in_ok-places.was ∙ c.read_packet.ensures) in
+    let r = is-run 1 packet_parts _ _ _ (sym c.in-Some.is ∙ c.read_packet.ensures) in
     let w1 = word_if _ _ _ c.is_word.ensures true c.if-is_word.true in
     simp (n, r.0, r.1, w1)
 
@@ -24,7 +24,7 @@ pub returns-then-is_word-2 : goal.returns-then-is_word-2
 unfolding packet_in fits_kind read_kind read_first
 returns-then-is_word-2 c =
     let n = cut-components _ _ 7 c.args.text.is_cut c.requires (lit< tt) in
-    let r = is-run 1 packet_parts _ _ _ (sym c.in_ok-places.was ∙ c.read_packet.ensures) in
+    let r = is-run 1 packet_parts _ _ _ (sym c.in-Some.is ∙ c.read_packet.ensures) in
     let w1 = word_if _ _ _ c.is_word.ensures false c.if-is_word.false in
     let w2 = word_if _ _ _ c.is_word-2.ensures true c.if-is_word-2.true in
     simp (n, r.0, r.1, w1, w2)
@@ -33,7 +33,7 @@ pub returns-then-is_word-3 : goal.returns-then-is_word-3
 unfolding packet_in fits_kind read_kind read_first
 returns-then-is_word-3 c =
     let n = cut-components _ _ 7 c.args.text.is_cut c.requires (lit< tt) in
-    let r = is-run 1 packet_parts _ _ _ (sym c.in_ok-places.was ∙ c.read_packet.ensures) in
+    let r = is-run 1 packet_parts _ _ _ (sym c.in-Some.is ∙ c.read_packet.ensures) in
     let w1 = word_if _ _ _ c.is_word.ensures false c.if-is_word.false in
     let w2 = word_if _ _ _ c.is_word-2.ensures false c.if-is_word-2.false in
     let w3 = word_if _ _ _ c.is_word-3.ensures true c.if-is_word-3.true in
