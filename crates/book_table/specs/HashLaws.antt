@@ -1,10 +1,15 @@
--- Laws of the hash: one byte more.
+-- Laws of the hash: one byte joined, and one byte more.
 -- Assumes nothing.
-use Rattle.std.specs.Prelude.{◌≡◌, ℕ, ◌+◌, ◌<◌, ◌≤◌, List, ◌∷◌, length, drop, slice_index}
+use Rattle.std.specs.Prelude.{◌≡◌, ℕ, ◌+◌, ◌*◌, ◌%◌, ◌^◌, ◌<◌, ◌≤◌, List, ◌∷◌, length, drop, bit_xor, slice_index}
 use Rattle.std.proofs.Math.Path.{sym}
 use Rattle.std.proofs.Common.{ap, ◌∙◌, drop_of_length-le, drop-cons}
 use Rattle.std.proofs.Math.Numerals.{add-one}
-use Rattle.book_table.specs.Hash.{offset, joined, fnv_from, fnv}
+use Rattle.book_table.specs.Hash.{prime, offset, joined, fnv_from, fnv}
+
+-- the product of what a byte is joined to by xor
+pub joined_is : (h b w r : ℕ) → w ≡ b → r ≡ (bit_xor h w * prime) % 2 ^ 64 → r ≡ joined h b
+unfolding joined
+joined_is h b w r e er = er ∙ ap (λ (x : ℕ). (bit_xor h x * prime) % 2 ^ 64) e
 
 -- the first byte is joined to the offset
 pub fnv-start : (b h : ℕ) (s : List ℕ) → h ≡ joined offset b → fnv (b ∷ s) ≡ fnv_from h (drop 0 s)
