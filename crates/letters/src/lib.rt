@@ -53,6 +53,7 @@ fn goes_on(s: &[u8], at: usize, n: usize, least: u32, first: u32) -> Character
 }
 
 // The character that begins at a place of the text; none begins at its end or past it.
+#[inline(always)]
 pub fn character_at(s: &[u8], at: usize) -> Character
     ensures { result ≡ character_of (drop at s.now) }
 {
