@@ -7,9 +7,9 @@ use path::PathView;
 use walk_families::bare;
 use walk_words::{is_next_channel_sequence, is_next_client_sequence, is_next_connection_sequence};
 
-// Kinds 1 to 3.
+// Kinds 1 to 3, told where they are asked for: of a call the view would go through memory.
 #[inline(always)]
-pub(crate) fn counter(text: &[u8]) -> Option<PathView>
+pub(crate) fn counter_here(text: &[u8]) -> Option<PathView>
     ensures { result ≡ flat text.now (read_first counters text.now) }
 {
     match text.len() {
@@ -18,4 +18,12 @@ pub(crate) fn counter(text: &[u8]) -> Option<PathView>
         19 => is_next_channel_sequence(text, 0).then_some(bare(3, 0, 0)),
         _ => None,
     }
+}
+
+// The same by a call, for what hands its view on.
+#[inline(never)]
+pub(crate) fn counter(text: &[u8]) -> Option<PathView>
+    ensures { result ≡ flat text.now (read_first counters text.now) }
+{
+    counter_here(text)
 }

@@ -14,7 +14,7 @@ ghost use Rattle.walk_families.specs.Flat.{flat, listed, upgrades};
 ghost use Rattle.reading.specs.Encode.{view_bytes};
 ghost use Rattle.walk.specs.Bytes.{put_fault};
 
-use crate::counter::counter;
+use crate::counter::{counter, counter_here};
 use path::typed::typed_path;
 use path::{PathView, ReadPath, Reading, Refusal};
 use reading::encode::write_view;
@@ -86,7 +86,7 @@ pub fn write_walk(text: &[u8], out: &mut [u8]) -> Fault
     if 4096 < text.len() {
         return path::fault_of(Refusal::TooLong);
     }
-    if let Some(c) = counter(text) {
+    if let Some(c) = counter_here(text) {
         return put_walk(c, out);
     }
     let Some(w) = walk_rest(text) else {

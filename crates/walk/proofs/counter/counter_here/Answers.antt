@@ -1,8 +1,8 @@
--- `counter` meets its contract.
+-- `counter_here` meets its contract.
 use Rattle.walk.specs.ArmLaws.{counts_1, counts_2, counts_3, no-counter}
 use mathlib.Core.Path.{refl}
 use native.Mathlib.Omega.{arith}
-use Rattle.walk.proofs.counter.counter.Goals as goal
+use Rattle.walk.proofs.counter.counter_here.Goals as goal
 
 pub returns-in-18 : goal.returns-in-18
 returns-in-18 c = counts_1 c.args.text.now _ c.in-18.is _ c.is_next_client_sequence.ensures _ c.bare.ensures c.then_some.ensures
